@@ -1,0 +1,31 @@
+-- Signed numbers as the machine has them. A signed local holds bits, so what the code computes with is `toZ w (ofZ w z)`, which is z where z fits.
+use mathlib.Core.Path.{_≡_, refl, sym, ap, ap₂, subst, _∙_}
+use mathlib.Core.Bool.{Bool, true, false}
+use Prim.Native.Nat.{ℕ, suc, _+_, _^_, _≤_, _<_}
+use native.Mathlib.Omega.{arith}
+use lib.IntN.{ℤ, pos, negsuc, natAbs, _+ℤ_, negℤ}
+use lib.Dec.{T}
+use lib.Signed.{ltZ, nonNeg, mag}
+use mir.Syntax.{Width, w32, w64}
+use mir.Val.{toZ, ofZ, SFits, Fits, hbits}
+use mir.Facts.{toZ-ofZ, sfits-widen}
+use borrow.Author.Needs.{sfits-of}
+
+-- what the machine reads back of a number that is z
+pub as-is : {w : Width} {x z : ℤ} → x ≡ z → SFits w z → toZ w (ofZ w x) ≡ z
+as-is {w} e f = ap (λ (y : ℤ). toZ w (ofZ w y)) e ∙ toZ-ofZ f
+
+-- the same, where what is known are the bounds of an element or of a result
+pub back : (w : Width) (z : ℤ) → mag z < 2 ^ hbits w → toZ w (ofZ w z) ≡ z
+back w z h = toZ-ofZ (sfits-of h)
+
+-- an i32 cast to i64
+pub widened : {z : ℤ} → SFits w32 z → toZ w64 (ofZ w64 (toZ w32 (ofZ w32 z))) ≡ z
+widened f = as-is (toZ-ofZ f) (sfits-widen tt f)
+
+pub widens : {z : ℤ} → SFits w32 z → SFits w64 (toZ w32 (ofZ w32 z))
+widens {z} f = rw (toZ-ofZ f) (sfits-widen tt f)
+
+-- what a cast of a signed number that is n to an unsigned type asks
+pub cast-asks : {w : Width} {z : ℤ} {n : ℕ} → z ≡ pos n → Fits w n → T (nonNeg z) × Fits w (natAbs z)
+cast-asks {z = z} e f = rw e (tt, f)

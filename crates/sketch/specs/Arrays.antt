@@ -1,0 +1,24 @@
+-- An array's own stretch of the counts or of the idsums.
+use mathlib.Core.Bool.{not, _&&_}
+use mathlib.Core.List.{List, []}
+use Prim.Native.Nat.{ℕ, _-_, _*_}
+use lib.Dec.{leb, eqb}
+use lib.ListN.{length, take, drop}
+use Rattle.sketch.specs.declared.params.Params.{Params}
+use Rattle.sketch.specs.declared.answers.Why.the-variants.{Param, Length}
+use Rattle.sketch.specs.declared.answers.Answer.{Answer}
+use Rattle.sketch.specs.declared.answers.Answer.the-variants.{Done, Refused}
+use Rattle.sketch.specs.Answers.{refuseIf}
+use Rattle.sketch.specs.Params.{size, goodParams}
+
+-- array i of a slice of this length
+unfoldable pub arrayAnswer : Params → ℕ → ℕ → Answer
+arrayAnswer P i n =
+    refuseIf (not (goodParams P && (leb 1 i && leb i (P .d)))) Param 0
+    (refuseIf (not (eqb n (size P))) Length 0
+    Done)
+
+-- the stretch of array i, or an empty one where it is refused
+unfoldable pub stretch : {A : Type 0} → Answer → Params → ℕ → List A → List A
+stretch Done P i xs = take (P .m) (drop ((i - 1) * P .m) xs)
+stretch (Refused w k) P i xs = []

@@ -1,0 +1,95 @@
+-- What putting packets in and taking them out answers and leaves.
+use mathlib.Core.Bool.{Bool, true, false, not, _&&_}
+use mathlib.Core.Path.{_≡_}
+use mathlib.Core.List.{List, [], _∷_}
+use Prim.Native.Nat.{ℕ, _<_}
+use lib.IntN.{ℤ, pos}
+use lib.Dec.{leb, ltb, eqb}
+use lib.ListN.{length, getD, take}
+use Rattle.sketch.specs.declared.params.Params.{Params}
+use Rattle.sketch.specs.declared.answers.Why.the-variants.{Param, Length, Flow, Count}
+use Rattle.sketch.specs.declared.answers.Answer.{Answer}
+use Rattle.sketch.specs.declared.answers.Answer.the-variants.{Done}
+use Rattle.sketch.specs.Answers.{refuseIf, first, kept}
+use Rattle.sketch.specs.Params.{prime, primeOf, isFlow, size, goodParams, sizesAnswer, shapeAnswer}
+use Rattle.sketch.specs.Places.{stands}
+use Rattle.sketch.specs.Buckets.{weight}
+use Rattle.sketch.specs.Sketch.{Sketch, Entry, by, standingAnswer, changedIn}
+
+-- a packet's flow, and its number, from 1 to p - 1
+unfoldable pub packetAnswer : ℕ → ℕ → Answer
+packetAnswer f n =
+    refuseIf (not (ltb f prime)) Flow 0
+    (refuseIf (not (leb 1 n && ltb n prime)) Count 0
+    Done)
+
+-- the sizes, the lengths and the packet
+unfoldable pub entryAnswer : Params → ℕ → ℕ → ℕ → ℕ → Answer
+entryAnswer P c s f n = first (sizesAnswer P c s) (packetAnswer f n)
+
+-- n packets of f go in, or come out where `minus` holds: what is judged, of the parameters the sizes alone, and what is left
+unfoldable pub stepAnswer : Params → Bool → ℕ → ℕ → Sketch → Answer
+stepAnswer P minus f n S =
+    first (entryAnswer P (length (S .counts)) (length (S .idsums)) f n)
+    (standingAnswer (size P) (stands P f) minus (pos n) S)
+
+unfoldable pub changed : Params → Bool → ℕ → ℕ → Sketch → Sketch
+changed P minus f n S = changedIn (stands P f) minus (pos n) (weight f n) S
+
+pub record Stepped (minus : Bool) (P : Params) (f n : ℕ) (S : Sketch) (r : Answer) (S' : Sketch) : Type 0 where
+  pub answer : r ≡ stepAnswer P minus f n S
+  pub after : S' ≡ kept r S (changed P minus f n S)
+
+-- the same with all of the parameters' rules
+unfoldable pub moveAnswer : Params → Bool → ℕ → ℕ → Sketch → Answer
+moveAnswer P minus f n S = refuseIf (not (goodParams P)) Param 0 (stepAnswer P minus f n S)
+
+pub record Inserted (P : Params) (f n : ℕ) (S : Sketch) (r : Answer) (S' : Sketch) : Type 0 where
+  pub answer : r ≡ moveAnswer P false f n S
+  pub after : S' ≡ kept r S (changed P false f n S)
+
+pub record Withdrawn (P : Params) (f n : ℕ) (S : Sketch) (r : Answer) (S' : Sketch) : Type 0 where
+  pub answer : r ≡ moveAnswer P true f n S
+  pub after : S' ≡ kept r S (changed P true f n S)
+
+-- the sketch after packets of the flows fs, by the numbers ns, went in
+unfoldable pub after : Params → List ℕ → List ℕ → Sketch → Sketch
+after P [] ns S = S
+after P (f ∷ fs) [] S = S
+after P (f ∷ fs) (n ∷ ns) S = after P fs ns (changed P false f n S)
+
+-- packets in turn: the first that is refused decides
+unfoldable pub packetsAnswer : Params → List ℕ → List ℕ → Sketch → Answer
+packetsAnswer P [] ns S = Done
+packetsAnswer P (f ∷ fs) [] S = Done
+packetsAnswer P (f ∷ fs) (n ∷ ns) S = first (stepAnswer P false f n S) (packetsAnswer P fs ns (changed P false f n S))
+
+pub record PacketsInserted (P : Params) (fs ns : List ℕ) (S : Sketch) (r : Answer) (S' : Sketch) : Type 0 where
+  pub answer : r ≡ packetsAnswer P fs ns S
+  pub after-all : S' ≡ kept r S (after P fs ns S)
+
+-- the same, with the parameters, and the lengths of what is lent
+unfoldable pub allAnswer : Params → List ℕ → List ℕ → Sketch → Answer
+allAnswer P fs ns S =
+    first (shapeAnswer P (length (S .counts)) (length (S .idsums)))
+    (refuseIf (not (eqb (length fs) (length ns))) Length 0
+    (packetsAnswer P fs ns S))
+
+pub record AllInserted (P : Params) (fs ns : List ℕ) (S : Sketch) (r : Answer) (S' : Sketch) : Type 0 where
+  pub answer : r ≡ allAnswer P fs ns S
+  pub after-all : S' ≡ kept r S (after P fs ns S)
+
+-- the first i packets were accepted, each into the sketch that those before it left
+abbrev pub Accepted : Params → List ℕ → List ℕ → Sketch → ℕ → Type 0
+Accepted P fs ns S i =
+    (j : ℕ) → j < i → stepAnswer P false (getD fs j 0) (getD ns j 0) (after P (take j fs) (take j ns) S) ≡ Done
+
+-- S' is whatever sketch the first n packets were accepted into to make S
+pub record Unwound (P : Params) (fs ns : List ℕ) (n : ℕ) (S S' : Sketch) : Type 0 where
+  pub back : (S₀ : Sketch) → Accepted P fs ns S₀ n → S ≡ after P (take n fs) (take n ns) S₀ → S' ≡ S₀
+
+-- packets as entries
+unfoldable pub entriesOf : List ℕ → List ℕ → List Entry
+entriesOf [] ns = []
+entriesOf (f ∷ fs) [] = []
+entriesOf (f ∷ fs) (n ∷ ns) = by f (pos n) ∷ entriesOf fs ns
