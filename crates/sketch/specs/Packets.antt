@@ -44,13 +44,15 @@ pub record Stepped (minus : Bool) (P : Params) (f n : ℕ) (S : Sketch) (r : Ans
 unfoldable pub moveAnswer : Params → Bool → ℕ → ℕ → Sketch → Answer
 moveAnswer P minus f n S = refuseIf (not (goodParams P)) Param 0 (stepAnswer P minus f n S)
 
-pub record Inserted (P : Params) (f n : ℕ) (S : Sketch) (r : Answer) (S' : Sketch) : Type 0 where
-  pub answer : r ≡ moveAnswer P false f n S
-  pub after : S' ≡ kept r S (changed P false f n S)
+pub record Moved (minus : Bool) (P : Params) (f n : ℕ) (S : Sketch) (r : Answer) (S' : Sketch) : Type 0 where
+  pub answer : r ≡ moveAnswer P minus f n S
+  pub after : S' ≡ kept r S (changed P minus f n S)
 
-pub record Withdrawn (P : Params) (f n : ℕ) (S : Sketch) (r : Answer) (S' : Sketch) : Type 0 where
-  pub answer : r ≡ moveAnswer P true f n S
-  pub after : S' ≡ kept r S (changed P true f n S)
+abbrev pub Inserted : Params → ℕ → ℕ → Sketch → Answer → Sketch → Type 0
+Inserted = Moved false
+
+abbrev pub Withdrawn : Params → ℕ → ℕ → Sketch → Answer → Sketch → Type 0
+Withdrawn = Moved true
 
 -- the sketch after packets of the flows fs, by the numbers ns, went in
 unfoldable pub after : Params → List ℕ → List ℕ → Sketch → Sketch

@@ -30,6 +30,13 @@ countIn S k = getD (S .counts) k (pos 0)
 abbrev pub idsumIn : Sketch → ℕ → ℕ
 idsumIn S k = getD (S .idsums) k 0
 
+-- bucket k is outside its limits; n more, or n less, would bring its count outside
+abbrev pub damagedAt : Sketch → ℕ → Bool
+damagedAt S k = damaged (countIn S k) (idsumIn S k)
+
+abbrev pub leavesAt : Bool → ℤ → List ℤ → ℕ → Bool
+leavesAt minus n cs k = not (inLimits (plusMinus minus (getD cs k (pos 0)) n))
+
 -- a list of (flow, signed number) entries
 pub record Entry : Type 0 where
   pub flow : ℕ
@@ -64,10 +71,10 @@ pub record Freshened (P : Params) (S : Sketch) (r : Answer) (S' : Sketch) : Type
 
 -- one of them is outside its limits; n more, or n less, would bring the count of one outside
 unfoldable pub damagedIn : (ℕ → Bool) → Sketch → ℕ → Bool
-damagedIn on S k = on k && damaged (countIn S k) (idsumIn S k)
+damagedIn on S k = on k && damagedAt S k
 
 unfoldable pub leavesIn : (ℕ → Bool) → Bool → ℤ → List ℤ → ℕ → Bool
-leavesIn on minus n cs k = on k && not (inLimits (plusMinus minus (getD cs k (pos 0)) n))
+leavesIn on minus n cs k = on k && leavesAt minus n cs k
 
 -- what is refused of them, in a sketch of N buckets
 unfoldable pub standingAnswer : ℕ → (ℕ → Bool) → Bool → ℤ → Sketch → Answer

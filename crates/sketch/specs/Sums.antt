@@ -1,5 +1,5 @@
 -- What the sum and the difference of two sketches answer and leave.
-use mathlib.Core.Bool.{Bool, true, false, not, _&&_, _||_}
+use mathlib.Core.Bool.{Bool, not, _&&_, _||_}
 use mathlib.Core.Path.{_≡_}
 use mathlib.Core.List.{List}
 use Prim.Native.Nat.{ℕ}
@@ -13,8 +13,8 @@ use Rattle.sketch.specs.declared.answers.Answer.the-variants.{Done}
 use Rattle.sketch.specs.Lists.{mapFrom}
 use Rattle.sketch.specs.Answers.{refuseIf, refuseAt, first, kept}
 use Rattle.sketch.specs.Params.{prime, goodParams, sameParams, lengthsAnswer}
-use Rattle.sketch.specs.Buckets.{inLimits, damaged, plusMinus}
-use Rattle.sketch.specs.Sketch.{Sketch, sketch, countIn, idsumIn}
+use Rattle.sketch.specs.Buckets.{plusMinus}
+use Rattle.sketch.specs.Sketch.{Sketch, sketch, countIn, idsumIn, damagedAt, leavesAt}
 
 -- the parameters of both sketches, whether they are the same, and the four lengths
 unfoldable pub shapesAnswer : Params → Params → ℕ → ℕ → ℕ → ℕ → Answer
@@ -25,10 +25,10 @@ shapesAnswer P Q c s e t =
 
 -- bucket k is outside its limits in either sketch; the sum or difference of its counts leaves them
 unfoldable pub eitherDamaged : Sketch → Sketch → ℕ → Bool
-eitherDamaged S T k = damaged (countIn S k) (idsumIn S k) || damaged (countIn T k) (idsumIn T k)
+eitherDamaged S T k = damagedAt S k || damagedAt T k
 
 unfoldable pub leaves : Bool → List ℤ → List ℤ → ℕ → Bool
-leaves minus cs es k = not (inLimits (plusMinus minus (getD cs k (pos 0)) (getD es k (pos 0))))
+leaves minus cs es k = leavesAt minus (getD es k (pos 0)) cs k
 
 unfoldable pub bucketsAnswer : Bool → Sketch → Sketch → Answer
 bucketsAnswer minus S T =

@@ -2,7 +2,8 @@
 ghost use mathlib.Core.Path.{_≡_};
 ghost use lib.ListN.{length};
 ghost use Rattle.sketch.specs.Arrays.{arrayAnswer, stretch};
-use crate::answers::{Answer, Why};
+use crate::answers::Answer;
+use crate::answers::Why;
 use crate::params::Params;
 
 // Whether array i of a slice of this length can be lent: what goes with the stretches below.

@@ -30,7 +30,11 @@ pub(crate) fn sound(c: i32, s: u32) -> bool
 pub(crate) fn moved(minus: bool, c: i32, e: i32) -> i64
     ensures { λ r. ⌜ r ≡ plusMinus minus c e ⌝ }
 {
-    if minus { c as i64 - e as i64 } else { c as i64 + e as i64 }
+    if minus {
+        c as i64 - e as i64
+    } else {
+        c as i64 + e as i64
+    }
 }
 
 // The same as a count, where it is one.

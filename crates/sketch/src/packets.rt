@@ -11,9 +11,16 @@ ghost use Rattle.sketch.specs.Places.{standsIn, Reached};
 ghost use Rattle.sketch.specs.Buckets.{inLimits, plusMinus, weight as «weight-of»};
 ghost use Rattle.sketch.specs.Sketch.{sketch, damagedIn, leavesIn, standingAnswer, changedIn, Freshened};
 ghost use Rattle.sketch.specs.Packets.{packetAnswer, entryAnswer, Stepped, Inserted, Withdrawn, Unwound, PacketsInserted, AllInserted};
-use crate::answers::{Answer, Why};
-use crate::buckets::{moved, settled, sound, weight, within, wound};
-use crate::params::{PRIME, Params};
+use crate::answers::Answer;
+use crate::answers::Why;
+use crate::buckets::moved;
+use crate::buckets::settled;
+use crate::buckets::sound;
+use crate::buckets::weight;
+use crate::buckets::within;
+use crate::buckets::wound;
+use crate::params::PRIME;
+use crate::params::Params;
 
 fn clear(counts: &mut [i32], idsums: &mut [u32])
     requires { ⌜ length (now counts) ≡ length (now idsums) ⌝ }

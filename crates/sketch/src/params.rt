@@ -10,7 +10,9 @@ ghost use Rattle.sketch.specs.Places.{stand, position as «position-of»
 ghost use Rattle.sketch.specs.Answers.{spotOf};
 ghost use Rattle.sketch.specs.Params.{lengthsAnswer, sizesAnswer, shapeAnswer};
 ghost use Rattle.sketch.specs.Places.{standAnswer};
-use crate::answers::{Answer, Spot, Why};
+use crate::answers::Answer;
+use crate::answers::Spot;
+use crate::answers::Why;
 
 // The prime of every sketch.
 pub const PRIME: u32 = field::P31;
@@ -261,7 +263,7 @@ impl Params {
 
     // A flow's place in each array, found once for all that an insertion does with them. Written out, as the checks are.
     pub(crate) fn places(self, f: u32, ks: &mut [usize; 4])
-        requires { ⌜ Sized self ⌝ }
+        requires { ⌜ Sized self × (length (now ks) ≡ 4) ⌝ }
         ensures { λ r. ⌜ Placed self f (now (ks .exit)) ⌝ }
     {
         let d = self.d;

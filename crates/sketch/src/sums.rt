@@ -8,8 +8,13 @@ ghost use Rattle.sketch.specs.Lists.{least};
 ghost use Rattle.sketch.specs.Buckets.{inLimits, plusMinus};
 ghost use Rattle.sketch.specs.Sketch.{sketch};
 ghost use Rattle.sketch.specs.Sums.{shapesAnswer, eitherDamaged, leaves, combineAnswer, combined, Combined};
-use crate::answers::{Answer, Why};
-use crate::buckets::{moved, settled, sound, within, wound};
+use crate::answers::Answer;
+use crate::answers::Why;
+use crate::buckets::moved;
+use crate::buckets::settled;
+use crate::buckets::sound;
+use crate::buckets::within;
+use crate::buckets::wound;
 use crate::params::Params;
 
 // The parameters of both sketches and the four lengths.

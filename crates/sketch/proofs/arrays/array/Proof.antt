@@ -1,38 +1,52 @@
+-- `sketch::arrays::array` meets its contract: each test that fails is the first that the answer tells.
+use mathlib.Core.Path.{_≡_, sym, _∙_}
+use mathlib.Core.Bool.{true, _&&_}
+use lib.Dec.{leb}
+use borrow.Author.Tests.{not-true, not-false, lt-leb, le-leb, eq-eqb, ne-eqb}
 use borrow.Author.Needs.{needs}
+use Rattle.sketch.specs.Params.{size, goodParams}
+use Rattle.sketch.specs.Arrays.{arrayAnswer}
 use Rattle.sketch.proofs.arrays.array.Statement.{statement}
 use Rattle.sketch.proofs.arrays.array.Tie as tie
-use Rattle.sketch.proofs.arrays.array.Reads as reads
-use Rattle.sketch.proofs.arrays.array.Lts as lts
-use Rattle.sketch.proofs.params.Params.check.Reads as check-reads
-use Rattle.sketch.proofs.params.Params.size.Reads as size-reads
 
--- src/arrays.rt:12:9
+-- the parameters of a call that got past its first test
+good : (c : tie.Else1) → goodParams (c .before .before .args .p) ≡ true
+good c = sym (c .before .check .ensures) ∙ not-false _ (c .if1 .left)
+
 check-requires : tie.Need-check-requires
 check-requires c κs = search needs
 
--- src/arrays.rt:13:9
 returns : tie.Need-returns
-returns c = ?
+unfolding arrayAnswer
+returns c = rw (sym (c .before .check .ensures) ∙ not-true _ (c .if1 .taken))
 
--- src/arrays.rt:16:9
 returns-2 : tie.Need-returns-2
-returns-2 c = ?
+unfolding arrayAnswer
+returns-2 c = rw (good (c .before), lt-leb 1 _ (c .if2 .taken))
 
--- src/arrays.rt:19:9
 returns-3 : tie.Need-returns-3
-returns-3 c = ?
+unfolding arrayAnswer
+returns-3 c = rw (good (c .before .before .before), le-leb 1 _ (c .before .before .if2 .left), lt-leb _ _ (c .if3 .taken))
 
--- src/arrays.rt:21:15
 size-requires : tie.Need-size-requires
 size-requires c κs = search needs
 
--- src/arrays.rt:22:9
-returns-4 : tie.Need-returns-4
-returns-4 c = ?
+-- what the tests before the last tell, and the length that is asked for
+asked : (c : tie.Else3)
+    → let a = c .before .before .before .before .before .args in
+    (goodParams (a .p) && (leb 1 (a .i) && leb (a .i) (a .p .d))) ≡ true
+asked c = rw (good (c .before .before .before), le-leb 1 _ (c .before .before .if2 .left), le-leb _ _ (c .if3 .left))
 
--- src/arrays.rt:9:1
+long : (c : tie.After-size) → c .size .result ≡ size (c .before .before .before .before .before .before .args .p)
+long c = rw (good (c .before .before .before .before)) at (c .size .ensures)
+
+returns-4 : tie.Need-returns-4
+unfolding arrayAnswer
+returns-4 c = rw (asked (c .before .before), ← long (c .before), ne-eqb _ _ (c .if4 .taken))
+
 returns-5 : tie.Need-returns-5
-returns-5 c = ?
+unfolding arrayAnswer
+returns-5 c = rw (asked (c .before .before), ← long (c .before), eq-eqb _ _ (c .if4 .left))
 
 pub array-spec : {M : Type 1} → statement M
 array-spec =

@@ -1,60 +1,55 @@
+-- `sketch::arrays::array_counts` meets its contract: where `array` does not refuse, the stretch lies within the slice.
+use mathlib.Core.Path.{sym, _∙_}
+use native.Mathlib.Omega.{arith}
+use lib.ListN.{length}
+use denote.Ref.{now}
 use borrow.Author.Needs.{needs}
+use Rattle.sketch.proofs.Stretches.{Within, array-done, refused-stretch, done-stretch}
 use Rattle.sketch.proofs.arrays.array_counts.Statement.{statement}
 use Rattle.sketch.proofs.arrays.array_counts.Tie as tie
-use Rattle.sketch.proofs.arrays.array_counts.Reads as reads
-use Rattle.sketch.proofs.arrays.array_counts.Lts as lts
-use Rattle.sketch.proofs.arrays.array.Reads as array-reads
 
--- src/arrays.rt:31:9
 array-requires : tie.Need-array-requires
 array-requires c κs = search needs
 
 enum-told : tie.Need-enum-told
 enum-told c = search needs
 
--- src/arrays.rt:33:16
 enum-told-2 : tie.Need-enum-told-2
 enum-told-2 c = search needs
 
--- src/arrays.rt:33:9
 slice-aggregate-result : tie.Need-slice-aggregate-result
 slice-aggregate-result c = search needs
 
--- src/arrays.rt:33:9
 returns : tie.Need-returns
-returns c = ?
+returns c = refused-stretch _ _ (now (c .before .before .before .before .args .counts)) _ (c .before .before .before .array .ensures) (c .before .before .match .keys2)
 
--- src/arrays.rt:36:15
+-- what `array` tells of the stretch
+within : (c : tie.After-enum-told) → Within (c .before .before .before .args .p) (c .before .before .before .args .i) (length (now (c .before .before .before .args .counts)))
+within c = array-done _ _ _ (sym (c .before .before .array .ensures) ∙ c .enum-told .given .1)
+
 sub-at : tie.Need-sub-at
-sub-at c = ?
+sub-at c = within c .low
 
--- src/arrays.rt:36:14
 mul-at : tie.Need-mul-at
-mul-at c = ?
+mul-at c = omega (arith, within c)
 
--- src/arrays.rt:37:15
 add-end : tie.Need-add-end
-add-end c = ?
+add-end c = omega (arith, within c)
 
--- src/arrays.rt:38:5
 mul-counts : tie.Need-mul-counts
-mul-counts c = ?
+mul-counts c = omega (arith, within c)
 
--- src/arrays.rt:38:5
 sub-result : tie.Need-sub-result
 sub-result c = search needs
 
--- src/arrays.rt:38:5
 part-counts-start : tie.Need-part-counts-start
 part-counts-start c = search needs
 
--- src/arrays.rt:38:5
 part-counts-end : tie.Need-part-counts-end
-part-counts-end c = ?
+part-counts-end c = omega (arith, within c)
 
--- src/arrays.rt:28:1
 returns-2 : tie.Need-returns-2
-returns-2 c = ?
+returns-2 c = done-stretch _ _ _ _ (c .before .before .before .array .ensures) (c .before .enum-told .given .1)
 
 pub array-counts-spec : {M : Type 1} → statement M
 array-counts-spec =

@@ -1,60 +1,55 @@
+-- `sketch::arrays::array_idsums` meets its contract: where `array` does not refuse, the stretch lies within the slice.
+use mathlib.Core.Path.{sym, _∙_}
+use native.Mathlib.Omega.{arith}
+use lib.ListN.{length}
+use denote.Ref.{now}
 use borrow.Author.Needs.{needs}
+use Rattle.sketch.proofs.Stretches.{Within, array-done, refused-stretch, done-stretch}
 use Rattle.sketch.proofs.arrays.array_idsums.Statement.{statement}
 use Rattle.sketch.proofs.arrays.array_idsums.Tie as tie
-use Rattle.sketch.proofs.arrays.array_idsums.Reads as reads
-use Rattle.sketch.proofs.arrays.array_idsums.Lts as lts
-use Rattle.sketch.proofs.arrays.array.Reads as array-reads
 
--- src/arrays.rt:45:9
 array-requires : tie.Need-array-requires
 array-requires c κs = search needs
 
 enum-told : tie.Need-enum-told
 enum-told c = search needs
 
--- src/arrays.rt:47:16
 enum-told-2 : tie.Need-enum-told-2
 enum-told-2 c = search needs
 
--- src/arrays.rt:47:9
 slice-aggregate-result : tie.Need-slice-aggregate-result
 slice-aggregate-result c = search needs
 
--- src/arrays.rt:47:9
 returns : tie.Need-returns
-returns c = ?
+returns c = refused-stretch _ _ (now (c .before .before .before .before .before .args .idsums)) _ (c .before .before .before .array .ensures) (c .before .before .match .keys2)
 
--- src/arrays.rt:50:15
+-- what `array` tells of the stretch
+within : (c : tie.After-enum-told) → Within (c .before .before .before .before .args .p) (c .before .before .before .before .args .i) (length (now (c .before .before .before .before .args .idsums)))
+within c = array-done _ _ _ (sym (c .before .before .array .ensures) ∙ c .enum-told .given .1)
+
 sub-at : tie.Need-sub-at
-sub-at c = ?
+sub-at c = within c .low
 
--- src/arrays.rt:50:14
 mul-at : tie.Need-mul-at
-mul-at c = ?
+mul-at c = omega (arith, within c)
 
--- src/arrays.rt:51:15
 add-end : tie.Need-add-end
-add-end c = ?
+add-end c = omega (arith, within c)
 
--- src/arrays.rt:52:5
 mul-idsums : tie.Need-mul-idsums
-mul-idsums c = ?
+mul-idsums c = omega (arith, within c)
 
--- src/arrays.rt:52:5
 sub-result : tie.Need-sub-result
 sub-result c = search needs
 
--- src/arrays.rt:52:5
 part-idsums-start : tie.Need-part-idsums-start
 part-idsums-start c = search needs
 
--- src/arrays.rt:52:5
 part-idsums-end : tie.Need-part-idsums-end
-part-idsums-end c = ?
+part-idsums-end c = omega (arith, within c)
 
--- src/arrays.rt:42:1
 returns-2 : tie.Need-returns-2
-returns-2 c = ?
+returns-2 c = done-stretch _ _ _ _ (c .before .before .before .array .ensures) (c .before .enum-told .given .1)
 
 pub array-idsums-spec : {M : Type 1} → statement M
 array-idsums-spec =

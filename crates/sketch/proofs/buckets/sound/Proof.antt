@@ -1,25 +1,26 @@
+-- `sketch::buckets::sound` meets its contract.
+use mathlib.Core.Path.{_≡_, sym, ap, _∙_}
 use borrow.Author.Needs.{needs}
+use borrow.Author.Tests.{not-true, not-false}
+use Rattle.field.proofs.Casts.{widened, widens}
+use Rattle.sketch.specs.Buckets.{inLimits}
 use Rattle.sketch.proofs.buckets.sound.Statement.{statement}
 use Rattle.sketch.proofs.buckets.sound.Tie as tie
-use Rattle.sketch.proofs.buckets.sound.Reads as reads
-use Rattle.sketch.proofs.buckets.sound.Lts as lts
-use Rattle.sketch.proofs.buckets.within.Reads as within-reads
 
--- src/buckets.rt:23:16
 cast-within : tie.Need-cast-within
-cast-within c = ?
+cast-within c = widens (c .fits .c)
 
--- src/buckets.rt:23:9
 within-requires : tie.Need-within-requires
 within-requires c κs = search needs
 
--- src/buckets.rt:24:9
-returns : tie.Need-returns
-returns c = ?
+judged : (c : tie.After-within) → c .within .result ≡ inLimits (c .before .args .c)
+judged c = c .within .ensures ∙ ap inLimits (widened (c .before .fits .c))
 
--- src/buckets.rt:20:1
+returns : tie.Need-returns
+returns c = rw (sym (judged (c .before)) ∙ not-true _ (c .if1 .taken))
+
 returns-2 : tie.Need-returns-2
-returns-2 c = ?
+returns-2 c = rw (sym (judged (c .before)) ∙ not-false _ (c .if1 .left))
 
 pub sound-spec : {M : Type 1} → statement M
 sound-spec = tie.close (tie.spec cast-within within-requires returns returns-2)

@@ -1,31 +1,52 @@
+-- `sketch::packets::buckets` meets its contract: damage first, then the limits, each with the lowest index at fault.
+use mathlib.Core.Path.{_≡_, _∙_}
+use Prim.Native.Nat.{_*_}
+use native.Mathlib.Omega.{arith}
+use lib.ListN.{getD}
+use denote.Ref.{now}
+use mir.Facts.{toZ-ofZ}
 use borrow.Author.Needs.{needs}
+use Rattle.sketch.specs.Sketch.{standingAnswer, leavesIn}
+use Rattle.sketch.specs.Lists.{least}
+use Rattle.sketch.specs.Places.{standsIn}
+use Rattle.sketch.proofs.Judging.{refuse-found, refuse-past}
 use Rattle.sketch.proofs.packets.buckets.Statement.{statement}
 use Rattle.sketch.proofs.packets.buckets.Tie as tie
-use Rattle.sketch.proofs.packets.buckets.Reads as reads
-use Rattle.sketch.proofs.packets.buckets.Lts as lts
-use Rattle.sketch.proofs.packets.first_damaged.Reads as first-damaged-reads
-use Rattle.sketch.proofs.packets.first_leaving.Reads as first-leaving-reads
 
--- src/packets.rt:115:9
 first-damaged-requires : tie.Need-first-damaged-requires
 first-damaged-requires c κs = search needs
 
--- src/packets.rt:117:9
 returns : tie.Need-returns
-returns c = ?
+unfolding standingAnswer
+returns c = refuse-found _ _ _ _ _ (c .before .first-damaged .ensures) (omega arith)
 
--- src/packets.rt:119:9
 first-leaving-requires : tie.Need-first-leaving-requires
-first-leaving-requires c κs = search needs
+first-leaving-requires c κs =
+    let r = c .before .before .before .pre in
+    record {
+      d-high = r .d-high;
+      m-low = r .m-low;
+      m-high = r .m-high;
+      inside = r .inside;
+      counts-long = r .counts-long;
+      idsums-long = r .counts-long;
+    }
 
--- src/packets.rt:121:9
+-- a signed argument is handed on as its bits
+scanned : (c : tie.After-first-leaving) → c .first-leaving .result ≡ least 0 (c .before .before .before .before .args .d * c .before .before .before .before .args .m) (leavesIn (standsIn (c .before .before .before .before .args .d) (c .before .before .before .before .args .m) (λ i. getD (now (c .before .before .before .before .args .ks)) i 0)) (c .before .before .before .before .args .minus) (c .before .before .before .before .args .n) (now (c .before .before .before .before .args .counts)))
+scanned c = rw (toZ-ofZ (c .before .before .before .before .fits .n)) at (c .first-leaving .ensures)
+
 returns-2 : tie.Need-returns-2
-returns-2 c = ?
+unfolding standingAnswer
+returns-2 c =
+    refuse-found _ _ _ _ _ (scanned (c .before)) (omega arith) ∙ refuse-past _ _ _ _ _ (c .before .before .before .first-damaged .ensures) (omega arith)
 
--- src/packets.rt:103:1
 returns-3 : tie.Need-returns-3
-returns-3 c = ?
+unfolding standingAnswer
+returns-3 c =
+    refuse-past _ _ _ _ _ (scanned (c .before)) (omega arith) ∙ refuse-past _ _ _ _ _ (c .before .before .before .first-damaged .ensures) (omega arith)
 
 pub buckets-spec : {M : Type 1} → statement M
 buckets-spec =
-    tie.close (tie.spec first-damaged-requires returns first-leaving-requires returns-2 returns-3)
+    tie.close
+    (tie.spec first-damaged-requires returns first-leaving-requires returns-2 returns-3)

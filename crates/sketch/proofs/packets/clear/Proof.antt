@@ -1,57 +1,74 @@
+-- `sketch::packets::clear` meets its contract. The invariant: the places passed are zero, the others as they were.
+use denote.Ref.{now}
+use borrow.Author.Needs.{needs}
+use Prim.Native.Nat.{_-_, _≤_}
+use native.Mathlib.Omega.{arith}
+use mathlib.Core.Path.{_≡_, refl, ap, _∙_}
+use lib.ListN.{length}
+use lib.IntN.{pos}
+use lib.ListN.{replicate, drop}
+use mathlib.Core.List.{_++_}
+use Rattle.sketch.proofs.Changes.{fill-next, fill-long, fill-all}
 use Rattle.sketch.proofs.packets.clear.Statement.{statement}
 use Rattle.sketch.proofs.packets.clear.Tie as tie
-use Rattle.sketch.proofs.packets.clear.Reads as reads
-use Rattle.sketch.proofs.packets.clear.Lts as lts
 
 abbrev Inv-loop : tie.InvT-loop
-Inv-loop counts₀ idsums₀ i₀ counts idsums i = ?
+Inv-loop counts₀ idsums₀ i₀ counts idsums i = (i ≤ length counts₀) × (counts ≡ replicate i (pos 0) ++ drop i counts₀) × (idsums ≡ replicate i 0 ++ drop i idsums₀)
 
 abbrev μ-loop : tie.MeasureT-loop
-μ-loop counts₀ idsums₀ i₀ counts idsums i = ?
+μ-loop counts₀ idsums₀ i₀ counts idsums i = length counts₀ - i
 
--- src/packets.rt:24:5
+-- both keep their lengths
+lens : (c : tie.At-loop Inv-loop μ-loop) → (length (c .loop .counts) ≡ length (now (c .before .args .counts))) × (length (c .loop .idsums) ≡ length (now (c .before .args .idsums)))
+lens c =
+    let h : c .loop .i ≤ length (now (c .before .args .idsums)) = omega arith in (
+      ap length (c .loop .inv .1) ∙ fill-long (c .loop .i) (pos 0) (now (c .before .args .counts)) (c .loop .inv .0),
+      ap length (c .loop .inv .2) ∙ fill-long (c .loop .i) 0 (now (c .before .args .idsums)) h,
+    )
+
 loop-holds : tie.Need-loop-holds Inv-loop μ-loop
-loop-holds c = ?
+loop-holds c = (search needs, refl, refl)
 
--- src/packets.rt:25:9
 mul-counts : tie.Need-mul-counts Inv-loop μ-loop
-mul-counts c = ?
+mul-counts c = omega (arith, lens (c .before))
 
--- src/packets.rt:25:9
 slice-set-of-counts : tie.Need-slice-set-of-counts Inv-loop μ-loop
-slice-set-of-counts c = ?
+slice-set-of-counts c = omega arith
 
--- src/packets.rt:26:9
 mul-idsums : tie.Need-mul-idsums Inv-loop μ-loop
-mul-idsums c = ?
+mul-idsums c = omega (arith, lens (c .before))
 
--- src/packets.rt:26:9
 slice-write-idsums : tie.Need-slice-write-idsums Inv-loop μ-loop
-slice-write-idsums c = ?
+slice-write-idsums c = omega (arith, lens (c .before))
 
--- src/packets.rt:27:9
 add-i : tie.Need-add-i Inv-loop μ-loop
-add-i c = ?
+add-i c = omega (arith, lens (c .before))
 
--- src/packets.rt:24:5
 loop-less : tie.Need-loop-less Inv-loop μ-loop
-loop-less c = ?
+loop-less c = omega (arith, lens (c .before))
 
--- src/packets.rt:24:5
 loop-again : tie.Need-loop-again Inv-loop μ-loop
-loop-again c = ?
+loop-again c =
+    let l = lens (c .before) in (
+      omega arith,
+      rw (c .before .loop .inv .1) (fill-next (c .before .loop .i) (pos 0) (now (c .before .before .args .counts)) (omega arith)),
+      rw (c .before .loop .inv .2) (fill-next (c .before .loop .i) 0 (now (c .before .before .args .idsums)) (omega arith)),
+    )
 
--- src/packets.rt:18:1
 same-length : tie.Need-same-length Inv-loop μ-loop
-same-length c = ?
+same-length c = lens (c .before) .0
 
--- src/packets.rt:18:1
 same-length-2 : tie.Need-same-length-2 Inv-loop μ-loop
-same-length-2 c = ?
+same-length-2 c = lens (c .before) .1
 
--- src/packets.rt:18:1
 returns : tie.Need-returns Inv-loop μ-loop
-returns c = ?
+returns c =
+    let l = lens (c .before) in
+    let e : c .before .loop .i ≡ length (now (c .before .before .args .counts)) = omega arith in
+    let h : c .before .loop .i ≡ length (now (c .before .before .args .idsums)) = omega arith in (
+      rw e at (c .before .loop .inv .1) ∙ fill-all (pos 0) (now (c .before .before .args .counts)),
+      rw h at (c .before .loop .inv .2) ∙ fill-all 0 (now (c .before .before .args .idsums)),
+    )
 
 pub clear-spec : {M : Type 1} → statement M
 clear-spec =

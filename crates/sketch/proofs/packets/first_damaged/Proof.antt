@@ -1,78 +1,97 @@
+-- `sketch::packets::first_damaged` meets its contract: a scan array by array finds the lowest bucket at fault.
+use mathlib.Core.Path.{_≡_, sym, ap, _∙_}
+use mathlib.Core.Bool.{not}
+use mathlib.Core.List.{List}
+use Prim.Native.Nat.{ℕ, _+_, _*_, _-_, _≤_, _<_}
+use native.Mathlib.Omega.{arith}
+use lib.IntN.{ℤ}
+use lib.ListN.{length, getD}
+use denote.Ref.{now}
+use mir.Syntax.{w32}
+use borrow.Author.Needs.{needs}
+use Rattle.field.proofs.Casts.{back}
+use Rattle.sketch.specs.Lists.{least}
+use Rattle.sketch.specs.Places.{Reached}
+use Rattle.sketch.specs.Sketch.{sketch, damagedAt, damagedIn}
+use Rattle.sketch.proofs.Limits.{stretch-within, small}
+use Rattle.sketch.proofs.Standing.{Within, reach, sought, leastFrom, arrays-start, array-found, array-passed, arrays-end}
 use Rattle.sketch.proofs.packets.first_damaged.Statement.{statement}
 use Rattle.sketch.proofs.packets.first_damaged.Tie as tie
-use Rattle.sketch.proofs.packets.first_damaged.Reads as reads
-use Rattle.sketch.proofs.packets.first_damaged.Lts as lts
-use Rattle.sketch.proofs.buckets.sound.Reads as sound-reads
 
 abbrev Inv-loop : tie.InvT-loop
-Inv-loop d m ks counts idsums i₀ i = ?
+Inv-loop d m ks counts idsums i₀ i =
+    (i ≤ d)
+    × (least 0 (d * m) (sought d m (λ j. getD ks j 0) (damagedAt (sketch counts idsums)))
+    ≡ leastFrom d m (λ j. getD ks j 0) (damagedAt (sketch counts idsums)) i)
 
 abbrev μ-loop : tie.MeasureT-loop
-μ-loop d m ks counts idsums i₀ i = ?
+μ-loop d m ks counts idsums i₀ i = d - i
 
--- src/packets.rt:76:5
+-- what a turn reaches, and the bucket that it looks at
+within : (c : tie.In-loop Inv-loop μ-loop) → Within (c .before .before .before .args .d) (c .before .before .before .args .m) (c .before .loop .i) (getD (now (c .before .before .before .args .ks)) (c .before .loop .i) 0)
+within c = reach (c .before .loop .i) (c .before .before .before .pre) (c .loop-test .taken)
+
+judged : (c : tie.After-sound Inv-loop μ-loop)
+    → damagedAt (sketch (now (c .before .before .before .before .before .before .before .args .counts)) (now (c .before .before .before .before .before .before .before .args .idsums))) (c .before .before .before .before .before .loop .i * c .before .before .before .before .before .before .before .args .m + getD (now (c .before .before .before .before .before .before .before .args .ks)) (c .before .before .before .before .before .loop .i) 0) ≡ not (c .sound .result)
+judged c = ap not (sym (rw (back w32 _ (c .before .before .sound-arg .given)) at (c .sound .ensures)))
+
 loop-holds : tie.Need-loop-holds Inv-loop μ-loop
-loop-holds c = ?
+loop-holds c = (search needs, arrays-start _ _ _ _)
 
--- src/packets.rt:77:17
 mul-k : tie.Need-mul-k Inv-loop μ-loop
-mul-k c = ?
+mul-k c = omega (arith, within c)
 
--- src/packets.rt:77:25
 mul-k-2 : tie.Need-mul-k-2 Inv-loop μ-loop
-mul-k-2 c = ?
+mul-k-2 c = omega (arith, within c)
 
--- src/packets.rt:77:25
 element-copy-out-k : tie.Need-element-copy-out-k Inv-loop μ-loop
-element-copy-out-k c = ?
+element-copy-out-k c = within c .few
 
--- src/packets.rt:77:17
 add-k : tie.Need-add-k Inv-loop μ-loop
-add-k c = ?
+add-k c = omega (arith, within (c .before))
 
--- src/packets.rt:78:19
 mul-sound : tie.Need-mul-sound Inv-loop μ-loop
-mul-sound c = ?
+mul-sound c = omega (arith, within (c .before))
 
--- src/packets.rt:78:19
 shared-slice-copy-out-sound : tie.Need-shared-slice-copy-out-sound Inv-loop μ-loop
-shared-slice-copy-out-sound c = ?
+shared-slice-copy-out-sound c = omega (arith, within (c .before), c .before .before .before .before .pre)
 
--- src/packets.rt:78:30
 mul-sound-2 : tie.Need-mul-sound-2 Inv-loop μ-loop
-mul-sound-2 c = ?
+mul-sound-2 c = omega (arith, within (c .before .before))
 
--- src/packets.rt:78:30
 shared-slice-read-sound : tie.Need-shared-slice-read-sound Inv-loop μ-loop
-shared-slice-read-sound c = ?
+shared-slice-read-sound c = omega (arith, within (c .before .before .before), c .before .before .before .before .before .before .pre)
 
--- src/packets.rt:78:13
 sound-requires : tie.Need-sound-requires Inv-loop μ-loop
-sound-requires c κs = ?
+sound-requires c κs = search needs
 
--- src/packets.rt:79:13
 returns : tie.Need-returns Inv-loop μ-loop
-returns c = ?
+unfolding damagedIn
+returns c =
+    let s = c .before .before .before .before .before .before .before .before in
+    let l = c .before .before .before .before .before .before .loop in
+    array-found _ _ _ _ (l .i) _ (c .before .before .before .before .before .loop-test .taken) (s .pre .inside (l .i) (c .before .before .before .before .before .loop-test .taken)) (l .inv .1) (judged (c .before) ∙ c .if1 .taken)
 
--- src/packets.rt:81:9
 add-i : tie.Need-add-i Inv-loop μ-loop
-add-i c = ?
+add-i c = search needs
 
--- src/packets.rt:76:5
 loop-less : tie.Need-loop-less Inv-loop μ-loop
-loop-less c = ?
+loop-less c = search needs
 
--- src/packets.rt:76:5
 loop-again : tie.Need-loop-again Inv-loop μ-loop
-loop-again c = ?
+loop-again c =
+    let s = c .before .before .before .before .before .before .before .before in
+    let l = c .before .before .before .before .before .before .loop in (
+      omega arith,
+      array-passed _ _ _ _ (l .i) _ (c .before .before .before .before .before .loop-test .taken) (s .pre .inside (l .i) (c .before .before .before .before .before .loop-test .taken)) (l .inv .1) (judged (c .before) ∙ c .if1 .left),
+    )
 
--- src/packets.rt:83:5
 mul-result : tie.Need-mul-result Inv-loop μ-loop
-mul-result c = ?
+mul-result c = omega (arith, small (c .before .before .before .args .d) (c .before .before .before .args .m) (c .before .before .before .pre .d-high) (c .before .before .before .pre .m-high))
 
--- src/packets.rt:71:1
 returns-2 : tie.Need-returns-2 Inv-loop μ-loop
-returns-2 c = ?
+unfolding damagedIn
+returns-2 c = arrays-end _ _ _ _ (c .before .loop .i) _ (omega arith) (c .before .loop .inv .1)
 
 pub first-damaged-spec : {M : Type 1} → statement M
 first-damaged-spec =

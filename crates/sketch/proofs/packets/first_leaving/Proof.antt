@@ -1,75 +1,95 @@
+-- `sketch::packets::first_leaving` meets its contract: a scan array by array finds the lowest bucket at fault.
+use mathlib.Core.Path.{_≡_, sym, ap, _∙_}
+use mathlib.Core.Bool.{not}
+use Prim.Native.Nat.{_+_, _*_, _-_, _≤_}
+use native.Mathlib.Omega.{arith}
+use lib.ListN.{getD}
+use denote.Ref.{now}
+use mir.Facts.{toZ-ofZ}
+use mir.Syntax.{w32, w64}
+use mir.Val.{toZ, ofZ}
+use borrow.Author.Needs.{needs}
+use Rattle.field.proofs.Casts.{back}
+use Rattle.sketch.specs.Lists.{least}
+use Rattle.sketch.specs.Sketch.{leavesAt, leavesIn}
+use Rattle.sketch.proofs.Limits.{small}
+use Rattle.sketch.proofs.Standing.{Within, reach, sought, leastFrom, arrays-start, array-found, array-passed, arrays-end}
 use Rattle.sketch.proofs.packets.first_leaving.Statement.{statement}
 use Rattle.sketch.proofs.packets.first_leaving.Tie as tie
-use Rattle.sketch.proofs.packets.first_leaving.Reads as reads
-use Rattle.sketch.proofs.packets.first_leaving.Lts as lts
-use Rattle.sketch.proofs.buckets.moved.Reads as moved-reads
-use Rattle.sketch.proofs.buckets.within.Reads as within-reads
 
 abbrev Inv-loop : tie.InvT-loop
-Inv-loop minus d m ks counts n i₀ i = ?
+Inv-loop minus d m ks counts n i₀ i =
+    (i ≤ d)
+    × (least 0 (d * m) (sought d m (λ j. getD ks j 0) (leavesAt minus (toZ w32 n) counts)) ≡ leastFrom d m (λ j. getD ks j 0) (leavesAt minus (toZ w32 n) counts) i)
 
 abbrev μ-loop : tie.MeasureT-loop
-μ-loop minus d m ks counts n i₀ i = ?
+μ-loop minus d m ks counts n i₀ i = d - i
 
--- src/packets.rt:92:5
+-- what a turn reaches, and the bucket that it looks at
+within : (c : tie.In-loop Inv-loop μ-loop) → Within (c .before .before .args .d) (c .before .before .args .m) (c .before .loop .i) (getD (now (c .before .before .args .ks)) (c .before .loop .i) 0)
+within c = reach (c .before .loop .i) (c .before .before .pre) (c .loop-test .taken)
+
+judged : (c : tie.After-within Inv-loop μ-loop)
+    → leavesAt (c .before .before .before .before .before .before .args .minus) (toZ w32 (ofZ w32 (c .before .before .before .before .before .before .args .n))) (now (c .before .before .before .before .before .before .args .counts)) (c .before .before .before .before .before .loop .i * c .before .before .before .before .before .before .args .m + getD (now (c .before .before .before .before .before .before .args .ks)) (c .before .before .before .before .before .loop .i) 0) ≡ not (c .within .result)
+judged c =
+    let sum = rw (back w32 _ (c .before .before .moved-arg .given)) at (c .before .moved .ensures) in
+    ap not (sym (rw (back w64 _ (c .before .moved .ok), sum) at (c .within .ensures)))
+
 loop-holds : tie.Need-loop-holds Inv-loop μ-loop
-loop-holds c = ?
+loop-holds c = (search needs, arrays-start _ _ _ _)
 
--- src/packets.rt:93:17
 mul-k : tie.Need-mul-k Inv-loop μ-loop
-mul-k c = ?
+mul-k c = omega (arith, within c)
 
--- src/packets.rt:93:25
 mul-k-2 : tie.Need-mul-k-2 Inv-loop μ-loop
-mul-k-2 c = ?
+mul-k-2 c = omega (arith, within c)
 
--- src/packets.rt:93:25
 element-copy-out-k : tie.Need-element-copy-out-k Inv-loop μ-loop
-element-copy-out-k c = ?
+element-copy-out-k c = within c .few
 
--- src/packets.rt:93:17
 add-k : tie.Need-add-k Inv-loop μ-loop
-add-k c = ?
+add-k c = omega (arith, within (c .before))
 
--- src/packets.rt:94:33
 mul-moved : tie.Need-mul-moved Inv-loop μ-loop
-mul-moved c = ?
+mul-moved c = omega (arith, within (c .before))
 
--- src/packets.rt:94:33
 shared-slice-copy-out-moved : tie.Need-shared-slice-copy-out-moved Inv-loop μ-loop
-shared-slice-copy-out-moved c = ?
+shared-slice-copy-out-moved c = omega (arith, within (c .before), c .before .before .before .pre)
 
--- src/packets.rt:94:20
 moved-requires : tie.Need-moved-requires Inv-loop μ-loop
-moved-requires c κs = ?
+moved-requires c κs = search needs
 
--- src/packets.rt:94:13
 within-requires : tie.Need-within-requires Inv-loop μ-loop
-within-requires c κs = ?
+within-requires c κs = search needs
 
--- src/packets.rt:95:13
 returns : tie.Need-returns Inv-loop μ-loop
-returns c = ?
+unfolding leavesIn
+returns c =
+    rw (sym (toZ-ofZ (c .before .before .before .before .before .before .before .fits .n)))
+    (let s = c .before .before .before .before .before .before .before in
+    let l = c .before .before .before .before .before .before .loop in
+    array-found _ _ _ _ (l .i) _ (c .before .before .before .before .before .loop-test .taken) (s .pre .inside (l .i) (c .before .before .before .before .before .loop-test .taken)) (l .inv .1) (judged (c .before) ∙ c .if1 .taken))
 
--- src/packets.rt:97:9
 add-i : tie.Need-add-i Inv-loop μ-loop
-add-i c = ?
+add-i c = search needs
 
--- src/packets.rt:92:5
 loop-less : tie.Need-loop-less Inv-loop μ-loop
-loop-less c = ?
+loop-less c = search needs
 
--- src/packets.rt:92:5
 loop-again : tie.Need-loop-again Inv-loop μ-loop
-loop-again c = ?
+loop-again c =
+    let s = c .before .before .before .before .before .before .before in
+    let l = c .before .before .before .before .before .before .loop in (
+      omega arith,
+      array-passed _ _ _ _ (l .i) _ (c .before .before .before .before .before .loop-test .taken) (s .pre .inside (l .i) (c .before .before .before .before .before .loop-test .taken)) (l .inv .1) (judged (c .before) ∙ c .if1 .left),
+    )
 
--- src/packets.rt:99:5
 mul-result : tie.Need-mul-result Inv-loop μ-loop
-mul-result c = ?
+mul-result c = omega (arith, small (c .before .before .args .d) (c .before .before .args .m) (c .before .before .pre .d-high) (c .before .before .pre .m-high))
 
--- src/packets.rt:87:1
 returns-2 : tie.Need-returns-2 Inv-loop μ-loop
-returns-2 c = ?
+unfolding leavesIn
+returns-2 c = rw (sym (toZ-ofZ (c .before .before .fits .n))) (arrays-end _ _ _ _ (c .before .loop .i) _ (omega arith) (c .before .loop .inv .1))
 
 pub first-leaving-spec : {M : Type 1} → statement M
 first-leaving-spec =

@@ -1,41 +1,44 @@
+-- `sketch::packets::fresh` meets its contract.
+use mathlib.Core.Path.{_≡_, sym, ap₂, _∙_}
 use borrow.Author.Needs.{needs}
+use Rattle.sketch.specs.Sketch.{sketch, zeros}
+use Rattle.sketch.proofs.Judging.{kept-old, kept-new}
+use Rattle.sketch.proofs.Rules.{shape-done}
 use Rattle.sketch.proofs.packets.fresh.Statement.{statement}
 use Rattle.sketch.proofs.packets.fresh.Tie as tie
-use Rattle.sketch.proofs.packets.fresh.Reads as reads
-use Rattle.sketch.proofs.packets.fresh.Lts as lts
-use Rattle.sketch.proofs.packets.clear.Reads as clear-reads
-use Rattle.sketch.proofs.params.Params.shape.Reads as shape-reads
 
--- src/packets.rt:35:9
 shape-requires : tie.Need-shape-requires
 shape-requires c κs = search needs
 
 enum-told : tie.Need-enum-told
 enum-told c = search needs
 
--- src/packets.rt:37:9
 enum-told-2 : tie.Need-enum-told-2
 enum-told-2 c = search needs
 
--- src/packets.rt:37:9
 returns : tie.Need-returns
-returns c = ?
+returns c = record { answer = c .before .before .shape .ensures; after = kept-old _ _ _ (c .before .match .keys2) }
 
--- src/packets.rt:39:5
 clear-requires : tie.Need-clear-requires
-clear-requires c κs = ?
+clear-requires c κs =
+    let h = shape-done _ _ _ (sym (c .before .before .before .before .shape .ensures) ∙ c .before .before .enum-told .given .1) in
+    h .1 ∙ sym (h .2)
 
--- src/packets.rt:32:1
 same-length : tie.Need-same-length
 same-length c = search needs
 
--- src/packets.rt:32:1
 same-length-2 : tie.Need-same-length-2
 same-length-2 c = search needs
 
--- src/packets.rt:32:1
 returns-2 : tie.Need-returns-2
-returns-2 c = ?
+unfolding zeros
+returns-2 c =
+    let done = c .before .before .before .before .before .before .enum-told .given .1 in
+    let h = shape-done _ _ _ (sym (c .before .before .before .before .before .before .before .before .shape .ensures) ∙ done) in
+    record {
+      answer = c .before .before .before .before .before .before .before .before .shape .ensures;
+      after = ap₂ sketch (rw (h .1) at (c .before .before .before .clear .ensures .0)) (rw (h .2) at (c .before .before .before .clear .ensures .1)) ∙ kept-new _ _ _ done;
+    }
 
 pub fresh-spec : {M : Type 1} → statement M
 fresh-spec =

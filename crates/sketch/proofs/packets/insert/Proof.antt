@@ -1,34 +1,28 @@
+-- `sketch::packets::insert` meets its contract.
+use mathlib.Core.Path.{_≡_, sym, _∙_}
 use borrow.Author.Needs.{needs}
+use borrow.Author.Tests.{not-true, not-false}
+use Rattle.sketch.proofs.Steps.{not-moved, moved}
 use Rattle.sketch.proofs.packets.insert.Statement.{statement}
 use Rattle.sketch.proofs.packets.insert.Tie as tie
-use Rattle.sketch.proofs.packets.insert.Reads as reads
-use Rattle.sketch.proofs.packets.insert.Lts as lts
-use Rattle.sketch.proofs.packets.step.Reads as step-reads
-use Rattle.sketch.proofs.params.Params.check.Reads as check-reads
 
--- src/packets.rt:194:9
 check-requires : tie.Need-check-requires
 check-requires c κs = search needs
 
--- src/packets.rt:195:9
 returns : tie.Need-returns
-returns c = ?
+returns c = not-moved _ _ _ _ _ (sym (c .before .check .ensures) ∙ not-true _ (c .if1 .taken))
 
--- src/packets.rt:197:5
 step-requires : tie.Need-step-requires
 step-requires c κs = search needs
 
--- src/packets.rt:191:1
 same-length : tie.Need-same-length
 same-length c = search needs
 
--- src/packets.rt:191:1
 same-length-2 : tie.Need-same-length-2
 same-length-2 c = search needs
 
--- src/packets.rt:191:1
 returns-2 : tie.Need-returns-2
-returns-2 c = ?
+returns-2 c = moved _ _ _ _ _ _ _ (sym (c .before .before .before .before .before .before .before .check .ensures) ∙ not-false _ (c .before .before .before .before .before .before .if1 .left)) (c .before .before .before .step .ensures)
 
 pub insert-spec : {M : Type 1} → statement M
 insert-spec =

@@ -1,83 +1,92 @@
+-- `sketch::packets::step` meets its contract: what is judged before a bucket is looked at, then the flow's buckets, then the update.
+use mathlib.Core.Path.{_≡_, sym, _∙_}
+use native.Mathlib.Omega.{arith}
+use lib.ListN.{length}
+use denote.Ref.{now}
+use lib.IntN.{pos}
+use mir.Syntax.{w32}
+use mir.Val.{toZ}
+use mir.ValLaws.{toZ-pos}
 use borrow.Author.Needs.{needs}
+use Rattle.sketch.proofs.Limits.{stretch-within}
+use Rattle.sketch.proofs.Steps.{Let, entry-done, reached, placed-answer, placed-change, has-room, not-let, not-stepped, stepped}
 use Rattle.sketch.proofs.packets.step.Statement.{statement}
 use Rattle.sketch.proofs.packets.step.Tie as tie
-use Rattle.sketch.proofs.packets.step.Reads as reads
-use Rattle.sketch.proofs.packets.step.Lts as lts
-use Rattle.sketch.proofs.buckets.weight.Reads as weight-reads
-use Rattle.sketch.proofs.packets.buckets.Reads as buckets-reads
-use Rattle.sketch.proofs.packets.entry.Reads as entry-reads
-use Rattle.sketch.proofs.packets.put_all.Reads as put-all-reads
-use Rattle.sketch.proofs.params.Params.places.Reads as places-reads
 
--- src/packets.rt:174:9
 entry-requires : tie.Need-entry-requires
 entry-requires c κs = search needs
 
 enum-told : tie.Need-enum-told
 enum-told c = search needs
 
--- src/packets.rt:176:9
 enum-told-2 : tie.Need-enum-told-2
 enum-told-2 c = search needs
 
--- src/packets.rt:176:9
 returns : tie.Need-returns
-returns c = ?
+returns c = not-let _ _ _ _ _ _ (c .before .before .entry .ensures) (c .before .match .keys2)
 
--- src/packets.rt:179:5
+-- what was let in, and its number as a count
+let-in : (c : tie.After-enum-told) → Let (c .before .before .before .before .args .p) (length (now (c .before .before .before .before .args .counts))) (length (now (c .before .before .before .before .args .idsums))) (c .before .before .before .before .args .f) (c .before .before .before .before .args .n)
+let-in c = entry-done _ _ _ _ _ (sym (c .before .before .entry .ensures) ∙ c .enum-told .given .1)
+
+as-count : (c : tie.After-enum-told) → toZ w32 (c .before .before .before .before .args .n) ≡ pos (c .before .before .before .before .args .n)
+as-count c = toZ-pos w32 _ (omega (arith, let-in c .high))
+
 places-requires : tie.Need-places-requires
-places-requires c κs = ?
+places-requires c κs = (let-in (c .before) .sized, search needs)
 
--- src/packets.rt:182:55
 cast-buckets : tie.Need-cast-buckets
-cast-buckets c = ?
+cast-buckets c = record { sfits = omega (arith, let-in (c .before .before .before .before .before) .high) }
 
--- src/packets.rt:182:9
 buckets-requires : tie.Need-buckets-requires
-buckets-requires c κs = ?
+buckets-requires c κs = reached (let-in (c .before .before .before .before .before)) (c .before .before .before .places .ensures)
 
 enum-told-3 : tie.Need-enum-told-3
 enum-told-3 c = search needs
 
--- src/packets.rt:184:9
 enum-told-4 : tie.Need-enum-told-4
 enum-told-4 c = search needs
 
--- src/packets.rt:184:9
 same-length : tie.Need-same-length
 same-length c = search needs
 
--- src/packets.rt:184:9
 same-length-2 : tie.Need-same-length-2
 same-length-2 c = search needs
 
--- src/packets.rt:184:9
 returns-2 : tie.Need-returns-2
-returns-2 c = ?
+returns-2 c =
+    let s = c .before .before .before .before .before .before .before .before .before .before .before .before in
+    not-stepped (s .args .minus) (s .args .p) (s .args .f) (s .args .n) _ _ (sym (c .before .before .before .before .before .before .before .before .before .before .entry .ensures) ∙ c .before .before .before .before .before .before .before .before .enum-told .given .1)
+    (placed-answer (c .before .before .before .before .before .before .places .ensures) (s .args .minus) _ (s .args .n) (as-count (c .before .before .before .before .before .before .before .before)) _ _ (c .before .before .buckets .ensures)) (c .before .match2 .keys2)
 
--- src/packets.rt:186:47
 cast-put-all : tie.Need-cast-put-all
-cast-put-all c = ?
+cast-put-all c = record { sfits = omega (arith, let-in (c .before .before .before .before .before .before .before .before .before .before .before) .high) }
 
--- src/packets.rt:186:57
 weight-requires : tie.Need-weight-requires
 weight-requires c κs = search needs
 
--- src/packets.rt:186:5
 put-all-requires : tie.Need-put-all-requires
-put-all-requires c κs = ?
+put-all-requires c κs =
+    let l = let-in (c .before .before .before .before .before .before .before .before .before .before .before .before) in
+    let r = reached l (c .before .before .before .before .before .before .before .before .before .before .places .ensures) in (
+      r,
+      (λ i h. has-room _ _ _ _ _ _ (sym (c .before .before .before .before .before .before .buckets .ensures) ∙ c .before .before .before .before .enum-told3 .given .1) i h (r .inside i h) (stretch-within _ _ i h)),
+    )
 
--- src/packets.rt:164:1
 same-length-3 : tie.Need-same-length-3
 same-length-3 c = search needs
 
--- src/packets.rt:164:1
 same-length-4 : tie.Need-same-length-4
 same-length-4 c = search needs
 
--- src/packets.rt:164:1
 returns-3 : tie.Need-returns-3
-returns-3 c = ?
+returns-3 c =
+    let s = c .before .before .before .before .before .before .before .before .before .before .before .before .before .before .before .before .before .before .before .before in
+    let p = c .before .before .before .before .before .before .before .before .before .before .before .before .before .before .places .ensures in
+    let n = as-count (c .before .before .before .before .before .before .before .before .before .before .before .before .before .before .before .before) in
+    stepped (s .args .minus) (s .args .p) (s .args .f) (s .args .n) _ _ _ (sym (c .before .before .before .before .before .before .before .before .before .before .before .before .before .before .before .before .before .before .entry .ensures) ∙ c .before .before .before .before .before .before .before .before .before .before .before .before .before .before .before .before .enum-told .given .1)
+    (placed-answer p (s .args .minus) _ (s .args .n) n _ _ (c .before .before .before .before .before .before .before .before .before .before .buckets .ensures)) (c .before .before .before .before .before .before .before .before .enum-told3 .given .1)
+    (placed-change p (s .args .minus) _ (s .args .n) n _ _ _ _ (c .before .before .before .before .weight .ensures) (c .before .before .before .put-all .ensures))
 
 pub step-spec : {M : Type 1} → statement M
 step-spec =

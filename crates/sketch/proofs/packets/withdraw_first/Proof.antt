@@ -1,62 +1,74 @@
+-- `sketch::packets::withdraw_first` meets its contract. The invariant: the sketch is what the first i packets made of the one they went into.
+use mathlib.Core.Path.{_≡_, refl, sym, _∙_}
+use Prim.Native.Nat.{_≤_}
+use native.Mathlib.Omega.{arith}
+use lib.ListN.{length, take}
+use denote.Ref.{now}
+use borrow.Author.Needs.{needs}
+use Rattle.sketch.specs.Sketch.{Sketch, sketch}
+use Rattle.sketch.specs.Packets.{after, Accepted}
+use Rattle.sketch.proofs.ManyPackets.{Long, stepped-long, unwind}
 use Rattle.sketch.proofs.packets.withdraw_first.Statement.{statement}
 use Rattle.sketch.proofs.packets.withdraw_first.Tie as tie
-use Rattle.sketch.proofs.packets.withdraw_first.Reads as reads
-use Rattle.sketch.proofs.packets.withdraw_first.Lts as lts
-use Rattle.sketch.proofs.packets.step.Reads as step-reads
 
 abbrev Inv-loop : tie.InvT-loop
-Inv-loop p counts₀ idsums₀ flows numbers n i₀ counts idsums i = ?
+Inv-loop p counts₀ idsums₀ flows numbers n i₀ counts idsums i =
+    (i ≤ n)
+    × (length counts ≡ length counts₀)
+    × (length idsums ≡ length idsums₀)
+    × ((S : Sketch) → Accepted p flows numbers S n → sketch counts₀ idsums₀ ≡ after p (take n flows) (take n numbers) S → sketch counts idsums ≡ after p (take i flows) (take i numbers) S)
 
 abbrev μ-loop : tie.MeasureT-loop
-μ-loop p counts₀ idsums₀ flows numbers n i₀ counts idsums i = ?
+μ-loop p counts₀ idsums₀ flows numbers n i₀ counts idsums i = i
 
--- src/packets.rt:223:5
 loop-holds : tie.Need-loop-holds Inv-loop μ-loop
-loop-holds c = ?
+loop-holds c = (search needs, refl, refl, (λ S a e. e))
 
--- src/packets.rt:224:9
 sub-i : tie.Need-sub-i Inv-loop μ-loop
-sub-i c = ?
+sub-i c = search needs
 
--- src/packets.rt:225:39
 mul-step : tie.Need-mul-step Inv-loop μ-loop
-mul-step c = ?
+mul-step c = search needs
 
--- src/packets.rt:225:39
 shared-slice-read-step : tie.Need-shared-slice-read-step Inv-loop μ-loop
-shared-slice-read-step c = ?
+shared-slice-read-step c = omega arith
 
--- src/packets.rt:225:49
 mul-step-2 : tie.Need-mul-step-2 Inv-loop μ-loop
-mul-step-2 c = ?
+mul-step-2 c = search needs
 
--- src/packets.rt:225:49
 shared-slice-read-step-2 : tie.Need-shared-slice-read-step-2 Inv-loop μ-loop
-shared-slice-read-step-2 c = ?
+shared-slice-read-step-2 c = omega arith
 
--- src/packets.rt:225:9
 step-requires : tie.Need-step-requires Inv-loop μ-loop
-step-requires c κs = ?
+step-requires c κs = search needs
 
--- src/packets.rt:223:5
 loop-less : tie.Need-loop-less Inv-loop μ-loop
-loop-less c = ?
+loop-less c = search needs
 
--- src/packets.rt:223:5
 loop-again : tie.Need-loop-again Inv-loop μ-loop
-loop-again c = ?
+loop-again c =
+    let s = c .before .before .before .before .before .before .before .before .before .before .before .before .before in
+    let l = c .before .before .before .before .before .before .before .before .before .loop in
+    let z = c .before .before .before .step .ensures in
+    let long = stepped-long z in (
+      omega arith,
+      long .counts ∙ l .inv .1,
+      long .idsums ∙ l .inv .2,
+      (λ S a e. unwind _ _ _ S (l .i) _ _ _ (c .before .before .before .before .before .before .before .before .loop-test .taken) (omega arith) (omega arith) (λ j m. a j (omega arith)) (l .inv .3 S a e) z),
+    )
 
--- src/packets.rt:211:1
 same-length : tie.Need-same-length Inv-loop μ-loop
-same-length c = ?
+same-length c = c .before .loop .inv .1
 
--- src/packets.rt:211:1
 same-length-2 : tie.Need-same-length-2 Inv-loop μ-loop
-same-length-2 c = ?
+same-length-2 c = c .before .loop .inv .2
 
--- src/packets.rt:211:1
 returns : tie.Need-returns Inv-loop μ-loop
-returns c = ?
+unfolding after
+returns c =
+    let l = c .before .loop in
+    let none : l .i ≡ 0 = omega arith in
+    record { back = λ S a e. rw none at (l .inv .3 S a e) }
 
 pub withdraw-first-spec : {M : Type 1} → statement M
 withdraw-first-spec =

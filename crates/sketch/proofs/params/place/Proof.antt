@@ -1,32 +1,31 @@
+-- `sketch::params::place` meets its contract: the product and the sum fit the wide width.
+use Prim.Native.Nat.{_*_, _≤_}
+use native.Mathlib.Omega.{arith}
+use native.Mathlib.Nat.{mod-lt, mul-le-mul}
 use borrow.Author.Needs.{needs}
 use Rattle.sketch.proofs.params.place.Statement.{statement}
 use Rattle.sketch.proofs.params.place.Tie as tie
-use Rattle.sketch.proofs.params.place.Reads as reads
-use Rattle.sketch.proofs.params.place.Lts as lts
 
--- src/params.rt:104:7
+product-fits : (c : tie.Start) → c .args .a * c .args .f ≤ 4294967295 * 4294967295
+product-fits c = mul-le-mul {n₁ = c .args .a} {m₁ = c .args .f} {n₂ = 4294967295} {m₂ = 4294967295} (omega arith) (omega arith)
+
 mul-result : tie.Need-mul-result
-mul-result c = ?
+mul-result c = omega (arith, product-fits c)
 
--- src/params.rt:104:7
 add-result : tie.Need-add-result
-add-result c = ?
+add-result c = omega (arith, product-fits c)
 
--- src/params.rt:104:41
 cast-result : tie.Need-cast-result
 cast-result c = search needs
 
--- src/params.rt:104:6
 rem-result : tie.Need-rem-result
 rem-result c = search needs
 
--- src/params.rt:104:5
 rem-result-2 : tie.Need-rem-result-2
 rem-result-2 c = search needs
 
--- src/params.rt:100:1
 returns : tie.Need-returns
-returns c = ?
+returns c = (search needs, mod-lt _ (search needs))
 
 pub place-spec : {M : Type 1} → statement M
 place-spec = tie.close (tie.spec mul-result add-result cast-result rem-result rem-result-2 returns)

@@ -1,63 +1,71 @@
+-- `sketch::sums::first_leaving` meets its contract. The loop's invariant: the search from `i` on gives what the whole search gives.
+use Prim.Native.Nat.{_-_, _≤_}
+use native.Mathlib.Omega.{arith}
+use mathlib.Core.Path.{_≡_, sym, ap, _∙_}
+use mathlib.Core.Bool.{not}
+use lib.ListN.{length}
+use denote.Ref.{now}
+use mir.Syntax.{w32, w64}
+use borrow.Author.Needs.{needs}
+use Rattle.field.proofs.Casts.{back}
+use Rattle.sketch.specs.Lists.{least}
+use Rattle.sketch.specs.Buckets.{inLimits}
+use Rattle.sketch.specs.Sums.{leaves}
+use Rattle.sketch.proofs.Searches.{scan-start, scan-next, scan-found, scan-end}
 use Rattle.sketch.proofs.sums.first_leaving.Statement.{statement}
 use Rattle.sketch.proofs.sums.first_leaving.Tie as tie
-use Rattle.sketch.proofs.sums.first_leaving.Reads as reads
-use Rattle.sketch.proofs.sums.first_leaving.Lts as lts
-use Rattle.sketch.proofs.buckets.moved.Reads as moved-reads
-use Rattle.sketch.proofs.buckets.within.Reads as within-reads
 
 abbrev Inv-loop : tie.InvT-loop
-Inv-loop minus counts others i₀ i = ?
+Inv-loop minus counts others i₀ i = (i ≤ length counts) × (least 0 (length counts) (leaves minus counts others) ≡ least i (length counts - i) (leaves minus counts others))
 
 abbrev μ-loop : tie.MeasureT-loop
-μ-loop minus counts others i₀ i = ?
+μ-loop minus counts others i₀ i = length counts - i
 
--- src/sums.rt:59:5
+-- the bucket that a turn looked at
+judged : (c : tie.After-within Inv-loop μ-loop)
+    → let s = c .before .before .before .before .before in
+    leaves (s .before .args .minus) (now (s .before .args .counts)) (now (s .before .args .others)) (s .loop .i) ≡ not (c .within .result)
+unfolding leaves
+judged c =
+    let e = rw (back w64 _ (c .before .moved .ok)) at (c .within .ensures) in
+    let h = rw (back w32 _ (c .before .before .before .moved-arg .given), back w32 _ (c .before .before .moved-arg2 .given)) at (c .before .moved .ensures) in
+    ap not (sym (e ∙ ap inLimits h))
+
 loop-holds : tie.Need-loop-holds Inv-loop μ-loop
-loop-holds c = ?
+loop-holds c = (search needs, scan-start _ _)
 
--- src/sums.rt:60:33
 mul-moved : tie.Need-mul-moved Inv-loop μ-loop
-mul-moved c = ?
+mul-moved c = search needs
 
--- src/sums.rt:60:33
 shared-slice-copy-out-moved : tie.Need-shared-slice-copy-out-moved Inv-loop μ-loop
-shared-slice-copy-out-moved c = ?
+shared-slice-copy-out-moved c = search needs
 
--- src/sums.rt:60:44
 mul-moved-2 : tie.Need-mul-moved-2 Inv-loop μ-loop
-mul-moved-2 c = ?
+mul-moved-2 c = search needs
 
--- src/sums.rt:60:44
 shared-slice-copy-out-moved-2 : tie.Need-shared-slice-copy-out-moved-2 Inv-loop μ-loop
-shared-slice-copy-out-moved-2 c = ?
+shared-slice-copy-out-moved-2 c = search needs
 
--- src/sums.rt:60:20
 moved-requires : tie.Need-moved-requires Inv-loop μ-loop
-moved-requires c κs = ?
+moved-requires c κs = search needs
 
--- src/sums.rt:60:13
 within-requires : tie.Need-within-requires Inv-loop μ-loop
-within-requires c κs = ?
+within-requires c κs = search needs
 
--- src/sums.rt:61:13
 returns : tie.Need-returns Inv-loop μ-loop
-returns c = ?
+returns c = scan-found _ _ _ _ (omega arith) (judged (c .before) ∙ c .if1 .taken) (c .before .before .before .before .before .before .loop .inv .1)
 
--- src/sums.rt:63:9
 add-i : tie.Need-add-i Inv-loop μ-loop
-add-i c = ?
+add-i c = search needs
 
--- src/sums.rt:59:5
 loop-less : tie.Need-loop-less Inv-loop μ-loop
-loop-less c = ?
+loop-less c = search needs
 
--- src/sums.rt:59:5
 loop-again : tie.Need-loop-again Inv-loop μ-loop
-loop-again c = ?
+loop-again c = (search needs, scan-next _ _ _ _ (omega arith) (judged (c .before) ∙ c .if1 .left) (c .before .before .before .before .before .before .loop .inv .1))
 
--- src/sums.rt:54:1
 returns-2 : tie.Need-returns-2 Inv-loop μ-loop
-returns-2 c = ?
+returns-2 c = scan-end _ _ _ _ (omega arith) (c .before .loop .inv .1)
 
 pub first-leaving-spec : {M : Type 1} → statement M
 first-leaving-spec =

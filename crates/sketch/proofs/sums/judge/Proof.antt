@@ -1,46 +1,55 @@
+-- `sketch::sums::judge` meets its contract: the shapes, then the first damaged bucket, then the first that would leave its limits.
+use mathlib.Core.Path.{_≡_, sym, _∙_}
+use denote.Ref.{now}
+use lib.ListN.{length}
 use borrow.Author.Needs.{needs}
+use Rattle.sketch.specs.declared.answers.Answer.the-variants.{Done}
+use Rattle.sketch.specs.Sums.{shapesAnswer, bucketsAnswer, combineAnswer}
+use Rattle.sketch.proofs.Judging.{first-refused, first-passed, refuse-found, refuse-past}
+use Rattle.sketch.proofs.TwoSketches.{shapes-done}
 use Rattle.sketch.proofs.sums.judge.Statement.{statement}
 use Rattle.sketch.proofs.sums.judge.Tie as tie
-use Rattle.sketch.proofs.sums.judge.Reads as reads
-use Rattle.sketch.proofs.sums.judge.Lts as lts
-use Rattle.sketch.proofs.sums.first_damaged.Reads as first-damaged-reads
-use Rattle.sketch.proofs.sums.first_leaving.Reads as first-leaving-reads
-use Rattle.sketch.proofs.sums.shapes.Reads as shapes-reads
 
--- src/sums.rt:80:9
+-- the shapes were passed
+shaped : (c : tie.After-enum-told) → shapesAnswer (c .before .before .before .before .before .args .p) (c .before .before .before .before .before .args .q) (length (now (c .before .before .before .before .before .args .counts))) (length (now (c .before .before .before .before .before .args .idsums))) (length (now (c .before .before .before .before .before .args .others))) (length (now (c .before .before .before .before .before .args .weights))) ≡ Done
+shaped c = sym (c .before .before .shapes .ensures) ∙ c .enum-told .given .1
+
 shapes-requires : tie.Need-shapes-requires
 shapes-requires c κs = search needs
 
 enum-told : tie.Need-enum-told
 enum-told c = search needs
 
--- src/sums.rt:89:9
 enum-told-2 : tie.Need-enum-told-2
 enum-told-2 c = search needs
 
--- src/sums.rt:89:9
 returns : tie.Need-returns
-returns c = ?
+unfolding combineAnswer
+returns c = rw (← c .before .before .shapes .ensures) (first-refused _ _ (c .before .match .keys2))
 
--- src/sums.rt:91:9
 first-damaged-requires : tie.Need-first-damaged-requires
-first-damaged-requires c κs = ?
+first-damaged-requires c κs = shapes-done _ _ _ _ _ _ (shaped c)
 
--- src/sums.rt:93:9
 returns-2 : tie.Need-returns-2
-returns-2 c = ?
+unfolding combineAnswer bucketsAnswer
+returns-2 c = refuse-found _ _ _ _ _ (c .before .first-damaged .ensures) (c .if1 .taken) ∙ sym (first-passed _ _ (shaped (c .before .before)))
 
--- src/sums.rt:95:9
 first-leaving-requires : tie.Need-first-leaving-requires
-first-leaving-requires c κs = ?
+first-leaving-requires c κs = shapes-done _ _ _ _ _ _ (shaped (c .before .before)) .1
 
--- src/sums.rt:97:9
 returns-3 : tie.Need-returns-3
-returns-3 c = ?
+unfolding combineAnswer bucketsAnswer
+returns-3 c =
+    refuse-found _ _ _ _ _ (c .before .first-leaving .ensures) (c .if2 .taken)
+    ∙ refuse-past _ _ _ _ _ (c .before .before .before .first-damaged .ensures) (c .before .before .if1 .left)
+    ∙ sym (first-passed _ _ (shaped (c .before .before .before .before)))
 
--- src/sums.rt:69:1
 returns-4 : tie.Need-returns-4
-returns-4 c = ?
+unfolding combineAnswer bucketsAnswer
+returns-4 c =
+    refuse-past _ _ _ _ _ (c .before .first-leaving .ensures) (c .if2 .left)
+    ∙ refuse-past _ _ _ _ _ (c .before .before .before .first-damaged .ensures) (c .before .before .if1 .left)
+    ∙ sym (first-passed _ _ (shaped (c .before .before .before .before)))
 
 pub judge-spec : {M : Type 1} → statement M
 judge-spec =

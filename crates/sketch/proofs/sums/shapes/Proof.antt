@@ -1,58 +1,72 @@
+-- `sketch::sums::shapes` meets its contract: each test that fails is the first that the answer tells.
+use mathlib.Core.Path.{_≡_, sym, _∙_}
+use mathlib.Core.Bool.{true}
+use borrow.Author.Tests.{not-true, not-false}
 use borrow.Author.Needs.{needs}
+use Rattle.sketch.specs.Answers.{first}
+use Rattle.sketch.specs.Params.{goodParams, sameParams}
+use Rattle.sketch.specs.Sums.{shapesAnswer}
+use Rattle.sketch.proofs.Judging.{first-refused}
+use Rattle.sketch.proofs.Rules.{sized, good-sized}
 use Rattle.sketch.proofs.sums.shapes.Statement.{statement}
 use Rattle.sketch.proofs.sums.shapes.Tie as tie
-use Rattle.sketch.proofs.sums.shapes.Reads as reads
-use Rattle.sketch.proofs.sums.shapes.Lts as lts
-use Rattle.sketch.proofs.params.Params.check.Reads as check-reads
-use Rattle.sketch.proofs.params.Params.lengths.Reads as lengths-reads
-use Rattle.sketch.proofs.params.Params.same.Reads as same-reads
 
--- src/sums.rt:19:9
+-- what the tests that were passed tell
+good-first : (c : tie.Else1) → goodParams (c .before .before .args .p) ≡ true
+good-first c = sym (c .before .check .ensures) ∙ not-false _ (c .if1 .left)
+
+good-second : (c : tie.Else2) → goodParams (c .before .before .before .before .args .q) ≡ true
+good-second c = sym (c .before .check2 .ensures) ∙ not-false _ (c .if2 .left)
+
+alike : (c : tie.Else3) → sameParams (c .before .before .before .before .before .before .args .p) (c .before .before .before .before .before .before .args .q) ≡ true
+alike c = sym (c .before .same .ensures) ∙ not-false _ (c .if3 .left)
+
 check-requires : tie.Need-check-requires
 check-requires c κs = search needs
 
--- src/sums.rt:20:9
 returns : tie.Need-returns
-returns c = ?
+unfolding shapesAnswer
+returns c = rw (sym (c .before .check .ensures) ∙ not-true _ (c .if1 .taken))
 
--- src/sums.rt:22:9
 check-requires-2 : tie.Need-check-requires-2
 check-requires-2 c κs = search needs
 
--- src/sums.rt:23:9
 returns-2 : tie.Need-returns-2
-returns-2 c = ?
+unfolding shapesAnswer
+returns-2 c = rw (good-first (c .before .before), sym (c .before .check2 .ensures) ∙ not-true _ (c .if2 .taken))
 
--- src/sums.rt:25:9
 same-requires : tie.Need-same-requires
 same-requires c κs = search needs
 
--- src/sums.rt:26:9
 returns-3 : tie.Need-returns-3
-returns-3 c = ?
+unfolding shapesAnswer
+returns-3 c =
+    let s = c .before .before in
+    rw (good-first (s .before .before), good-second s, sym (c .before .same .ensures) ∙ not-true _ (c .if3 .taken))
 
--- src/sums.rt:28:9
 lengths-requires : tie.Need-lengths-requires
-lengths-requires c κs = ?
+lengths-requires c κs = sized _ (good-sized _ (good-first (c .before .before .before .before)))
 
 enum-told : tie.Need-enum-told
 enum-told c = search needs
 
--- src/sums.rt:30:9
 enum-told-2 : tie.Need-enum-told-2
 enum-told-2 c = search needs
 
--- src/sums.rt:30:9
 returns-4 : tie.Need-returns-4
-returns-4 c = ?
+unfolding shapesAnswer
+returns-4 c =
+    let s = c .before .before .before in
+    rw (good-first (s .before .before .before .before), good-second (s .before .before), alike s, ← c .before .before .lengths .ensures) (first-refused _ _ (c .before .match .keys2))
 
--- src/sums.rt:32:5
 lengths-requires-2 : tie.Need-lengths-requires-2
-lengths-requires-2 c κs = ?
+lengths-requires-2 c κs = sized _ (good-sized _ (good-first (c .before .before .before .before .before .before .before)))
 
--- src/sums.rt:16:1
 returns-5 : tie.Need-returns-5
-returns-5 c = ?
+unfolding shapesAnswer first
+returns-5 c =
+    let s = c .before .before .before .before in
+    rw (good-first (s .before .before .before .before), good-second (s .before .before), alike s, sym (c .before .before .before .lengths .ensures) ∙ c .before .enum-told .given .1) (c .lengths2 .ensures)
 
 pub shapes-spec : {M : Type 1} → statement M
 shapes-spec =

@@ -1,33 +1,38 @@
+-- `sketch::params::Params::asked` meets its contract: the parameters, then the array, then the flow.
+use mathlib.Core.Path.{_≡_, sym, _∙_}
+use mathlib.Core.Bool.{true}
+use borrow.Author.Tests.{le-leb, lt-leb, lt-ltb, le-ltb, not-true, not-false}
+use Rattle.sketch.specs.Params.{prime, goodParams}
+use Rattle.sketch.specs.Places.{standAnswer}
 use borrow.Author.Needs.{needs}
 use Rattle.sketch.proofs.params.Params.asked.Statement.{statement}
 use Rattle.sketch.proofs.params.Params.asked.Tie as tie
-use Rattle.sketch.proofs.params.Params.asked.Reads as reads
-use Rattle.sketch.proofs.params.Params.asked.Lts as lts
-use Rattle.sketch.proofs.params.Params.check.Reads as check-reads
 
--- src/params.rt:215:13
+passed : (c : tie.Else1) → goodParams (c .before .before .args .self) ≡ true
+passed c = sym (c .before .check .ensures) ∙ not-false _ (c .if1 .left)
+
 check-requires : tie.Need-check-requires
 check-requires c κs = search needs
 
--- src/params.rt:216:13
 returns : tie.Need-returns
-returns c = ?
+unfolding standAnswer
+returns c = simp (sym (c .before .check .ensures) ∙ not-true _ (c .if1 .taken))
 
--- src/params.rt:219:13
 returns-2 : tie.Need-returns-2
-returns-2 c = ?
+unfolding standAnswer
+returns-2 c = simp (passed (c .before), lt-leb 1 _ (c .if2 .taken))
 
--- src/params.rt:222:13
 returns-3 : tie.Need-returns-3
-returns-3 c = ?
+unfolding standAnswer
+returns-3 c = simp (passed (c .before .before .before), le-leb 1 _ (c .before .before .if2 .left), lt-leb _ _ (c .if3 .taken))
 
--- src/params.rt:225:13
 returns-4 : tie.Need-returns-4
-returns-4 c = ?
+unfolding standAnswer
+returns-4 c = simp (passed (c .before .before .before .before), le-leb 1 _ (c .before .before .before .if2 .left), le-leb _ _ (c .before .if3 .left), le-ltb _ prime (c .if4 .taken))
 
--- src/params.rt:212:5
 returns-5 : tie.Need-returns-5
-returns-5 c = ?
+unfolding standAnswer
+returns-5 c = simp (passed (c .before .before .before .before), le-leb 1 _ (c .before .before .before .if2 .left), le-leb _ _ (c .before .if3 .left), lt-ltb _ prime (c .if4 .left))
 
 pub asked-spec : {M : Type 1} → statement M
 asked-spec = tie.close (tie.spec check-requires returns returns-2 returns-3 returns-4 returns-5)

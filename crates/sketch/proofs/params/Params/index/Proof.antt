@@ -1,50 +1,54 @@
+-- `sketch::params::Params::index` meets its contract: what was asked is right, and the bucket is one of the sketch, or the caller is told why not.
+use mathlib.Core.Path.{sym, ap, _∙_}
+use Prim.Native.Nat.{ℕ, _+_, _-_, _*_, _≤_}
+use native.Mathlib.Omega.{arith}
+use Rattle.sketch.specs.Params.{Sized}
+use Rattle.sketch.proofs.Limits.{stretch-within, small}
+use Rattle.sketch.proofs.Rules.{asked-done, spot-at, no-spot}
 use borrow.Author.Needs.{needs}
 use Rattle.sketch.proofs.params.Params.index.Statement.{statement}
 use Rattle.sketch.proofs.params.Params.index.Tie as tie
-use Rattle.sketch.proofs.params.Params.index.Reads as reads
-use Rattle.sketch.proofs.params.Params.index.Lts as lts
-use Rattle.sketch.proofs.params.Params.asked.Reads as asked-reads
-use Rattle.sketch.proofs.params.Params.spot.Reads as spot-reads
 
--- src/params.rt:245:13
+right : (c : tie.After-enum-told) → let s = c .before .before .before .args in Sized (s .self) × (1 ≤ s .i) × (s .i ≤ s .self .d)
+right c = asked-done _ _ _ (sym (c .before .before .asked .ensures) ∙ c .enum-told .given .1)
+
+within : (c : tie.After-enum-told) → let s = c .before .before .before .args in (s .i - 1) * s .self .m + s .self .m ≤ 65536
+within c =
+    let h = right c in
+    let s = c .before .before .before .args in
+    omega (arith, stretch-within (s .self .d) (s .self .m) (s .i - 1) (omega arith), small (s .self .d) (s .self .m) (h .0 .d-high) (h .0 .m-high))
+
 asked-requires : tie.Need-asked-requires
 asked-requires c κs = search needs
 
--- src/params.rt:247:39
 enum-told : tie.Need-enum-told
 enum-told c = search needs
 
--- src/params.rt:247:39
 sub-t8 : tie.Need-sub-t8
-sub-t8 c = ?
+sub-t8 c = right c .1
 
--- src/params.rt:247:38
 mul-t9 : tie.Need-mul-t9
-mul-t9 c = ?
+mul-t9 c = omega (arith, within (c .before))
 
--- src/params.rt:247:67
 sub-spot : tie.Need-sub-spot
-sub-spot c = ?
+sub-spot c = right (c .before) .1
 
--- src/params.rt:247:57
 spot-requires : tie.Need-spot-requires
-spot-requires c κs = ?
+spot-requires c κs = let h = right (c .before) in (h .0, omega arith)
 
--- src/params.rt:247:38
 add-t12 : tie.Need-add-t12
-add-t12 c = ?
+add-t12 c = omega (arith, c .spot .ensures .1, within (c .before .before))
 
--- src/params.rt:248:29
 enum-known-asked : tie.Need-enum-known-asked
 enum-known-asked c = search needs
 
--- src/params.rt:242:5
 returns : tie.Need-returns
-returns c = ?
+returns c =
+    let s = c .before .before .before .before .before .args in
+    spot-at _ _ _ _ (c .before .before .before .before .asked .ensures) (c .before .before .enum-told .given .1) (ap (λ (k : ℕ). (s .i - 1) * s .self .m + k) (c .spot .ensures .0))
 
--- src/params.rt:242:5
 returns-2 : tie.Need-returns-2
-returns-2 c = ?
+returns-2 c = no-spot _ _ _ _ _ (c .before .before .before .asked .ensures) (c .before .asked2 .given .1)
 
 pub index-spec : {M : Type 1} → statement M
 index-spec =

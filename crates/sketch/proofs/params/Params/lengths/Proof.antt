@@ -1,23 +1,25 @@
+-- `sketch::params::Params::lengths` meets its contract: each length is the size, which fits, or not.
+use native.Mathlib.Omega.{arith}
+use borrow.Author.Tests.{eq-eqb, ne-eqb}
+use Rattle.sketch.specs.Params.{lengthsAnswer}
+use Rattle.sketch.proofs.Limits.{small}
 use Rattle.sketch.proofs.params.Params.lengths.Statement.{statement}
 use Rattle.sketch.proofs.params.Params.lengths.Tie as tie
-use Rattle.sketch.proofs.params.Params.lengths.Reads as reads
-use Rattle.sketch.proofs.params.Params.lengths.Lts as lts
 
--- src/params.rt:181:20
 mul-size : tie.Need-mul-size
-mul-size c = ?
+mul-size c = omega (arith, small _ _ (c .before .pre .d-high) (c .before .pre .m-high))
 
--- src/params.rt:183:13
 returns : tie.Need-returns
-returns c = ?
+unfolding lengthsAnswer
+returns c = simp (ne-eqb _ _ (c .if1 .taken))
 
--- src/params.rt:186:13
 returns-2 : tie.Need-returns-2
-returns-2 c = ?
+unfolding lengthsAnswer
+returns-2 c = simp (eq-eqb _ _ (c .before .if1 .left), ne-eqb _ _ (c .if2 .taken))
 
--- src/params.rt:177:5
 returns-3 : tie.Need-returns-3
-returns-3 c = ?
+unfolding lengthsAnswer
+returns-3 c = simp (eq-eqb _ _ (c .before .if1 .left), eq-eqb _ _ (c .if2 .left))
 
 pub lengths-spec : {M : Type 1} → statement M
 lengths-spec = tie.close (tie.spec mul-size returns returns-2 returns-3)

@@ -1,38 +1,36 @@
+-- `sketch::params::Params::position` meets its contract: what was asked is right, or the caller is told why not.
+use mathlib.Core.Path.{sym, _∙_}
+use Prim.Native.Nat.{_≤_}
+use native.Mathlib.Omega.{arith}
+use Rattle.sketch.specs.Params.{Sized}
+use Rattle.sketch.proofs.Rules.{asked-done, spot-at, no-spot}
 use borrow.Author.Needs.{needs}
 use Rattle.sketch.proofs.params.Params.position.Statement.{statement}
 use Rattle.sketch.proofs.params.Params.position.Tie as tie
-use Rattle.sketch.proofs.params.Params.position.Reads as reads
-use Rattle.sketch.proofs.params.Params.position.Lts as lts
-use Rattle.sketch.proofs.params.Params.asked.Reads as asked-reads
-use Rattle.sketch.proofs.params.Params.spot.Reads as spot-reads
 
--- src/params.rt:234:13
+right : (c : tie.After-enum-told) → let s = c .before .before .before .args in Sized (s .self) × (1 ≤ s .i) × (s .i ≤ s .self .d)
+right c = asked-done _ _ _ (sym (c .before .before .asked .ensures) ∙ c .enum-told .given .1)
+
 asked-requires : tie.Need-asked-requires
 asked-requires c κs = search needs
 
--- src/params.rt:236:48
 enum-told : tie.Need-enum-told
 enum-told c = search needs
 
--- src/params.rt:236:48
 sub-spot : tie.Need-sub-spot
-sub-spot c = ?
+sub-spot c = right c .1
 
--- src/params.rt:236:38
 spot-requires : tie.Need-spot-requires
-spot-requires c κs = ?
+spot-requires c κs = let h = right c in (h .0, omega arith)
 
--- src/params.rt:237:29
 enum-known-asked : tie.Need-enum-known-asked
 enum-known-asked c = search needs
 
--- src/params.rt:231:5
 returns : tie.Need-returns
-returns c = ?
+returns c = spot-at _ _ _ _ (c .before .before .before .asked .ensures) (c .before .enum-told .given .1) (c .spot .ensures .0)
 
--- src/params.rt:231:5
 returns-2 : tie.Need-returns-2
-returns-2 c = ?
+returns-2 c = no-spot _ _ _ _ _ (c .before .before .before .asked .ensures) (c .before .asked2 .given .1)
 
 pub position-spec : {M : Type 1} → statement M
 position-spec =

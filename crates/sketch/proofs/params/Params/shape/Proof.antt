@@ -1,26 +1,29 @@
+-- `sketch::params::Params::shape` meets its contract: the parameters, then the lengths.
+use mathlib.Core.Path.{_≡_, sym, _∙_}
+use mathlib.Core.Bool.{true}
+use borrow.Author.Tests.{not-true, not-false}
+use Rattle.sketch.specs.Params.{goodParams, shapeAnswer}
+use Rattle.sketch.proofs.Rules.{sized, good-sized}
 use borrow.Author.Needs.{needs}
 use Rattle.sketch.proofs.params.Params.shape.Statement.{statement}
 use Rattle.sketch.proofs.params.Params.shape.Tie as tie
-use Rattle.sketch.proofs.params.Params.shape.Reads as reads
-use Rattle.sketch.proofs.params.Params.shape.Lts as lts
-use Rattle.sketch.proofs.params.Params.check.Reads as check-reads
-use Rattle.sketch.proofs.params.Params.lengths.Reads as lengths-reads
 
--- src/params.rt:205:13
+passed : (c : tie.Else1) → goodParams (c .before .before .args .self) ≡ true
+passed c = sym (c .before .check .ensures) ∙ not-false _ (c .if1 .left)
+
 check-requires : tie.Need-check-requires
 check-requires c κs = search needs
 
--- src/params.rt:206:13
 returns : tie.Need-returns
-returns c = ?
+unfolding shapeAnswer
+returns c = simp (sym (c .before .check .ensures) ∙ not-true _ (c .if1 .taken))
 
--- src/params.rt:208:9
 lengths-requires : tie.Need-lengths-requires
-lengths-requires c κs = ?
+lengths-requires c κs = sized _ (good-sized _ (passed c))
 
--- src/params.rt:202:5
 returns-2 : tie.Need-returns-2
-returns-2 c = ?
+unfolding shapeAnswer
+returns-2 c = simp (passed (c .before)) (c .lengths .ensures)
 
 pub shape-spec : {M : Type 1} → statement M
 shape-spec = tie.close (tie.spec check-requires returns lengths-requires returns-2)

@@ -1,25 +1,31 @@
+-- `sketch::params::Params::size` meets its contract: parameters that keep the rules have a size that fits.
+use mathlib.Core.Path.{_≡_, sym, _∙_}
+use mathlib.Core.Bool.{true}
+use native.Mathlib.Omega.{arith}
+use borrow.Author.Tests.{not-true, not-false}
+use Rattle.sketch.specs.Params.{goodParams}
+use Rattle.sketch.proofs.Limits.{small}
+use Rattle.sketch.proofs.Rules.{sized, good-sized}
 use borrow.Author.Needs.{needs}
 use Rattle.sketch.proofs.params.Params.size.Statement.{statement}
 use Rattle.sketch.proofs.params.Params.size.Tie as tie
-use Rattle.sketch.proofs.params.Params.size.Reads as reads
-use Rattle.sketch.proofs.params.Params.size.Lts as lts
-use Rattle.sketch.proofs.params.Params.check.Reads as check-reads
 
--- src/params.rt:170:13
+passed : (c : tie.Else1) → goodParams (c .before .before .args .self) ≡ true
+passed c = sym (c .before .check .ensures) ∙ not-false _ (c .if1 .left)
+
 check-requires : tie.Need-check-requires
 check-requires c κs = search needs
 
--- src/params.rt:171:13
 returns : tie.Need-returns
-returns c = ?
+returns c = simp (sym (c .before .check .ensures) ∙ not-true _ (c .if1 .taken))
 
--- src/params.rt:173:9
 mul-result : tie.Need-mul-result
-mul-result c = ?
+mul-result c =
+    let h = sized _ (good-sized _ (passed (c .before))) in
+    omega (arith, small _ _ (h .d-high) (h .m-high))
 
--- src/params.rt:167:5
 returns-2 : tie.Need-returns-2
-returns-2 c = ?
+returns-2 c = simp (passed (c .before))
 
 pub size-spec : {M : Type 1} → statement M
 size-spec = tie.close (tie.spec check-requires returns mul-result returns-2)

@@ -1,26 +1,29 @@
+-- `sketch::params::Params::sizes` meets its contract: the sizes, then the lengths.
+use mathlib.Core.Path.{_≡_, sym, _∙_}
+use mathlib.Core.Bool.{true}
+use borrow.Author.Tests.{not-true, not-false}
+use Rattle.sketch.specs.Params.{goodSizes, sizesAnswer}
+use Rattle.sketch.proofs.Rules.{sized}
 use borrow.Author.Needs.{needs}
 use Rattle.sketch.proofs.params.Params.sizes.Statement.{statement}
 use Rattle.sketch.proofs.params.Params.sizes.Tie as tie
-use Rattle.sketch.proofs.params.Params.sizes.Reads as reads
-use Rattle.sketch.proofs.params.Params.sizes.Lts as lts
-use Rattle.sketch.proofs.params.Params.lengths.Reads as lengths-reads
-use Rattle.sketch.proofs.params.Params.sized.Reads as sized-reads
 
--- src/params.rt:195:13
+passed : (c : tie.Else1) → goodSizes (c .before .before .args .self) ≡ true
+passed c = sym (c .before .sized .ensures) ∙ not-false _ (c .if1 .left)
+
 sized-requires : tie.Need-sized-requires
 sized-requires c κs = search needs
 
--- src/params.rt:196:13
 returns : tie.Need-returns
-returns c = ?
+unfolding sizesAnswer
+returns c = simp (sym (c .before .sized .ensures) ∙ not-true _ (c .if1 .taken))
 
--- src/params.rt:198:9
 lengths-requires : tie.Need-lengths-requires
-lengths-requires c κs = ?
+lengths-requires c κs = sized _ (passed c)
 
--- src/params.rt:192:5
 returns-2 : tie.Need-returns-2
-returns-2 c = ?
+unfolding sizesAnswer
+returns-2 c = simp (passed (c .before)) (c .lengths .ensures)
 
 pub sizes-spec : {M : Type 1} → statement M
 sizes-spec = tie.close (tie.spec sized-requires returns lengths-requires returns-2)

@@ -1,0 +1,139 @@
+-- Laws of the rules that parameters obey, of what follows where nothing was refused, and of a flow's places found one by one.
+use mathlib.Core.Path.{_≡_, sym, ap, _∙_}
+use mathlib.Core.List.{List}
+use mathlib.Core.Bool.{Bool, true, false, not, _&&_}
+use Prim.Native.Nat.{ℕ, zero, suc, _+_, _*_, _≤_, _<_}
+use native.Mathlib.Decide.{ℕ-discrete}
+use native.Mathlib.Omega.{arith}
+use borrow.Author.Tests.{le-leb, leb-true, eq-eqb, eqb-true, not-false}
+use lib.Dec.{eqb, leb}
+use lib.ListN.{length, getD, set, length-set}
+use lib.Seq.{getD-set-same, getD-set-other}
+use Rattle.sketch.specs.declared.params.Params.{Params}
+use Rattle.sketch.specs.declared.answers.Why.{Why}
+use Rattle.sketch.specs.declared.answers.Why.the-variants.{Param, Length}
+use Rattle.sketch.specs.declared.answers.Answer.{Answer}
+use Rattle.sketch.specs.declared.answers.Answer.the-variants.{Done, Refused}
+use Rattle.sketch.specs.declared.answers.Spot.the-variants.{At, Refused as NoSpot}
+use Rattle.sketch.specs.Answers.{spotOf}
+use Rattle.sketch.specs.Lists.{below}
+use Rattle.sketch.specs.Params.{size, Sized, goodSizes, goodParams, samePair, sameParams, lengthsAnswer, sizesAnswer, shapeAnswer}
+use Rattle.sketch.specs.Places.{stand, standAnswer, Placed}
+use Rattle.sketch.proofs.Searches.{and-true, and-false}
+use Rattle.sketch.proofs.Judging.{refuse-done}
+
+pub sized : (P : Params) → goodSizes P ≡ true → Sized P
+unfolding goodSizes
+sized P e =
+    let h = and-true (leb 2 (P .d) && leb (P .d) 4 && leb 1 (P .m)) _ e in
+    let k = and-true (leb 2 (P .d) && leb (P .d) 4) _ (h .0) in
+    let l = and-true (leb 2 (P .d)) _ (k .0) in
+    record {
+      d-low = leb-true 2 _ (l .0);
+      d-high = leb-true _ 4 (l .1);
+      m-low = leb-true 1 _ (k .1);
+      m-high = leb-true _ 16384 (h .1);
+    }
+
+pub good-sized : (P : Params) → goodParams P ≡ true → goodSizes P ≡ true
+unfolding goodParams
+good-sized P e = and-true (goodSizes P) _ (and-true _ _ e .0) .0
+
+-- where the test fails at a number below n, it does not hold at all of them
+fails-step : (n i : ℕ) (t : ℕ → Bool) → Dec (i ≡ n) → t i ≡ false → (i < n → below n t ≡ false) → i < suc n → (below n t && t n) ≡ false
+fails-step n i t (yes p) e ih h = and-false (below n t) (t n) (rw (← p) e)
+fails-step n i t (no q) e ih h = rw (ih (omega arith))
+
+pub below-fails : (n i : ℕ) (t : ℕ → Bool) → i < n → t i ≡ false → below n t ≡ false
+unfolding below
+below-fails zero i t h e = absurd (omega arith)
+below-fails (suc n) i t h e = fails-step n i t (ℕ-discrete i n) e (λ k. below-fails n i t k e) h
+
+-- of four tests, where three hold, the last is left
+pub last-of-four : (t : ℕ → Bool) → t 0 ≡ true → t 1 ≡ true → t 2 ≡ true → t 3 ≡ below 4 t
+unfolding below
+last-of-four t e h k = simp (e, h, k)
+
+-- i and j are twins by the test t: not all are apart
+pub not-apart : (t : ℕ → ℕ → Bool) (i j : ℕ) {r : Bool} → i < 4 → j < i → r ≡ t i j → r ≡ true → false ≡ below 4 (λ i. below i (λ j. not (t i j)))
+not-apart t i j h k e q = sym (below-fails 4 i _ h (below-fails i j _ k (rw (← e, q))))
+
+-- of the six ways to choose two of four, where five are apart, the last is left
+pub last-apart : (t : ℕ → ℕ → Bool) {p q r s u v : Bool} → p ≡ t 1 0 → p ≡ false → q ≡ t 2 0 → q ≡ false → r ≡ t 2 1 → r ≡ false
+    → s ≡ t 3 0 → s ≡ false → u ≡ t 3 1 → u ≡ false → v ≡ t 3 2 → not v ≡ below 4 (λ i. below i (λ j. not (t i j)))
+unfolding below
+last-apart t e e₁ h h₁ k k₁ l l₁ m m₁ n = simp (sym e ∙ e₁, sym h ∙ h₁, sym k ∙ k₁, sym l ∙ l₁, sym m ∙ m₁) (ap not n)
+
+-- of the sizes' tests the last is left
+pub last-size : (P : Params) → 2 ≤ P .d → P .d ≤ 4 → 1 ≤ P .m → leb (P .m) 16384 ≡ goodSizes P
+unfolding goodSizes
+last-size P h k l = simp (le-leb 2 _ h, le-leb _ 4 k, le-leb 1 _ l)
+
+-- where the sizes are the same, the pairs decide
+pub same-sizes : (P Q : Params) → P .d ≡ Q .d → P .m ≡ Q .m → below 4 (samePair P Q) ≡ sameParams P Q
+unfolding sameParams
+same-sizes P Q h k = simp (eq-eqb _ _ h, eq-eqb _ _ k)
+
+-- where nothing was refused
+module _ (P : Params) where
+  pub lengths-done : (c s : ℕ) → lengthsAnswer P c s ≡ Done → (c ≡ P .d * P .m) × (s ≡ P .d * P .m)
+  unfolding lengthsAnswer
+  lengths-done c s e =
+      let h = refuse-done (not (eqb c (size P) && eqb s (size P))) Length 0 Done e in
+      let k = and-true (eqb c (size P)) _ (not-false _ (h .0)) in
+      (eqb-true _ _ (k .0), eqb-true _ _ (k .1))
+
+  pub sizes-done : (c s : ℕ) → sizesAnswer P c s ≡ Done → Sized P × (c ≡ P .d * P .m) × (s ≡ P .d * P .m)
+  unfolding sizesAnswer
+  sizes-done c s e =
+      let h = refuse-done (not (goodSizes P)) Param 0 _ e in
+      let k = lengths-done c s (h .1) in
+      (sized P (not-false _ (h .0)), k .0, k .1)
+
+  pub shape-done : (c s : ℕ) → shapeAnswer P c s ≡ Done → Sized P × (c ≡ P .d * P .m) × (s ≡ P .d * P .m)
+  unfolding shapeAnswer
+  shape-done c s e =
+      let h = refuse-done (not (goodParams P)) Param 0 _ e in
+      let k = lengths-done c s (h .1) in
+      (sized P (good-sized P (not-false _ (h .0))), k .0, k .1)
+
+  pub asked-done : (i f : ℕ) → standAnswer P i f ≡ Done → Sized P × (1 ≤ i) × (i ≤ P .d)
+  unfolding standAnswer
+  asked-done i f e =
+      let h = refuse-done (not (goodParams P && (leb 1 i && leb i (P .d)))) Param 0 _ e in
+      let k = and-true (goodParams P) _ (not-false _ (h .0)) in
+      let l = and-true (leb 1 i) _ (k .1) in
+      (sized P (good-sized P (k .0)), leb-true _ _ (l .0), leb-true _ _ (l .1))
+
+-- what a caller is told of a place
+pub spot-at : (r answer : Answer) (k j : ℕ) → r ≡ answer → r ≡ Done → k ≡ j → At k ≡ spotOf answer j
+spot-at r answer k j e h q = rw (← e, h, q)
+
+pub no-spot : (r answer : Answer) (w : Why) (i j : ℕ) → r ≡ answer → r ≡ Refused w i → NoSpot w i ≡ spotOf answer j
+no-spot r answer w i j e h = rw (← e, h)
+
+-- the list ks, of four, has a flow's place in each of the first n arrays
+pub record Begun (P : Params) (f n : ℕ) (ks : List ℕ) : Type 0 where
+  pub long : length ks ≡ 4
+  pub at : (i : ℕ) → i < n → i < P .d → getD ks i 0 ≡ stand P i f
+
+pub none-placed : {P : Params} {f : ℕ} (ks : List ℕ) → length ks ≡ 4 → Begun P f 0 ks
+none-placed ks e = record { long = e; at = λ i h l. absurd (omega arith) }
+
+module _ {P : Params} {f : ℕ} {ks : List ℕ} where
+  place-at : (n k i : ℕ) → Begun P f n ks → n < 4 → k ≡ stand P n f → i < n + 1 → i < P .d → Dec (i ≡ n) → getD (set ks n k) i 0 ≡ stand P i f
+  place-at n k i b h e l m (yes p) = rw p (getD-set-same ks n k 0 (omega (arith, b .long)) ∙ e)
+  place-at n k i b h e l m (no q) = getD-set-other ks n i k 0 q ∙ b .at i (omega arith) m
+
+  pub next-placed : (n : ℕ) {k : ℕ} → Begun P f n ks → n < 4 → k ≡ stand P n f → Begun P f (n + 1) (set ks n k)
+  next-placed n {k} b h e = record {
+    long = length-set ks n k ∙ b .long;
+    at = λ i l m. place-at n k i b h e l m (ℕ-discrete i n);
+  }
+
+  -- no array is left
+  pub more-placed : {n : ℕ} (k : ℕ) → P .d ≤ n → Begun P f n ks → Begun P f k ks
+  more-placed k h b = record { long = b .long; at = λ i m l. b .at i (omega arith) l }
+
+  pub all-placed : {n : ℕ} → P .d ≤ n → Begun P f n ks → Placed P f ks
+  all-placed h b = record { at = λ i l. b .at i (omega arith) l }

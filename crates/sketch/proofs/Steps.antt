@@ -1,0 +1,124 @@
+-- Laws of a step: what holds where nothing is refused, and the stages of its answer.
+use mathlib.Core.Path.{_≡_, refl, sym, ap, _∙_}
+use mathlib.Core.Bool.{Bool, true, false, not, _&&_}
+use mathlib.Core.List.{List}
+use Prim.Native.Nat.{ℕ, _+_, _*_, _%_, _≤_, _<_}
+use native.Mathlib.Nat.{mod-lt}
+use native.Mathlib.Omega.{arith}
+use borrow.Author.Tests.{leb-true, ltb-true, not-false, eq-eqb}
+use lib.Dec.{leb, ltb}
+use lib.IntN.{ℤ, pos}
+use lib.ListN.{length, getD}
+use Rattle.sketch.specs.declared.params.Params.{Params}
+use Rattle.sketch.specs.declared.answers.Why.the-variants.{Param, Flow, Count, Damage, Range}
+use Rattle.sketch.specs.declared.answers.Answer.{Answer}
+use Rattle.sketch.specs.declared.answers.Answer.the-variants.{Done, Refused}
+use Rattle.sketch.specs.Answers.{first, kept}
+use Rattle.sketch.specs.Params.{prime, primeOf, size, Sized, goodParams, sizesAnswer}
+use Rattle.sketch.specs.Places.{stand, standsIn, stands, Placed, Reached}
+use Rattle.sketch.specs.Buckets.{inLimits, plusMinus, weight}
+use Rattle.sketch.specs.Sketch.{Sketch, sketch, countIn, damagedIn, leavesIn, standingAnswer, changedIn}
+use Rattle.sketch.specs.Packets.{packetAnswer, entryAnswer, stepAnswer, changed, Stepped, moveAnswer, Moved}
+use Rattle.sketch.proofs.Judging.{Refusal, first-refused, first-passed, first-done, kept-old, kept-new, refuse-done, refuse-at-done}
+use Rattle.sketch.proofs.Rules.{sizes-done}
+use Rattle.sketch.proofs.Searches.{and-true}
+use Rattle.sketch.proofs.Standing.{standing-in, standing-same}
+
+-- what an entry that was let in says of its sizes and its packet
+pub record Let (P : Params) (c s f n : ℕ) : Type 0 where
+  pub sized : Sized P
+  pub counts : c ≡ P .d * P .m
+  pub idsums : s ≡ P .d * P .m
+  pub flow : f < prime
+  pub low : 1 ≤ n
+  pub high : n < prime
+
+pub entry-done : (P : Params) (c s f n : ℕ) → entryAnswer P c s f n ≡ Done → Let P c s f n
+unfolding entryAnswer packetAnswer
+entry-done P c s f n e =
+    let h = first-done (sizesAnswer P c s) _ e in
+    let k = sizes-done P c s (h .0) in
+    let l = refuse-done (not (ltb f prime)) Flow 0 _ (h .1) in
+    let m = and-true (leb 1 n) _ (not-false _ (refuse-done (not (leb 1 n && ltb n prime)) Count 0 _ (l .1) .0)) in
+    record {
+      sized = k .0;
+      counts = k .1;
+      idsums = k .2;
+      flow = ltb-true _ _ (not-false _ (l .0));
+      low = leb-true _ _ (m .0);
+      high = ltb-true _ _ (m .1);
+    }
+
+-- a flow's place lies within its array
+pub stand-below : (P : Params) (i f : ℕ) → 1 ≤ P .m → stand P i f < P .m
+unfolding stand
+stand-below P i f h = mod-lt ((getD (P .a) i 0 * f + getD (P .b) i 0) % primeOf P) h
+
+pub reached : {P : Params} {f n c s : ℕ} {ks : List ℕ} → Let P c s f n → Placed P f ks → Reached (P .d) (P .m) ks c s
+reached {P} {f} l p =
+    record {
+      d-high = l .sized .d-high;
+      m-low = l .sized .m-low;
+      m-high = l .sized .m-high;
+      inside = λ i h. rw (p .at i h) (stand-below P i f (l .sized .m-low));
+      counts-long = l .counts;
+      idsums-long = l .idsums;
+    }
+
+-- the places that the code keeps are the flow's
+pub placed : {P : Params} {f : ℕ} {ks : List ℕ} → Placed P f ks → standsIn (P .d) (P .m) (λ i. getD ks i 0) ≡ stands P f
+placed {P} {f} {ks} p = standing-same (P .d) (P .m) (λ i. getD ks i 0) (λ i. stand P i f) (p .at)
+
+-- so is what is judged by them, and what is changed
+module _ {P : Params} {f : ℕ} {ks : List ℕ} (p : Placed P f ks) (minus : Bool) (z : ℤ) (n : ℕ) (e : z ≡ pos n) (S : Sketch) where
+  pub placed-answer : (r : Answer) → r ≡ standingAnswer (P .d * P .m) (standsIn (P .d) (P .m) (λ i. getD ks i 0)) minus z S → r ≡ standingAnswer (size P) (stands P f) minus (pos n) S
+  placed-answer r h = h ∙ ap (λ (x : ℤ). standingAnswer (size P) (standsIn (P .d) (P .m) (λ i. getD ks i 0)) minus x S) e ∙ ap (λ (on : ℕ → Bool). standingAnswer (size P) on minus (pos n) S) (placed p)
+
+  pub placed-change : (S' : Sketch) (w v : ℕ) → w ≡ v → S' ≡ changedIn (standsIn (P .d) (P .m) (λ i. getD ks i 0)) minus z w S → S' ≡ changedIn (stands P f) minus (pos n) v S
+  placed-change S' w v q h =
+      h
+      ∙ ap (λ (x : ℤ). changedIn (standsIn (P .d) (P .m) (λ i. getD ks i 0)) minus x w S) e
+      ∙ ap (λ (on : ℕ → Bool). changedIn on minus (pos n) w S) (placed p)
+      ∙ ap (λ (x : ℕ). changedIn (stands P f) minus (pos n) x S) q
+
+-- where no bucket is at fault, each has room
+pub has-room : (d m : ℕ) (g : ℕ → ℕ) (minus : Bool) (n : ℤ) (S : Sketch) → standingAnswer (d * m) (standsIn d m g) minus n S ≡ Done
+    → (i : ℕ) → i < d → g i < m → i * m + m ≤ d * m → inLimits (plusMinus minus (countIn S (i * m + g i)) n) ≡ true
+unfolding standingAnswer leavesIn
+has-room d m g minus n S e i h l end =
+    let k = refuse-at-done (d * m) (damagedIn (standsIn d m g) S) Damage _ e .1 in
+    let q = refuse-at-done (d * m) (leavesIn (standsIn d m g) minus n (S .counts)) Range _ k .0 (i * m + g i) (omega arith) in
+    let on : standsIn d m g (i * m + g i) ≡ true = standing-in d m g i (i * m + g i) h (omega arith) (omega arith) ∙ eq-eqb (i * m + g i) (i * m + g i) refl in
+    not-false _ (rw on at q)
+
+-- the stages: refused before a bucket is looked at, refused for a bucket, and done
+module _ (minus : Bool) (P : Params) (f n : ℕ) (S : Sketch) (r : Answer) where
+  pub not-let : r ≡ entryAnswer P (length (S .counts)) (length (S .idsums)) f n → Refusal r → Stepped minus P f n S r S
+  unfolding stepAnswer
+  not-let e h =
+      record {
+        answer = first-refused r (standingAnswer (size P) (stands P f) minus (pos n) S) h ∙ ap (λ (x : Answer). first x (standingAnswer (size P) (stands P f) minus (pos n) S)) e;
+        after = kept-old r S (changed P minus f n S) h;
+      }
+
+  judged : entryAnswer P (length (S .counts)) (length (S .idsums)) f n ≡ Done → r ≡ standingAnswer (size P) (stands P f) minus (pos n) S → r ≡ stepAnswer P minus f n S
+  unfolding stepAnswer
+  judged d e = e ∙ sym (first-passed _ _ d)
+
+  pub not-stepped : entryAnswer P (length (S .counts)) (length (S .idsums)) f n ≡ Done → r ≡ standingAnswer (size P) (stands P f) minus (pos n) S → Refusal r → Stepped minus P f n S r S
+  not-stepped d e h = record { answer = judged d e; after = kept-old r S (changed P minus f n S) h }
+
+  pub stepped : (S' : Sketch) → entryAnswer P (length (S .counts)) (length (S .idsums)) f n ≡ Done → r ≡ standingAnswer (size P) (stands P f) minus (pos n) S → r ≡ Done
+      → S' ≡ changedIn (stands P f) minus (pos n) (weight f n) S → Stepped minus P f n S r S'
+  unfolding changed
+  stepped S' d e done a = record { answer = judged d e; after = a ∙ kept-new r S (changed P minus f n S) done }
+
+-- the same with all of the parameters' rules
+module _ (minus : Bool) (P : Params) (f n : ℕ) (S : Sketch) where
+  pub not-moved : goodParams P ≡ false → Moved minus P f n S (Refused Param 0) S
+  unfolding moveAnswer kept
+  not-moved e = record { answer = rw e; after = refl }
+
+  pub moved : (r : Answer) (S' : Sketch) → goodParams P ≡ true → Stepped minus P f n S r S' → Moved minus P f n S r S'
+  unfolding moveAnswer
+  moved r S' e s = record { answer = rw e (s .answer); after = s .after }
