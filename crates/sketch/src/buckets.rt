@@ -1,23 +1,26 @@
 // One bucket: its limits, and what an entry makes of it.
 ghost use mathlib.Core.Path.{_≡_};
-ghost use mathlib.Core.Bool.{Bool, true, _&&_};
+ghost use mathlib.Core.Bool.{Bool, true, _&&_, cond};
 ghost use Prim.Native.Nat.{ℕ, _*_};
 ghost use lib.IntN.{ℤ, pos};
-ghost use lib.Dec.{ltb};
+ghost use lib.Dec.{ltb, eqb};
+ghost use lib.ListN.{length};
 ghost use Rattle.field.specs.Residue.{residue};
+ghost use Rattle.sketch.specs.Lists.{least};
 ghost use Rattle.sketch.specs.Params.{prime};
+ghost use Rattle.sketch.specs.Sketch.{sketch, damagedAt};
 ghost use Rattle.sketch.specs.Buckets.{inLimits, plusMinus, weight as «weight-of»};
 use crate::params::PRIME;
 
 // Whether a number lies within a count's limits.
-pub(crate) fn within(z: i64) -> bool
+pub fn within(z: i64) -> bool
     ensures { λ r. ⌜ r ≡ inLimits z ⌝ }
 {
     -2147483646 <= z && z <= 2147483646
 }
 
 // Whether a bucket lies within its limits.
-pub(crate) fn sound(c: i32, s: u32) -> bool
+pub fn sound(c: i32, s: u32) -> bool
     ensures { λ r. ⌜ r ≡ (inLimits c && ltb s prime) ⌝ }
 {
     if !within(c as i64) {
@@ -26,8 +29,25 @@ pub(crate) fn sound(c: i32, s: u32) -> bool
     s < PRIME
 }
 
+// The lowest index of a bucket outside its limits, or the number of buckets; 0 for slices of different lengths.
+pub fn first_damaged(counts: &[i32], idsums: &[u32]) -> usize
+    ensures { λ r. ⌜ r ≡ cond (eqb (length (now (counts .entry))) (length (now (idsums .entry)))) (least 0 (length (now (counts .entry))) (damagedAt (sketch (now (counts .entry)) (now (idsums .entry))))) 0 ⌝ }
+{
+    if counts.len() != idsums.len() {
+        return 0;
+    }
+    let mut i = 0;
+    while i < counts.len() {
+        if !sound(counts[i], idsums[i]) {
+            return i;
+        }
+        i += 1;
+    }
+    i
+}
+
 // The sum or the difference of two counts, at a width that holds it.
-pub(crate) fn moved(minus: bool, c: i32, e: i32) -> i64
+pub fn moved(minus: bool, c: i32, e: i32) -> i64
     ensures { λ r. ⌜ r ≡ plusMinus minus c e ⌝ }
 {
     if minus {
@@ -46,7 +66,7 @@ pub(crate) fn settled(minus: bool, c: i32, e: i32) -> i32
 }
 
 // The sum or the difference of two idsums.
-pub(crate) fn wound(minus: bool, s: u32, t: u32) -> u32
+pub fn wound(minus: bool, s: u32, t: u32) -> u32
     ensures { λ r. ⌜ r ≡ residue prime (plusMinus minus (pos s) (pos t)) ⌝ }
 {
     if minus {

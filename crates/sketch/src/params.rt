@@ -6,7 +6,7 @@ ghost use lib.Dec.{eqb, ltb};
 ghost use lib.ListN.{getD, length};
 ghost use Rattle.sketch.specs.Lists.{below};
 ghost use Rattle.sketch.specs.Params.{prime, size as «size-of», Sized, pairOk, pairAt, twins, goodSizes, goodParams, sameParams};
-ghost use Rattle.sketch.specs.Places.{stand, position as «position-of», index as «index-of», Placed};
+ghost use Rattle.sketch.specs.Places.{stand as «stand-of», stands as «stands-of», position as «position-of», index as «index-of», Placed};
 ghost use Rattle.sketch.specs.Answers.{spotOf};
 ghost use Rattle.sketch.specs.Params.{lengthsAnswer, sizesAnswer, shapeAnswer};
 ghost use Rattle.sketch.specs.Places.{standAnswer};
@@ -254,11 +254,39 @@ impl Params {
     // Where a flow stands in the array that i others stand before.
     fn spot(self, i: usize, f: u32) -> usize
         requires { ⌜ Sized self × (i < self .d) ⌝ }
-        ensures { λ r. ⌜ (r ≡ stand self i f) × (r < self .m) ⌝ }
+        ensures { λ r. ⌜ (r ≡ «stand-of» self i f) × (r < self .m) ⌝ }
     {
         let a = self.a;
         let b = self.b;
         place(a[i], b[i], self.m, f)
+    }
+
+    // The same, told without a refusal: 0 where the sizes break a rule or there is no such array.
+    pub fn stand(self, i: usize, f: u32) -> usize
+        ensures { λ r. ⌜ r ≡ cond (goodSizes self && ltb i (self .d)) («stand-of» self i f) 0 ⌝ }
+    {
+        if !self.sized() {
+            return 0;
+        }
+        if self.d <= i {
+            return 0;
+        }
+        self.spot(i, f)
+    }
+
+    // Whether a flow stands in bucket k; in no bucket where the sizes break a rule.
+    pub fn stands(self, f: u32, k: usize) -> bool
+        ensures { λ r. ⌜ r ≡ (goodSizes self && «stands-of» self f k) ⌝ }
+    {
+        if !self.sized() {
+            return false;
+        }
+        let m = self.m;
+        let i = k / m;
+        if self.d <= i {
+            return false;
+        }
+        self.spot(i, f) == k % m
     }
 
     // A flow's place in each array, found once for all that an insertion does with them. Written out, as the checks are.

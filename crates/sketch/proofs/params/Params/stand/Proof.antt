@@ -1,0 +1,33 @@
+-- `sketch::params::Params::stand` meets its contract.
+use mathlib.Core.Path.{_≡_, sym, _∙_}
+use mathlib.Core.Bool.{true}
+use borrow.Author.Needs.{needs}
+use borrow.Author.Tests.{not-true, not-false, lt-ltb, le-ltb}
+use Rattle.sketch.specs.Params.{Sized, goodSizes}
+use Rattle.sketch.proofs.Rules.{sized}
+use Rattle.sketch.proofs.params.Params.stand.Statement.{statement}
+use Rattle.sketch.proofs.params.Params.stand.Tie as tie
+
+sized-requires : tie.Need-sized-requires
+sized-requires c κs = search needs
+
+returns : tie.Need-returns
+returns c = rw (sym (c .before .sized .ensures) ∙ not-true _ (c .if1 .taken))
+
+passed : (c : tie.Else1) → goodSizes (c .before .before .args .self) ≡ true
+passed c = sym (c .before .sized .ensures) ∙ not-false _ (c .if1 .left)
+
+fits : (c : tie.Else1) → Sized (c .before .before .args .self)
+fits c = sized _ (passed c)
+
+returns-2 : tie.Need-returns-2
+returns-2 c = rw (passed (c .before .before), le-ltb _ _ (c .if2 .taken))
+
+spot-requires : tie.Need-spot-requires
+spot-requires c κs = (fits (c .before .before), c .if2 .left)
+
+returns-3 : tie.Need-returns-3
+returns-3 c = rw (passed (c .before .before .before), lt-ltb _ _ (c .before .if2 .left)) (c .spot .ensures .0)
+
+pub stand-spec : {M : Type 1} → statement M
+stand-spec = tie.close (tie.spec sized-requires returns returns-2 spot-requires returns-3)
