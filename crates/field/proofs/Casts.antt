@@ -29,3 +29,10 @@ widens {z} f = rw (toZ-ofZ f) (sfits-widen tt f)
 -- what a cast of a signed number that is n to an unsigned type asks
 pub cast-asks : {w : Width} {z : ℤ} {n : ℕ} → z ≡ pos n → Fits w n → T (nonNeg z) × Fits w (natAbs z)
 cast-asks {z = z} e f = rw e (tt, f)
+
+-- an i32 is 0 where its bits are
+pub zero-of-bits : (z : ℤ) → SFits w32 z → ofZ w32 z ≡ 0 → z ≡ pos 0
+zero-of-bits z h e = sym (toZ-ofZ h) ∙ ap (toZ w32) e
+
+pub bits-of-zero : (z : ℤ) → z ≡ pos 0 → ofZ w32 z ≡ 0
+bits-of-zero z e = ap (ofZ w32) e

@@ -201,7 +201,7 @@ impl Params {
     }
 
     // The parameters keep the rules, and the two slices have their sizes.
-    pub(crate) fn shape(self, counts: usize, idsums: usize) -> Answer
+    pub fn shape(self, counts: usize, idsums: usize) -> Answer
         ensures { λ r. ⌜ r ≡ shapeAnswer self counts idsums ⌝ }
     {
         if !self.check() {

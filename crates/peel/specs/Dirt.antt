@@ -1,0 +1,46 @@
+-- How many buckets are not all zero, and what one take leaves.
+use mathlib.Core.Path.{_≡_}
+use mathlib.Core.Bool.{true, cond}
+use mathlib.Core.List.{List, [], _∷_}
+use Prim.Native.Nat.{ℕ, _+_, _<_}
+use lib.IntN.{ℤ, pos, _-ℤ_}
+use lib.Dec.{eqb}
+use lib.ListN.{getD, length, set}
+use Rattle.field.specs.Residue.{residue}
+use Rattle.sketch.specs.Params.{prime}
+use Rattle.sketch.specs.Places.{standsIn}
+use Rattle.sketch.specs.Buckets.{inLimits}
+use Rattle.sketch.specs.Sketch.{sketch, changedIn}
+use Rattle.walk.specs.Walk.{isZero}
+
+-- 1 where a bucket is not all zero, and the number of those
+unfoldable pub some : ℤ → ℕ → ℕ
+some c s = cond (isZero c) (cond (eqb s 0) 0 1) 1
+
+unfoldable pub dirty : List ℤ → List ℕ → ℕ
+dirty [] ss = 0
+dirty (c ∷ cs) [] = 0
+dirty (c ∷ cs) (s ∷ ss) = some c s + dirty cs ss
+
+-- a sketch of n buckets with none outside its limits
+pub record Sane (n : ℕ) (cs : List ℤ) (ss : List ℕ) : Type 0 where
+  pub long : length cs ≡ n
+  pub long-ids : length ss ≡ n
+  pub counts : (k : ℕ) → inLimits (getD cs k (pos 0)) ≡ true
+  pub idsums : (k : ℕ) → getD ss k 0 < prime
+
+-- one bucket's part of a take, and all of a flow's
+pub record Takes (cs : List ℤ) (ss : List ℕ) (j : ℕ) (c : ℤ) (left : ℕ) : Type 0 where
+  pub inside : j < length cs
+  pub inside-ids : j < length ss
+  pub limits : inLimits (getD cs j (pos 0) -ℤ c) ≡ true
+  pub dirt : left ≡ dirty cs ss
+
+pub record Took (cs : List ℤ) (ss : List ℕ) (j : ℕ) (c : ℤ) (s : ℕ) (cs' : List ℤ) (ss' : List ℕ) (left : ℕ) : Type 0 where
+  pub counts : cs' ≡ set cs j (getD cs j (pos 0) -ℤ c)
+  pub idsums : ss' ≡ set ss j (residue prime (pos (getD ss j 0) -ℤ pos s))
+  pub dirt : left ≡ dirty cs' ss'
+
+pub record Applied (d m : ℕ) (ks : List ℕ) (c : ℤ) (s : ℕ) (cs : List ℤ) (ss : List ℕ) (cs' : List ℤ) (ss' : List ℕ) (left : ℕ) : Type 0 where
+  pub after : sketch cs' ss' ≡ changedIn (standsIn d m (λ i. getD ks i 0)) true c s (sketch cs ss)
+  pub dirt : left ≡ dirty cs' ss'

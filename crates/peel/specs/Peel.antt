@@ -1,0 +1,67 @@
+-- What peeling answers, and what it leaves in every slice that it is lent.
+use mathlib.Core.Bool.{Bool, not, _&&_}
+use mathlib.Core.Path.{_≡_}
+use mathlib.Core.List.{List, [], _∷_, _++_}
+use Prim.Native.Nat.{ℕ, _-_}
+use lib.IntN.{ℤ, pos}
+use lib.Dec.{eqb, leb}
+use lib.ListN.{length, replicate}
+use Rattle.sketch.specs.declared.params.Params.{Params}
+use Rattle.sketch.specs.declared.answers.Why.{Why}
+use Rattle.sketch.specs.declared.answers.Why.the-variants.{Length, Damage}
+use Rattle.sketch.specs.declared.answers.Answer.{Answer}
+use Rattle.sketch.specs.declared.answers.Answer.the-variants.{Done, Refused}
+use Rattle.sketch.specs.Answers.{refuseIf, refuseAt, first, kept}
+use Rattle.sketch.specs.Params.{size, shapeAnswer}
+use Rattle.sketch.specs.Sketch.{Sketch, Entry, damagedAt}
+use Rattle.walk.specs.Walk.{Outcome, walk, close, net}
+use Rattle.walk.specs.Purity.{ruleOf}
+use Rattle.peel.specs.declared.peeling.Figures.{Figures}
+use Rattle.peel.specs.declared.peeling.Peeled.{Peeled}
+use Rattle.peel.specs.declared.peeling.Peeled.the-variants.{Ended, Refused as NotPeeled}
+
+-- the parameters, the lengths of all that is lent (flows and numbers are the table's two slices), and damage anywhere
+unfoldable pub peelAnswer : Params → Sketch → ℕ → ℕ → ℕ → ℕ → Answer
+peelAnswer P S flows numbers queue marks =
+    first (shapeAnswer P (length (S .counts)) (length (S .idsums)))
+    (refuseIf (not (eqb queue (size P) && eqb marks (size P) && eqb flows numbers && leb flows 65536)) Length 0
+    (refuseAt (size P) (damagedAt S) Damage
+    Done))
+
+-- what the caller is told of an outcome
+abbrev pub figuresOf : Outcome → Figures
+figuresOf o =
+    record { ending = o .ending; entries = length (close (o .table)); net = net (close (o .table)); pops = o .pops }
+
+abbrev pub peeledOf : Answer → Outcome → Peeled
+peeledOf Done o = Ended (figuresOf o)
+peeledOf (Refused w k) o = NotPeeled w k
+
+-- a table's flows and its numbers
+unfoldable pub flowsOf : List Entry → List ℕ
+flowsOf [] = []
+flowsOf (e ∷ es) = e .flow ∷ flowsOf es
+
+unfoldable pub numbersOf : List Entry → List ℤ
+numbersOf [] = []
+numbersOf (e ∷ es) = e .number ∷ numbersOf es
+
+-- a list in n slots, those past its end filled up with z
+unfoldable pub padded : {A : Type 0} → ℕ → A → List A → List A
+padded n z xs = xs ++ replicate (n - length xs) z
+
+-- S, fs, ns, q and ms are the sketch, the table's slices, the queue and the marks before; with a prime, after
+module _ (P : Params) (allowance : ℕ) (S : Sketch) (fs : List ℕ) (ns : List ℤ) (q ms : List ℕ) where
+  abbrev pub judged : Answer
+  judged = peelAnswer P S (length fs) (length ns) (length q) (length ms)
+
+  abbrev pub walked : Outcome
+  walked = walk (ruleOf P) (length fs) allowance S
+
+  pub record Peels (r : Peeled) (S' : Sketch) (fs' : List ℕ) (ns' : List ℤ) (q' ms' : List ℕ) : Type 0 where
+    pub answer : r ≡ peeledOf judged walked
+    pub left : S' ≡ kept judged S (walked .left)
+    pub flows : fs' ≡ kept judged fs (padded (length fs) 0 (flowsOf (close (walked .table))))
+    pub numbers : ns' ≡ kept judged ns (padded (length ns) (pos 0) (numbersOf (close (walked .table))))
+    pub queue : q' ≡ kept judged q (replicate (size P) 0)
+    pub marks : ms' ≡ kept judged ms (replicate (size P) 0)

@@ -1,0 +1,31 @@
+-- The table as the first n places of two slices.
+use mathlib.Core.Path.{_≡_}
+use mathlib.Core.List.{List}
+use Prim.Native.Nat.{ℕ, _<_, _≤_}
+use lib.IntN.{ℤ, pos}
+use lib.ListN.{getD, length}
+use Rattle.sketch.specs.Lists.{from}
+use Rattle.sketch.specs.Sketch.{Entry, by}
+use Rattle.walk.specs.Walk.{credited, close}
+
+-- the entry at place i, and the first n entries
+abbrev pub row : List ℕ → List ℤ → ℕ → Entry
+row fs ns i = by (getD fs i 0) (getD ns i (pos 0))
+
+unfoldable pub tableOf : List ℕ → List ℤ → ℕ → List Entry
+tableOf fs ns n = from 0 n (row fs ns)
+
+-- r is the first place below n where f stands, or n
+pub record Finds (fs : List ℕ) (n f r : ℕ) : Type 0 where
+  pub within : r ≤ n
+  pub before : (j : ℕ) → j < r → getD fs j 0 ≡ f → ⊥
+  pub found : r < n → getD fs r 0 ≡ f
+
+-- what a take leaves in the table, and what the close does
+pub record Credited (f : ℕ) (c : ℤ) (fs : List ℕ) (ns : List ℤ) (n : ℕ) (fs' : List ℕ) (ns' : List ℤ) (r : ℕ) : Type 0 where
+  pub table : tableOf fs' ns' r ≡ credited f c (tableOf fs ns n)
+  pub room : r ≤ length fs
+
+pub record Closed (fs : List ℕ) (ns : List ℤ) (n : ℕ) (fs' : List ℕ) (ns' : List ℤ) (r : ℕ) : Type 0 where
+  pub table : tableOf fs' ns' r ≡ close (tableOf fs ns n)
+  pub within : r ≤ n

@@ -1,0 +1,152 @@
+// Peeling, whole: the refusals, then the start, the walk and the close.
+ghost use mathlib.Core.Path.{_≡_};
+ghost use Prim.Native.Nat.{ℕ};
+ghost use lib.ListN.{length};
+ghost use Rattle.sketch.specs.Sketch.{sketch};
+ghost use Rattle.walk.specs.Walk.{walk as «walk-of»};
+ghost use Rattle.walk.specs.Purity.{ruleOf};
+ghost use Rattle.peel.specs.Rep.{Sound, Leaves};
+ghost use Rattle.peel.specs.Peel.{peelAnswer, Peels};
+use crate::queue::clear;
+use crate::queue::start;
+use crate::table::clear_numbers;
+use crate::table::compact;
+use crate::table::net_of;
+use crate::take::count_left;
+use crate::walking::walk;
+use sketch::Answer;
+use sketch::Params;
+use sketch::Why;
+use sketch::buckets::first_damaged;
+use walk::Ending;
+
+// What a walk found: its ending, the entries left in the table, the sum of their counts, and the pops made.
+pub struct Figures {
+    pub ending: Ending,
+    pub entries: usize,
+    pub net: i64,
+    pub pops: u32,
+}
+
+pub enum Peeled {
+    Ended(Figures),
+    Refused(Why, usize),
+}
+
+// The answer, which alters nothing.
+fn judge(
+    p: Params,
+    counts: &[i32],
+    idsums: &[u32],
+    flows: usize,
+    numbers: usize,
+    queue: usize,
+    marks: usize,
+) -> Answer
+    ensures { λ r. ⌜ r ≡ peelAnswer p (sketch (now (counts .entry)) (now (idsums .entry))) flows numbers queue marks ⌝ }
+{
+    let r = p.shape(counts.len(), idsums.len());
+    let Answer::Done = r else {
+        return r;
+    };
+    if queue != counts.len() {
+        return Answer::Refused(Why::Length, 0);
+    }
+    if marks != counts.len() {
+        return Answer::Refused(Why::Length, 0);
+    }
+    if flows != numbers {
+        return Answer::Refused(Why::Length, 0);
+    }
+    if 65536 < flows {
+        return Answer::Refused(Why::Length, 0);
+    }
+    let x = first_damaged(counts, idsums);
+    if x < counts.len() {
+        return Answer::Refused(Why::Damage, x);
+    }
+    Answer::Done
+}
+
+// The start, the walk and the close, where nothing is refused.
+fn unravel(
+    p: Params,
+    counts: &mut [i32],
+    idsums: &mut [u32],
+    flows: &mut [u32],
+    numbers: &mut [i32],
+    queue: &mut [u32],
+    marks: &mut [u32],
+    allowance: u32,
+) -> Figures
+    requires { ⌜ Sound p (now counts) (now idsums) (now flows) (now numbers) (now queue) (now marks) ⌝ }
+    ensures { λ r. ⌜ Leaves («walk-of» (ruleOf p) (length (now (flows .entry))) allowance (sketch (now (counts .entry)) (now (idsums .entry)))) r (now (counts .exit)) (now (idsums .exit)) (now (flows .exit)) (now (numbers .exit)) (now (queue .exit)) (now (marks .exit)) ⌝ }
+{
+    let first = start(counts, queue, marks);
+    let dirt = count_left(counts, idsums);
+    let walked = walk(
+        p,
+        counts,
+        idsums,
+        flows,
+        numbers,
+        queue,
+        marks,
+        first,
+        dirt,
+        allowance,
+    );
+    let ending = walked.ending;
+    let pops = walked.pops;
+    let reached = walked.entries;
+    let entries = compact(flows, numbers, reached);
+    clear(flows, entries);
+    clear_numbers(numbers, entries);
+    clear(queue, 0);
+    clear(marks, 0);
+    let net = net_of(numbers, entries);
+    Figures {
+        ending,
+        entries,
+        net,
+        pops,
+    }
+}
+
+// Peels a sketch into a table, which takes as many flows as its slices are long, with an allowance of pops. The sketch then
+// holds what remains; table slots past the last entry, the queue and the marks are all 0.
+pub fn peel(
+    p: Params,
+    counts: &mut [i32],
+    idsums: &mut [u32],
+    table_flows: &mut [u32],
+    table_counts: &mut [i32],
+    queue: &mut [u32],
+    marks: &mut [u32],
+    allowance: u32,
+) -> Peeled
+    ensures { λ r. ⌜ Peels p allowance (sketch (now (counts .entry)) (now (idsums .entry))) (now («table_flows» .entry)) (now («table_counts» .entry)) (now (queue .entry)) (now (marks .entry)) r (sketch (now (counts .exit)) (now (idsums .exit))) (now («table_flows» .exit)) (now («table_counts» .exit)) (now (queue .exit)) (now (marks .exit)) ⌝ }
+{
+    let judged = judge(
+        p,
+        counts,
+        idsums,
+        table_flows.len(),
+        table_counts.len(),
+        queue.len(),
+        marks.len(),
+    );
+    match judged {
+        Answer::Refused(why, index) => Peeled::Refused(why, index),
+        Answer::Done => Peeled::Ended(unravel(
+            p,
+            counts,
+            idsums,
+            table_flows,
+            table_counts,
+            queue,
+            marks,
+            allowance,
+        )),
+    }
+}

@@ -1,0 +1,85 @@
+// The table of flows: the first n places of two slices, in the order of first takes.
+ghost use mathlib.Core.Path.{_≡_};
+ghost use mathlib.Core.Bool.{true};
+ghost use mathlib.Core.List.{List};
+ghost use Prim.Native.Nat.{ℕ, _<_, _≤_};
+ghost use lib.IntN.{pos, _+ℤ_};
+ghost use lib.ListN.{length};
+ghost use Rattle.sketch.specs.Buckets.{inLimits};
+ghost use Rattle.walk.specs.Walk.{entryOf, net};
+ghost use Rattle.peel.specs.Ring.{Cleared};
+ghost use Rattle.peel.specs.Table.{tableOf, Finds, Credited, Closed};
+
+// The place of f among the first n flows, or n.
+pub(crate) fn find(flows: &[u32], n: usize, f: u32) -> usize
+    requires { ⌜ n ≤ length (now flows) ⌝ }
+    ensures { λ r. ⌜ Finds (now (flows .entry)) n f r ⌝ }
+{
+    let mut i = 0;
+    while i < n {
+        if flows[i] == f {
+            return i;
+        }
+        i += 1;
+    }
+    i
+}
+
+// c more for f, whose place is at: the number of entries then.
+pub(crate) fn credit(flows: &mut [u32], numbers: &mut [i32], n: usize, at: usize, f: u32, c: i32) -> usize
+    requires { ⌜ Finds (now flows) n f at × (length (now numbers) ≡ length (now flows)) × (at < length (now flows)) × (n ≤ length (now flows)) × (inLimits (entryOf f (tableOf (now flows) (now numbers) n) +ℤ c) ≡ true) ⌝ }
+    ensures { λ r. ⌜ Credited f c (now (flows .entry)) (now (numbers .entry)) n (now (flows .exit)) (now (numbers .exit)) r ⌝ }
+{
+    if at < n {
+        numbers[at] += c;
+        return n;
+    }
+    flows[at] = f;
+    numbers[at] = c;
+    n + 1
+}
+
+// The entries that are not 0, in their order, each moved at most once: how many there are.
+pub(crate) fn compact(flows: &mut [u32], numbers: &mut [i32], n: usize) -> usize
+    requires { ⌜ (n ≤ length (now flows)) × (length (now numbers) ≡ length (now flows)) ⌝ }
+    ensures { λ r. ⌜ Closed (now (flows .entry)) (now (numbers .entry)) n (now (flows .exit)) (now (numbers .exit)) r ⌝ }
+{
+    let mut w = 0;
+    let mut i = 0;
+    while i < n {
+        let f = flows[i];
+        let c = numbers[i];
+        if c != 0 {
+            flows[w] = f;
+            numbers[w] = c;
+            w += 1;
+        }
+        i += 1;
+    }
+    w
+}
+
+// Zeros from place n on.
+pub(crate) fn clear_numbers(s: &mut [i32], n: usize)
+    ensures { λ _. ⌜ Cleared (pos 0) n (now (s .entry)) (now (s .exit)) ⌝ }
+{
+    let mut i = n;
+    while i < s.len() {
+        s[i] = 0;
+        i += 1;
+    }
+}
+
+// The net figure: the sum of the first n entries' numbers.
+pub(crate) fn net_of(numbers: &[i32], n: usize) -> i64
+    requires { ⌜ (n ≤ length (now numbers)) × (n ≤ 65536) ⌝ }
+    ensures { λ r. ⌜ ((fs : List ℕ) → r ≡ net (tableOf fs (now (numbers .entry)) n)) ⌝ }
+{
+    let mut sum: i64 = 0;
+    let mut i = 0;
+    while i < n {
+        sum += numbers[i] as i64;
+        i += 1;
+    }
+    sum
+}

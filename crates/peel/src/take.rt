@@ -1,0 +1,97 @@
+// One take: a flow's places, whether its counts stay within their limits, and its buckets less what was found.
+ghost use mathlib.Core.Path.{_≡_};
+ghost use mathlib.Core.Bool.{Bool, true};
+ghost use Prim.Native.Nat.{ℕ, _+_, _*_, _<_};
+ghost use lib.IntN.{ℤ, pos, _-ℤ_};
+ghost use lib.ListN.{length, getD};
+ghost use Rattle.sketch.specs.Params.{prime, Sized};
+ghost use Rattle.sketch.specs.Places.{Placed, Reached};
+ghost use Rattle.sketch.specs.Buckets.{inLimits, plusMinus};
+ghost use Rattle.peel.specs.Dirt.{some, dirty, Sane, Takes, Took, Applied};
+use sketch::Params;
+use sketch::buckets::moved;
+use sketch::buckets::within;
+use sketch::buckets::wound;
+
+// A flow's place in each array, found once for all that a take does with them.
+pub(crate) fn places(p: Params, f: u32, ks: &mut [usize; 4])
+    requires { ⌜ Sized p × (length (now ks) ≡ 4) ⌝ }
+    ensures { λ r. ⌜ Placed p f (now (ks .exit)) × (length (now (ks .exit)) ≡ 4) ⌝ }
+{
+    ks[0] = p.stand(0, f);
+    ks[1] = p.stand(1, f);
+    ks[2] = p.stand(2, f);
+    ks[3] = p.stand(3, f);
+}
+
+// x more c, or x less c, keeps within the limits.
+pub(crate) fn fits(minus: bool, x: i32, c: i32) -> bool
+    ensures { λ r. ⌜ r ≡ inLimits (plusMinus minus x c) ⌝ }
+{
+    within(moved(minus, x, c))
+}
+
+// 1 where a bucket is not all zero.
+fn some_left(c: i32, s: u32) -> usize
+    ensures { λ r. ⌜ r ≡ some c s ⌝ }
+{
+    if c == 0 {
+        if s == 0 {
+            return 0;
+        }
+    }
+    1
+}
+
+// How many buckets are not all zero.
+pub(crate) fn count_left(counts: &[i32], idsums: &[u32]) -> usize
+    requires { ⌜ length (now counts) ≡ length (now idsums) ⌝ }
+    ensures { λ r. ⌜ r ≡ dirty (now (counts .entry)) (now (idsums .entry)) ⌝ }
+{
+    let mut left = 0;
+    let mut i = 0;
+    while i < counts.len() {
+        left += some_left(counts[i], idsums[i]);
+        i += 1;
+    }
+    left
+}
+
+// Bucket j less c and s: how many buckets are not all zero then.
+fn take_one(counts: &mut [i32], idsums: &mut [u32], j: usize, c: i32, s: u32, dirt: usize) -> usize
+    requires { ⌜ Takes (now counts) (now idsums) j c dirt ⌝ }
+    ensures { λ r. ⌜ Took (now (counts .entry)) (now (idsums .entry)) j c s (now (counts .exit)) (now (idsums .exit)) r ⌝ }
+{
+    let x = counts[j];
+    let y = idsums[j];
+    let v = x - c;
+    let w = wound(true, y, s);
+    counts[j] = v;
+    idsums[j] = w;
+    dirt + some_left(v, w) - some_left(x, y)
+}
+
+// The sketch less c and s in each of a flow's buckets: how many buckets are not all zero then.
+pub(crate) fn apply(
+    d: usize,
+    m: usize,
+    ks: &[usize; 4],
+    counts: &mut [i32],
+    idsums: &mut [u32],
+    c: i32,
+    s: u32,
+    dirt: usize,
+) -> usize
+    requires { ⌜ Reached d m (now ks) (length (now counts)) (length (now idsums)) × (dirt ≡ dirty (now counts) (now idsums)) ⌝ }
+    requires { ⌜ ((i : ℕ) → i < d → inLimits (getD (now counts) (i * m + getD (now ks) i 0) (pos 0) -ℤ c) ≡ true) ⌝ }
+    ensures { λ r. ⌜ Applied d m (now (ks .entry)) c s (now (counts .entry)) (now (idsums .entry)) (now (counts .exit)) (now (idsums .exit)) r ⌝ }
+{
+    let mut left = dirt;
+    let mut i = 0;
+    while i < d {
+        let j = i * m + ks[i];
+        left = take_one(counts, idsums, j, c, s, left);
+        i += 1;
+    }
+    left
+}

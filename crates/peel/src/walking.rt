@@ -1,0 +1,104 @@
+// The walk: a loop that yields its ending, out of the nested take over the arrays too.
+ghost use mathlib.Core.Path.{_≡_};
+ghost use Prim.Native.Nat.{ℕ, _+_, _<_, _≤_};
+ghost use lib.ListN.{length};
+ghost use Rattle.walk.specs.Walk.{run};
+ghost use Rattle.walk.specs.Purity.{ruleOf};
+ghost use Rattle.peel.specs.Rep.{Holds, stateOf, Walks};
+use crate::queue::place;
+use crate::queue::pop;
+use crate::queue::requeue;
+use crate::table::credit;
+use crate::table::find;
+use crate::take::apply;
+use crate::take::fits;
+use crate::take::places;
+use sketch::Params;
+use walk::Ending;
+use walk::Found;
+
+// How a walk ended, after how many pops, and how many entries its table has.
+pub(crate) struct Walked {
+    pub ending: Ending,
+    pub pops: u32,
+    pub entries: usize,
+}
+
+// The walk from a queue of `first` buckets, with `dirt` buckets that are not all zero.
+pub(crate) fn walk(
+    p: Params,
+    counts: &mut [i32],
+    idsums: &mut [u32],
+    flows: &mut [u32],
+    numbers: &mut [i32],
+    queue: &mut [u32],
+    marks: &mut [u32],
+    first: usize,
+    dirt: usize,
+    allowance: u32,
+) -> Walked
+    requires { ⌜ Holds p (now counts) (now idsums) (now flows) (now numbers) (now queue) (now marks) 0 first dirt 0 ⌝ }
+    ensures { λ r. ⌜ Walks (run (ruleOf p) (length (now (flows .entry))) allowance 0 (stateOf (now (counts .entry)) (now (idsums .entry)) (now (flows .entry)) (now (numbers .entry)) (now (queue .entry)) 0 first 0)) (length (now (flows .entry))) r (now (counts .exit)) (now (idsums .exit)) (now (flows .exit)) (now (numbers .exit)) ⌝ }
+{
+    let d = p.d;
+    let m = p.m;
+    let size = queue.len();
+    let slots = flows.len();
+    let mut ks: [usize; 4] = [0; 4];
+    let mut head: usize = 0;
+    let mut waiting = first;
+    let mut left = dirt;
+    let mut entries: usize = 0;
+    let mut pops: u32 = 0;
+    let ending = 'walk: loop {
+        if left == 0 {
+            break Ending::Clean;
+        }
+        if waiting == 0 {
+            break Ending::Stuck;
+        }
+        if pops == allowance {
+            break Ending::Spent;
+        }
+        pops += 1;
+        let k = pop(queue, marks, head, waiting);
+        head = place(head, 1, size);
+        waiting -= 1;
+        let c = counts[k];
+        let s = idsums[k];
+        let found = walk::test(p, k, c, s);
+        match found {
+            Found::Undefined => {
+                break Ending::NoInverse;
+            }
+            Found::Impure => {}
+            Found::Pure(f) => {
+                places(p, f, &mut ks);
+                let mut i = 0;
+                while i < d {
+                    let j = i * m + ks[i];
+                    if !fits(true, counts[j], c) {
+                        break 'walk Ending::Range;
+                    }
+                    i += 1;
+                }
+                let at = find(flows, entries, f);
+                if at < entries {
+                    if !fits(false, numbers[at], c) {
+                        break 'walk Ending::Range;
+                    }
+                } else if at == slots {
+                    break 'walk Ending::Full;
+                }
+                left = apply(d, m, &ks, counts, idsums, c, s, left);
+                entries = credit(flows, numbers, entries, at, f, c);
+                waiting = requeue(d, m, &ks, counts, queue, marks, head, waiting);
+            }
+        }
+    };
+    Walked {
+        ending,
+        pops,
+        entries,
+    }
+}

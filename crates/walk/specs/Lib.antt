@@ -1,0 +1,4 @@
+-- What a reader must believe of peeling, in the words of the scope.
+pub mod Endings
+pub mod Walk
+pub mod Purity

@@ -1,0 +1,55 @@
+-- The purity test, and the rule of a sketch's parameters.
+use mathlib.Core.Bool.{Bool, cond, _&&_}
+use Prim.Native.Nat.{ℕ, _+_, _*_}
+use lib.IntN.{ℤ}
+use lib.Dec.{eqb}
+use Rattle.field.specs.Residue.{residue}
+use Rattle.field.specs.Flow.{flow}
+use Rattle.sketch.specs.declared.params.Params.{Params}
+use Rattle.sketch.specs.Params.{primeOf, goodSizes}
+use Rattle.sketch.specs.Places.{stand, stands}
+use Rattle.walk.specs.declared.Found.{Found}
+use Rattle.walk.specs.declared.Found.the-variants.{Undefined, Impure, Pure}
+use Rattle.walk.specs.Walk.{Rule, isZero}
+
+-- a bucket k with count c and idsum s, modulo p: pure when c is not 0 and the one number f with c * f congruent to s stands there
+unfoldable pub testIn : ℕ → (ℕ → ℕ → Bool) → ℕ → ℤ → ℕ → Found
+testIn p on k c s =
+    cond (isZero c)
+    Impure
+    (cond (eqb (residue p c) 0) Undefined
+    (cond (on (flow p c s) k) (Pure (flow p c s)) Impure))
+
+abbrev pub pureTest : Params → ℕ → ℤ → ℕ → Found
+pureTest P = testIn (primeOf P) (stands P)
+
+-- the same where the sizes may break a rule: then no flow stands anywhere
+abbrev pub sizedTest : Params → ℕ → ℤ → ℕ → Found
+sizedTest P = testIn (primeOf P) (λ f k. goodSizes P && stands P f k)
+
+-- the walk of a sketch with these parameters
+abbrev pub ruleOf : Params → Rule
+ruleOf P =
+    record {
+      prime = primeOf P;
+      arrays = P .d;
+      index = λ i f. i * P .m + stand P i f;
+      stands = stands P;
+      test = pureTest P;
+    }
+
+-- a rule whose test asks more: only a flow that passes `ok` is pure
+abbrev pub onlyIf : (ℕ → Bool) → Found → Found
+onlyIf ok Undefined = Undefined
+onlyIf ok Impure = Impure
+onlyIf ok (Pure f) = cond (ok f) (Pure f) Impure
+
+abbrev pub narrowed : (ℕ → Bool) → Rule → Rule
+narrowed ok R =
+    record {
+      prime = R .prime;
+      arrays = R .arrays;
+      index = R .index;
+      stands = R .stands;
+      test = λ k c s. onlyIf ok (R .test k c s);
+    }

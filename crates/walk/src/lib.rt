@@ -1,0 +1,37 @@
+// The walk that peels a sketch: how it may end, and the test of a popped bucket. What the walk is stands in specs/Walk.antt,
+// and what holds of it in proofs/; the crate `peel` does it.
+ghost use mathlib.Core.Path.{_≡_};
+ghost use Rattle.walk.specs.Purity.{sizedTest};
+use sketch::params::PRIME;
+use sketch::Params;
+
+// How a walk ends.
+pub enum Ending {
+    Clean,
+    Stuck,
+    Spent,
+    NoInverse,
+    Range,
+    Full,
+}
+
+// What the test finds in a bucket: a count with no inverse, no pure bucket, or a flow.
+pub enum Found {
+    Undefined,
+    Impure,
+    Pure(u32),
+}
+
+// The purity test of bucket k with count c and idsum s. Where the sizes break a rule, nothing is pure.
+pub fn test(p: Params, k: usize, c: i32, s: u32) -> Found
+    ensures { λ r. ⌜ r ≡ sizedTest p k c s ⌝ }
+{
+    if c == 0 {
+        return Found::Impure;
+    }
+    if field::raise(PRIME, c) == 0 {
+        return Found::Undefined;
+    }
+    let f = field::flow(PRIME, c, s);
+    if p.stands(f, k) { Found::Pure(f) } else { Found::Impure }
+}
