@@ -20,3 +20,4 @@ pub mod NetCounts
 pub mod SameParams
 pub mod Histories
 pub mod Lowest
+pub mod InOrder
