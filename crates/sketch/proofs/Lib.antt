@@ -21,3 +21,4 @@ pub mod SameParams
 pub mod Histories
 pub mod Lowest
 pub mod InOrder
+pub mod Examples
