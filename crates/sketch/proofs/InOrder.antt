@@ -3,9 +3,9 @@ use mathlib.Core.Path.{_≡_, refl, sym, ap, _∙_}
 use mathlib.Core.Bool.{Bool, true, false, not, cond, _&&_, _||_}
 use mathlib.Core.Logic.{_⊎_, inl, inr, ⊎-elim}
 use mathlib.Core.List.{List, [], _∷_, _++_}
-use Prim.Native.Nat.{ℕ, zero, suc, _≤_, _<_}
+use Prim.Native.Nat.{ℕ, _≤_}
 use native.Mathlib.Omega.{arith}
-use borrow.Author.Tests.{ltb-true, ltb-false, leb-true}
+use borrow.Author.Tests.{ltb-true, leb-true}
 use lib.Dec.{eqb, ltb, leb}
 use lib.IntN.{pos}
 use lib.ListN.{length, take, drop}
@@ -21,8 +21,8 @@ use Rattle.sketch.specs.Places.{stands}
 use Rattle.sketch.specs.Sketch.{Sketch, damagedIn, leavesIn, standingAnswer}
 use Rattle.sketch.specs.Packets.{packetAnswer, entryAnswer, stepAnswer, moveAnswer, packetsAnswer, allAnswer, changed}
 use Rattle.sketch.specs.Sums.{shapesAnswer, eitherDamaged, leaves, bucketsAnswer, combineAnswer}
-use Rattle.sketch.proofs.Searches.{and-true, least-none}
-use Rattle.sketch.proofs.Rules.{good-sized, below-fails}
+use Rattle.sketch.proofs.Searches.{and-true, all-below, below-fails, none-found}
+use Rattle.sketch.proofs.Rules.{good-sizes}
 use Rattle.sketch.proofs.Lowest.{least-lowest}
 
 -- the order in which faults are judged: that of their numbers, save that Mismatch comes after Param
@@ -69,18 +69,12 @@ lowest-first applies e w h = rw e (rw e at (rising-lowest applies w h))
 abbrev pub some : ℕ → (ℕ → Bool) → Bool
 some n t = not (below n (λ k. not (t k)))
 
-all-below : (n : ℕ) (t : ℕ → Bool) → ((k : ℕ) → k < n → t k ≡ true) → below n t ≡ true
-unfolding below
-all-below zero t h = refl
-all-below (suc n) t h = rw (all-below n t (λ k l. h k (omega arith)), h n (omega arith))
-
 found-some : (n : ℕ) (t : ℕ → Bool) (b : Bool) → ltb (least 0 n t) n ≡ b → b ≡ some n t
 found-some n t true e =
     let l = least-lowest n t (ltb-true _ _ e) in
     sym (ap not (below-fails n (least 0 n t) (λ k. not (t k)) (l .inside) (ap not (l .here))))
 found-some n t false e =
-    let l : n ≤ least 0 n t = ltb-false _ _ e in
-    sym (ap not (all-below n (λ k. not (t k)) (λ k m. ap not (least-none n 0 k t (omega arith) (omega arith) (omega arith)))))
+    sym (ap not (all-below n (λ k. not (t k)) (λ k l. ap not (none-found n t e k l))))
 
 -- the number of an answer, fault by fault
 refuse-number : (b : Bool) (w : Why) (k : ℕ) (next : Answer) → numberIn (refuseIf b w k next) ≡ cond b (numberOf w) (numberIn next)
@@ -124,7 +118,7 @@ moveFault P minus f n S Form = false
 pub move-number : (P : Params) (minus : Bool) (f n : ℕ) (S : Sketch) → numberIn (moveAnswer P minus f n S) ≡ firstOf order (moveFault P minus f n S)
 unfolding moveAnswer stepAnswer entryAnswer sizesAnswer lengthsAnswer packetAnswer standingAnswer first
 move-number P minus f n S =
-    simp (first-refuse, refuse-number, refuse-at-number) (cond-within (goodParams P) (goodSizes P) 1 _ (good-sized P))
+    simp (first-refuse, refuse-number, refuse-at-number) (cond-within (goodParams P) (goodSizes P) 1 _ (good-sizes P))
 
 -- so no fault that applies has a lower number
 pub move-lowest : (P : Params) (minus : Bool) (f n : ℕ) (S : Sketch) (w : Why) → moveFault P minus f n S w ≡ true → numberIn (moveAnswer P minus f n S) ≤ numberOf w
