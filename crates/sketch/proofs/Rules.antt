@@ -36,6 +36,9 @@ sized P e =
       m-high = leb-true _ 16384 (h .1);
     }
 
+pub sized-small : {P : Params} → Sized P → size P ≤ 65536
+sized-small {P} h = small (P .d) (P .m) (h .d-high) (h .m-high)
+
 pub good-sizes : (P : Params) → goodParams P ≡ true → goodSizes P ≡ true
 unfolding goodParams
 good-sizes P e = and-true (goodSizes P) _ (and-true _ _ e .0) .0
@@ -111,7 +114,7 @@ module _ (P : Params) where
         low = low;
         high = high;
         end = stretch-within (P .d) (P .m) (i - 1) (omega arith);
-        short = small (P .d) (P .m) (s .d-high) (s .m-high);
+        short = sized-small s;
       }
 
   pub asked-done : (i f : ℕ) → standAnswer P i f ≡ Done → Asked P i

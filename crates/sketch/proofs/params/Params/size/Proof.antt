@@ -4,8 +4,7 @@ use mathlib.Core.Bool.{true}
 use native.Mathlib.Omega.{arith}
 use Rattle.sketch.specs.Params.{goodParams}
 use Rattle.sketch.proofs.Searches.{test-held, test-failed}
-use Rattle.sketch.proofs.Limits.{small}
-use Rattle.sketch.proofs.Rules.{good-sized}
+use Rattle.sketch.proofs.Rules.{sized-small, good-sized}
 use borrow.Author.Needs.{needs}
 use Rattle.sketch.proofs.params.Params.size.Statement.{statement}
 use Rattle.sketch.proofs.params.Params.size.Tie as tie
@@ -21,8 +20,7 @@ returns c = simp (test-failed (c .before .check .ensures) (c .if1 .taken))
 
 mul-result : tie.Need-mul-result
 mul-result c =
-    let h = good-sized _ (passed (c .before)) in
-    omega (arith, small _ _ (h .d-high) (h .m-high))
+    omega (arith, sized-small (good-sized _ (passed (c .before))))
 
 returns-2 : tie.Need-returns-2
 returns-2 c = simp (passed (c .before))
