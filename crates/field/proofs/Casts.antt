@@ -1,11 +1,9 @@
 -- Signed numbers as the machine has them. A signed local holds bits, so what the code computes with is `toZ w (ofZ w z)`, which is z where z fits.
-use mathlib.Core.Path.{_≡_, refl, sym, ap, ap₂, subst, _∙_}
-use mathlib.Core.Bool.{Bool, true, false}
-use Prim.Native.Nat.{ℕ, suc, _+_, _^_, _≤_, _<_}
-use native.Mathlib.Omega.{arith}
-use lib.IntN.{ℤ, pos, negsuc, natAbs, _+ℤ_, negℤ}
+use mathlib.Core.Path.{_≡_, ap, _∙_}
+use Prim.Native.Nat.{ℕ, _^_, _<_}
+use lib.IntN.{ℤ, pos, natAbs}
 use lib.Dec.{T}
-use lib.Signed.{ltZ, nonNeg, mag}
+use lib.Signed.{nonNeg, mag}
 use mir.Syntax.{Width, w32, w64}
 use mir.Val.{toZ, ofZ, SFits, Fits, hbits}
 use mir.Facts.{toZ-ofZ, sfits-widen}

@@ -1,14 +1,14 @@
 -- The one flow of a bucket: for a prime p, a count c that is no multiple of p and an idsum s below p, exactly one f below p has c * f congruent to s.
 use mathlib.Core.Path.{_≡_, refl, sym, ap, _∙_}
-use Prim.Native.Nat.{ℕ, _+_, _*_, _/_, _%_, _<_}
-use native.Mathlib.Nat.{mod-lt, mod-eq-of-lt, mod-add-div'}
+use Prim.Native.Nat.{ℕ, _*_, _/_, _%_, _<_}
+use native.Mathlib.Nat.{mod-eq-of-lt, mod-add-div'}
 use native.Mathlib.Omega.{arith}
 use lib.IntN.{ℤ, pos, negsuc, natAbs, _*ℤ_}
 use Rattle.field.specs.Prime.{Prime}
 use Rattle.field.specs.Residue.{residue}
 use Rattle.field.specs.Flow.{inverseIn, inverse, flow}
 use Rattle.field.proofs.Remainders.{same-rest, mul-rest-right}
-use Rattle.field.proofs.Residues.{residue-pos, residue-below, residue-own, residue-mul, residue-nonzero}
+use Rattle.field.proofs.Residues.{residue-pos, residue-below, residue-mul, residue-nonzero}
 use Rattle.field.proofs.Inverses.{prime-pos, inverse-solves, mul-rest-cancel}
 
 -- f is below p, c times f has the residue s, and no other number below p is such

@@ -1,11 +1,10 @@
 -- One array's turn of an update: its stretch is lent, comes back with one place changed, and the whole is changed in one array more.
 use mathlib.Core.Path.{_≡_, sym, ap, _∙_}
-use mathlib.Core.Bool.{Bool, true, false, cond}
+use mathlib.Core.Bool.{Bool, false}
 use mathlib.Core.List.{List}
 use Prim.Native.Nat.{ℕ, _+_, _*_, _-_, _≤_, _<_}
 use native.Mathlib.Omega.{arith}
 use lib.ListN.{length, getD, set, take, drop}
-use lib.Dec.{eqb}
 use borrow.Rule.Slice.PartMut.{putMid}
 use Rattle.sketch.specs.Lists.{touched}
 use Rattle.sketch.specs.Places.{standsIn}

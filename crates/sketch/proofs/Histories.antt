@@ -1,14 +1,12 @@
 -- The sketch that a history of calls leaves is the sketch of its entries.
 use mathlib.Core.Path.{_≡_, refl, sym, ap, ap₂, _∙_, fun-ext}
-use mathlib.Core.Bool.{Bool, true, false, not, cond, _&&_}
+use mathlib.Core.Bool.{Bool, true, false, cond}
 use mathlib.Core.List.{List, [], _∷_, _++_, append-nil, append-assoc}
 use Prim.Native.Nat.{ℕ, _*_}
-use borrow.Author.Tests.{not-false}
 use lib.IntN.{ℤ, pos, negℤ, _+ℤ_, _*ℤ_, +ℤ-idr}
 use Rattle.field.specs.Residue.{residue}
 use Rattle.field.proofs.Residues.{residue-zero}
 use Rattle.sketch.specs.declared.params.Params.{Params}
-use Rattle.sketch.specs.declared.answers.Why.the-variants.{Param, Mismatch}
 use Rattle.sketch.specs.declared.answers.Answer.the-variants.{Done}
 use Rattle.sketch.specs.Lists.{from}
 use Rattle.sketch.specs.Answers.{kept}
@@ -17,10 +15,10 @@ use Rattle.sketch.specs.Places.{stands}
 use Rattle.sketch.specs.Buckets.{plusMinus, weight}
 use Rattle.sketch.specs.Sketch.{Sketch, sketch, Entry, by, countAt, weightAt, sketchOf, zeros, changedIn}
 use Rattle.sketch.specs.Packets.{changed, after, entriesOf}
-use Rattle.sketch.specs.Sums.{shapesAnswer, combineAnswer, combined, Combined}
+use Rattle.sketch.specs.Sums.{combineAnswer, combined, Combined}
 use Rattle.sketch.specs.History.{History, freshly, inserting, inserting-all, withdrawing, adding, subtracting, net}
-use Rattle.sketch.proofs.Searches.{and-true}
-use Rattle.sketch.proofs.Judging.{first-done, refuse-done}
+use Rattle.sketch.proofs.Judging.{first-done}
+use Rattle.sketch.proofs.TwoSketches.{shapes-done}
 use Rattle.sketch.proofs.Tables.{replicate-from, touched-from}
 use Rattle.sketch.proofs.Idsums.{wound-both}
 use Rattle.sketch.proofs.SameParams.{size-same, stands-same}
@@ -99,13 +97,10 @@ sketch-shared P Q es g e =
 -- a sum or a difference that was not refused, by the parameters of the first sketch
 combined-shared : (minus : Bool) (es gs : List Entry) {P Q : Params} {S T S' : Sketch} → S ≡ sketchOf P es → T ≡ sketchOf Q gs → Combined minus P Q S T Done S'
     → S' ≡ combined minus (sketchOf P es) (sketchOf P gs)
-unfolding combineAnswer shapesAnswer kept
+unfolding combineAnswer kept
 combined-shared minus es gs {P} {Q} {S} {T} s t c =
-    let shapes = first-done _ _ (sym (c .answer)) .0 in
-    let a = refuse-done (not (goodParams P && goodParams Q)) Param 0 _ shapes in
-    let b = refuse-done (not (sameParams P Q)) Mismatch 0 _ (a .1) in
-    let good = and-true (goodParams P) (goodParams Q) (not-false _ (a .0)) .0 in
-    c .after ∙ ap₂ (combined minus) s (t ∙ sym (sketch-shared P Q gs good (not-false _ (b .0))))
+    let h = shapes-done P Q _ _ _ _ (first-done _ _ (sym (c .answer)) .0) in
+    c .after ∙ ap₂ (combined minus) s (t ∙ sym (sketch-shared P Q gs (h .good) (h .same)))
 
 -- whatever calls made it
 pub history : {P : Params} {es : List Entry} {S : Sketch} → History P es S → S ≡ sketchOf P es

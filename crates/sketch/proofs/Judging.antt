@@ -1,10 +1,10 @@
 -- Laws of answers: what a refusal keeps, and what holds where nothing is refused.
 use mathlib.Core.Path.{_≡_, refl, sym, ap, _∙_}
 use mathlib.Core.Bool.{Bool, true, false}
-use mathlib.Core.List.{List, [], _∷_}
+use mathlib.Core.List.{[], _∷_}
 use Prim.Native.Nat.{ℕ, _+_, _≤_, _<_}
 use native.Mathlib.Omega.{arith}
-use borrow.Author.Tests.{ltb-false, lt-ltb, le-ltb}
+use borrow.Author.Tests.{lt-ltb, le-ltb}
 use types.Run.{OneOf, miss}
 use denote.Enum.Declared.{tagOf}
 use lib.Dec.{ltb}
@@ -14,7 +14,7 @@ use Rattle.sketch.specs.declared.answers.Answer.the-variants.{Done, Refu
 use Rattle.sketch.specs.Lists.{least}
 use Rattle.sketch.specs.Answers.{refuseIf, refuseAt, first, kept}
 use Rattle.sketch.proofs.answers.Answer.{the-type}
-use Rattle.sketch.proofs.Searches.{least-none}
+use Rattle.sketch.proofs.Searches.{least-skip, none-found}
 
 -- an answer other than Done, as a `let .. else` has it
 abbrev pub Refusal : Answer → Type 0
@@ -24,10 +24,13 @@ done-not : Refusal Done → ⊥
 done-not h = miss (1 ∷ []) 0 tt h
 
 -- the first of two answers: a refusal, or the second
-pub first-refused : (r next : Answer) → Refusal r → r ≡ first r next
+refused-first : (r next : Answer) → Refusal r → r ≡ first r next
 unfolding first
-first-refused Done next h = absurd (done-not h)
-first-refused (Refused w k) next h = refl
+refused-first Done next h = absurd (done-not h)
+refused-first (Refused w k) next h = refl
+
+pub first-refused : (r judged next : Answer) → r ≡ judged → Refusal r → r ≡ first judged next
+first-refused r judged next e h = refused-first r next h ∙ ap (λ (x : Answer). first x next) e
 
 pub first-passed : (r next : Answer) → r ≡ Done → first r next ≡ next
 unfolding first
@@ -66,5 +69,12 @@ pub refuse-at-done : (n : ℕ) (t : ℕ → Bool) (w : Why) (next : Answer) → 
 unfolding refuseAt
 refuse-at-done n t w next e =
     let h = refuse-done (ltb (least 0 n t) n) w (least 0 n t) next e in
-    let l : n ≤ least 0 n t = ltb-false _ _ (h .0) in
-    ((λ k m. least-none n 0 k t (omega arith) (omega arith) (omega arith)), h .1)
+    (none-found n t (h .0), h .1)
+
+-- where no number passes the test nothing is refused
+pub refuse-none : (n : ℕ) (t : ℕ → Bool) (w : Why) (next : Answer) → ((k : ℕ) → k < n → t k ≡ false) → refuseAt n t w next ≡ next
+unfolding least
+refuse-none n t w next none =
+    let all : n + 0 ≡ n = omega arith in
+    let end : least 0 n t ≡ 0 + n = ap (λ (x : ℕ). least 0 x t) (sym all) ∙ least-skip n 0 0 t (λ x l m. none x (omega arith)) in
+    sym (refuse-past n (least 0 n t) t w next refl (omega arith))

@@ -11,7 +11,6 @@ pub mod Stretches
 pub mod TwoSketches
 pub mod Tables
 pub mod Idsums
-pub mod Passed
 pub mod TakenBack
 pub mod ManyPackets
 pub mod Weighted
@@ -20,3 +19,5 @@ pub mod NetCounts
 pub mod SameParams
 pub mod Histories
 pub mod Lowest
+pub mod InOrder
+pub mod Examples

@@ -1,17 +1,19 @@
--- Laws of a count's limits, and the sizes of sketches.
-use mathlib.Core.Path.{_≡_, refl, sym, ap, _∙_}
+-- Laws of a bucket's limits, and the sizes of sketches.
+use mathlib.Core.Path.{_≡_, refl, sym, _∙_}
 use mathlib.Core.Bool.{Bool, true, false}
-use Prim.Native.Nat.{ℕ, suc, _+_, _*_, _≤_, _<_, _^_}
+use Prim.Native.Nat.{ℕ, suc, _+_, _*_, _≤_, _<_}
 use native.Mathlib.Omega.{arith}
 use native.Mathlib.Nat.{mul-le-mul, mul-le-mul-right, suc-mul}
-use borrow.Author.Tests.{le-leb, lt-leb, leb-true, leb-false}
-use lib.Dec.{leb, leb·suc-suc}
-use lib.IntN.{ℤ, pos, negsuc, natAbs, negℤ, _+ℤ_, _-ℤ_}
+use borrow.Author.Tests.{le-leb, lt-leb, leb-true, leb-false, lt-ltb, ltb-true, not-false}
+use lib.Dec.{ltb}
+use lib.IntN.{ℤ, pos, negsuc, natAbs, _+ℤ_, _-ℤ_}
 use lib.Signed.{leZ}
 use mir.Syntax.{w32, w64}
 use mir.Val.{SFits}
-use Rattle.field.proofs.Parts.{int, sfits-of-abs, abs-of-sfits, abs-add, abs-sub}
-use Rattle.sketch.specs.Buckets.{inLimits, plusMinus}
+use Rattle.field.proofs.Parts.{sfits-of-abs, abs-of-sfits, abs-add, abs-sub}
+use Rattle.sketch.specs.Params.{prime}
+use Rattle.sketch.specs.Buckets.{inLimits, damaged, plusMinus}
+use Rattle.sketch.proofs.Searches.{and-true}
 
 -- the code's two comparisons are the limits
 pub limit-above : (z : ℤ) → leZ (negsuc 2147483645) z ≡ true → leZ z (pos 2147483646) ≡ inLimits z
@@ -31,6 +33,13 @@ limits-size z e = leb-true (natAbs z) 2147483646 e
 
 pub limits-fit : (z : ℤ) → inLimits z ≡ true → SFits w32 z
 limits-fit z e = sfits-of-abs w32 z (omega (arith, limits-size z e))
+
+-- a bucket within its limits, by its test, and back
+pub whole : (c : ℤ) (s : ℕ) → damaged c s ≡ false → (inLimits c ≡ true) × (s < prime)
+whole c s e = let q = and-true (inLimits c) (ltb s prime) (not-false _ e) in (q .0, ltb-true s prime (q .1))
+
+pub whole-back : (c : ℤ) (s : ℕ) → inLimits c ≡ true → s < prime → damaged c s ≡ false
+whole-back c s e l = rw (e, lt-ltb s prime l)
 
 -- the sum and the difference of two counts fit the wide width
 pub wide : (minus : Bool) (x y : ℤ) → SFits w32 x → SFits w32 y → SFits w64 (plusMinus minus x y)

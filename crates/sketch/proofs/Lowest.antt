@@ -5,7 +5,7 @@ use mathlib.Core.Logic.{_⊎_, inl, inr, ⊎-elim}
 use Prim.Native.Nat.{ℕ, zero, suc, _+_, _≤_, _<_}
 use native.Mathlib.Decide.{ℕ-discrete}
 use native.Mathlib.Omega.{arith}
-use borrow.Author.Tests.{ltb-true, ltb-false}
+use borrow.Author.Tests.{ltb-true}
 use lib.Dec.{eqb, ltb, leb}
 use lib.IntN.{pos}
 use lib.ListN.{length}
@@ -22,9 +22,8 @@ use Rattle.sketch.specs.Buckets.{inLimits, damaged, plusMinus}
 use Rattle.sketch.specs.Sketch.{Sketch, countIn, idsumIn, damagedIn, leavesIn, standingAnswer}
 use Rattle.sketch.specs.Packets.{packetAnswer, entryAnswer, stepAnswer, moveAnswer}
 use Rattle.sketch.specs.Sums.{shapesAnswer, eitherDamaged, leaves, bucketsAnswer, combineAnswer}
-use Rattle.sketch.proofs.Searches.{and-true, least-none}
-use Rattle.sketch.proofs.Judging.{first-done, refuse-done}
-use Rattle.sketch.proofs.Passed.{and-rest, lengths-done}
+use Rattle.sketch.proofs.Searches.{and-true, and-rest, none-found}
+use Rattle.sketch.proofs.TwoSketches.{shapes-done}
 
 -- k is the lowest number below n that passes the test
 pub record Lowest (n : ℕ) (t : ℕ → Bool) (k : ℕ) : Type 0 where
@@ -59,8 +58,7 @@ at-step : (n : ℕ) (t : ℕ → Bool) (w v : Why) (k : ℕ) (next : Answer) (b 
 at-step n t w v k next true e q =
     let found : least 0 n t ≡ k = cc in inl (cc, rw found at (least-lowest n t (ltb-true (least 0 n t) n e)))
 at-step n t w v k next false e q =
-    let l = ltb-false (least 0 n t) n e in
-    inr ((λ j m. least-none n 0 j t (omega arith) (omega arith) (omega arith)), q)
+    inr (none-found n t e, q)
 
 refuse-at : (n : ℕ) (t : ℕ → Bool) (w v : Why) (k : ℕ) (next : Answer) → refuseAt n t w next ≡ Refused v k
     → ((w ≡ v) × Lowest n t k) ⊎ (((j : ℕ) → j < n → t j ≡ false) × (next ≡ Refused v k))
@@ -172,11 +170,10 @@ or-neither false t e = (refl, e)
 
 module _ (minus : Bool) (P Q : Params) (S T : Sketch) (k : ℕ) where
   combine-late : (w : Why) → ofBucket w ≡ true → combineAnswer minus P Q S T ≡ Refused w k → (length (S .counts) ≡ size P) × (bucketsAnswer minus S T ≡ Refused w k)
-  unfolding combineAnswer shapesAnswer
+  unfolding combineAnswer
   combine-late w q e =
       let r = first-late _ _ w k (shapes-early P Q (length (S .counts)) (length (S .idsums)) (length (T .counts)) (length (T .idsums))) q e in
-      let same = refuse-done (not (sameParams P Q)) Mismatch 0 _ (refuse-done (not (goodParams P && goodParams Q)) Param 0 _ (r .0) .1) .1 in
-      (lengths-done P _ _ (first-done _ _ same .0) .0, r .1)
+      (shapes-done P Q _ _ _ _ (r .0) .counts, r .1)
 
   pub combine-lowest-damage : combineAnswer minus P Q S T ≡ Refused Damage k
       → Lowest (size P) (λ j. damaged (countIn S j) (idsumIn S j) || damaged (countIn T j) (idsumIn T j)) k

@@ -62,9 +62,7 @@ module _ (P : Params) (fs ns : List ℕ) (S : Sketch) (i : ℕ) (T : Sketch) (h 
 
   pub packet-refused : (r : Answer) → r ≡ stepAnswer P false (getD fs i 0) (getD ns i 0) T → Refusal r → r ≡ packetsAnswer P fs ns S
   packet-refused r e q =
-      first-refused r (packetsAnswer P (drop (suc i) fs) (drop (suc i) ns) now-next) q
-      ∙ ap (λ (x : Answer). first x (packetsAnswer P (drop (suc i) fs) (drop (suc i) ns) now-next)) e
-      ∙ sym opened
+      first-refused r (stepAnswer P false (getD fs i 0) (getD ns i 0) T) (packetsAnswer P (drop (suc i) fs) (drop (suc i) ns) now-next) e q ∙ sym opened
 
   pub packet-passed : (T' : Sketch) → stepAnswer P false (getD fs i 0) (getD ns i 0) T ≡ Done → T' ≡ now-next → packetsAnswer P (drop (i + 1) fs) (drop (i + 1) ns) T' ≡ packetsAnswer P fs ns S
   packet-passed T' e q = rw (add-one i, q) (sym (opened ∙ first-passed _ _ e))
@@ -102,7 +100,7 @@ module _ (P : Params) (fs ns : List ℕ) (S : Sketch) where
   unfolding allAnswer
   all-misshaped r e h =
       record {
-        answer = first-refused r inTurn h ∙ ap (λ (x : Answer). first x inTurn) e;
+        answer = first-refused r _ inTurn e h;
         after-all = kept-old r S (after P fs ns S) h;
       }
 

@@ -2,7 +2,7 @@
 use mathlib.Core.Path.{_≡_, sym, ap, _∙_}
 use mathlib.Core.List.{List}
 use mathlib.Core.Bool.{Bool, true, false, not, _&&_}
-use Prim.Native.Nat.{ℕ, zero, suc, _+_, _*_, _≤_, _<_}
+use Prim.Native.Nat.{ℕ, _+_, _-_, _*_, _≤_, _<_}
 use native.Mathlib.Decide.{ℕ-discrete}
 use native.Mathlib.Omega.{arith}
 use borrow.Author.Tests.{le-leb, leb-true, eq-eqb, eqb-true, not-false}
@@ -15,12 +15,13 @@ use Rattle.sketch.specs.declared.answers.Why.the-variants.{Param, Length
 use Rattle.sketch.specs.declared.answers.Answer.{Answer}
 use Rattle.sketch.specs.declared.answers.Answer.the-variants.{Done, Refused}
 use Rattle.sketch.specs.declared.answers.Spot.the-variants.{At, Refused as NoSpot}
-use Rattle.sketch.specs.Answers.{spotOf}
+use Rattle.sketch.specs.Answers.{refuseIf, spotOf}
 use Rattle.sketch.specs.Lists.{below}
 use Rattle.sketch.specs.Params.{size, Sized, goodSizes, goodParams, samePair, sameParams, lengthsAnswer, sizesAnswer, shapeAnswer}
 use Rattle.sketch.specs.Places.{stand, standAnswer, Placed}
-use Rattle.sketch.proofs.Searches.{and-true, and-false}
+use Rattle.sketch.proofs.Searches.{and-true, below-fails}
 use Rattle.sketch.proofs.Judging.{refuse-done}
+use Rattle.sketch.proofs.Limits.{stretch-within, small}
 
 pub sized : (P : Params) → goodSizes P ≡ true → Sized P
 unfolding goodSizes
@@ -35,19 +36,15 @@ sized P e =
       m-high = leb-true _ 16384 (h .1);
     }
 
-pub good-sized : (P : Params) → goodParams P ≡ true → goodSizes P ≡ true
+pub sized-small : {P : Params} → Sized P → size P ≤ 65536
+sized-small {P} h = small (P .d) (P .m) (h .d-high) (h .m-high)
+
+pub good-sizes : (P : Params) → goodParams P ≡ true → goodSizes P ≡ true
 unfolding goodParams
-good-sized P e = and-true (goodSizes P) _ (and-true _ _ e .0) .0
+good-sizes P e = and-true (goodSizes P) _ (and-true _ _ e .0) .0
 
--- where the test fails at a number below n, it does not hold at all of them
-fails-step : (n i : ℕ) (t : ℕ → Bool) → Dec (i ≡ n) → t i ≡ false → (i < n → below n t ≡ false) → i < suc n → (below n t && t n) ≡ false
-fails-step n i t (yes p) e ih h = and-false (below n t) (t n) (rw (← p) e)
-fails-step n i t (no q) e ih h = rw (ih (omega arith))
-
-pub below-fails : (n i : ℕ) (t : ℕ → Bool) → i < n → t i ≡ false → below n t ≡ false
-unfolding below
-below-fails zero i t h e = absurd (omega arith)
-below-fails (suc n) i t h e = fails-step n i t (ℕ-discrete i n) e (λ k. below-fails n i t k e) h
+pub good-sized : (P : Params) → goodParams P ≡ true → Sized P
+good-sized P e = sized P (good-sizes P e)
 
 -- of four tests, where three hold, the last is left
 pub last-of-four : (t : ℕ → Bool) → t 0 ≡ true → t 1 ≡ true → t 2 ≡ true → t 3 ≡ below 4 t
@@ -70,40 +67,59 @@ unfolding goodSizes
 last-size P h k l = simp (le-leb 2 _ h, le-leb _ 4 k, le-leb 1 _ l)
 
 -- where the sizes are the same, the pairs decide
-pub same-sizes : (P Q : Params) → P .d ≡ Q .d → P .m ≡ Q .m → below 4 (samePair P Q) ≡ sameParams P Q
+pub pairs-decide : (P Q : Params) → P .d ≡ Q .d → P .m ≡ Q .m → below 4 (samePair P Q) ≡ sameParams P Q
 unfolding sameParams
-same-sizes P Q h k = simp (eq-eqb _ _ h, eq-eqb _ _ k)
+pairs-decide P Q h k = simp (eq-eqb _ _ h, eq-eqb _ _ k)
+
+-- array i, counted from 1, is one of those that the parameters give, and lies within the sketch, which is small
+pub record Asked (P : Params) (i : ℕ) : Type 0 where
+  pub sized : Sized P
+  pub low : 1 ≤ i
+  pub high : i ≤ P .d
+  pub end : (i - 1) * P .m + P .m ≤ size P
+  pub short : size P ≤ 65536
 
 -- where nothing was refused
 module _ (P : Params) where
-  pub lengths-done : (c s : ℕ) → lengthsAnswer P c s ≡ Done → (c ≡ P .d * P .m) × (s ≡ P .d * P .m)
+  pub lengths-done : (c s : ℕ) → lengthsAnswer P c s ≡ Done → (c ≡ size P) × (s ≡ size P)
   unfolding lengthsAnswer
   lengths-done c s e =
       let h = refuse-done (not (eqb c (size P) && eqb s (size P))) Length 0 Done e in
       let k = and-true (eqb c (size P)) _ (not-false _ (h .0)) in
       (eqb-true _ _ (k .0), eqb-true _ _ (k .1))
 
-  pub sizes-done : (c s : ℕ) → sizesAnswer P c s ≡ Done → Sized P × (c ≡ P .d * P .m) × (s ≡ P .d * P .m)
+  rule-done : (b : Bool) (c s : ℕ) → refuseIf (not b) Param 0 (lengthsAnswer P c s) ≡ Done → (b ≡ true) × (c ≡ size P) × (s ≡ size P)
+  rule-done b c s e =
+      let h = refuse-done (not b) Param 0 _ e in
+      let k = lengths-done c s (h .1) in
+      (not-false b (h .0), k .0, k .1)
+
+  pub sizes-done : (c s : ℕ) → sizesAnswer P c s ≡ Done → Sized P × (c ≡ size P) × (s ≡ size P)
   unfolding sizesAnswer
-  sizes-done c s e =
-      let h = refuse-done (not (goodSizes P)) Param 0 _ e in
-      let k = lengths-done c s (h .1) in
-      (sized P (not-false _ (h .0)), k .0, k .1)
+  sizes-done c s e = let h = rule-done (goodSizes P) c s e in (sized P (h .0), h .1, h .2)
 
-  pub shape-done : (c s : ℕ) → shapeAnswer P c s ≡ Done → Sized P × (c ≡ P .d * P .m) × (s ≡ P .d * P .m)
+  pub shape-done : (c s : ℕ) → shapeAnswer P c s ≡ Done → Sized P × (c ≡ size P) × (s ≡ size P)
   unfolding shapeAnswer
-  shape-done c s e =
-      let h = refuse-done (not (goodParams P)) Param 0 _ e in
-      let k = lengths-done c s (h .1) in
-      (sized P (good-sized P (not-false _ (h .0))), k .0, k .1)
+  shape-done c s e = let h = rule-done (goodParams P) c s e in (good-sized P (h .0), h .1, h .2)
 
-  pub asked-done : (i f : ℕ) → standAnswer P i f ≡ Done → Sized P × (1 ≤ i) × (i ≤ P .d)
-  unfolding standAnswer
-  asked-done i f e =
-      let h = refuse-done (not (goodParams P && (leb 1 i && leb i (P .d)))) Param 0 _ e in
-      let k = and-true (goodParams P) _ (not-false _ (h .0)) in
+  pub asked : (i : ℕ) → not (goodParams P && (leb 1 i && leb i (P .d))) ≡ false → Asked P i
+  asked i e =
+      let k = and-true (goodParams P) _ (not-false _ e) in
       let l = and-true (leb 1 i) _ (k .1) in
-      (sized P (good-sized P (k .0)), leb-true _ _ (l .0), leb-true _ _ (l .1))
+      let s = good-sized P (k .0) in
+      let low : 1 ≤ i = leb-true _ _ (l .0) in
+      let high : i ≤ P .d = leb-true _ _ (l .1) in
+      record {
+        sized = s;
+        low = low;
+        high = high;
+        end = stretch-within (P .d) (P .m) (i - 1) (omega arith);
+        short = sized-small s;
+      }
+
+  pub asked-done : (i f : ℕ) → standAnswer P i f ≡ Done → Asked P i
+  unfolding standAnswer
+  asked-done i f e = asked i (refuse-done (not (goodParams P && (leb 1 i && leb i (P .d)))) Param 0 _ e .0)
 
 -- what a caller is told of a place
 pub spot-at : (r answer : Answer) (k j : ℕ) → r ≡ answer → r ≡ Done → k ≡ j → At k ≡ spotOf answer j

@@ -1,36 +1,17 @@
--- Laws of parameters: the sizes that the rules allow, and that under the same parameters each flow stands in the same buckets.
+-- Under the same parameters each flow stands in the same buckets.
 use mathlib.Core.Path.{_≡_, refl, ap, ap₂, _∙_, fun-ext}
-use mathlib.Core.Bool.{Bool, true, false, not, _&&_}
+use mathlib.Core.Bool.{Bool, true, false, _&&_}
 use Prim.Native.Nat.{ℕ, _*_, _/_, _%_, _<_}
 use native.Mathlib.Omega.{arith}
-use borrow.Author.Tests.{ltb-true, leb-true, eqb-true}
-use lib.Dec.{eqb, ltb, leb}
+use borrow.Author.Tests.{ltb-true, eqb-true}
+use lib.Dec.{eqb, ltb}
 use lib.ListN.{getD}
 use Rattle.sketch.specs.declared.params.Params.{Params}
 use Rattle.sketch.specs.Lists.{below}
-use Rattle.sketch.specs.Params.{size, goodSizes, goodParams, pairAt, twins, Sized, samePair, sameParams}
+use Rattle.sketch.specs.Params.{size, goodParams, samePair, sameParams}
 use Rattle.sketch.specs.Places.{stand, standsIn, stands}
 use Rattle.sketch.proofs.Searches.{and-true, below-at}
-
-pub sizes-sized : (P : Params) → goodSizes P ≡ true → Sized P
-unfolding goodSizes
-sizes-sized P e =
-    let a = and-true (leb 2 (P .d) && leb (P .d) 4 && leb 1 (P .m)) (leb (P .m) 16384) e in
-    let b = and-true (leb 2 (P .d) && leb (P .d) 4) (leb 1 (P .m)) (a .0) in
-    let c = and-true (leb 2 (P .d)) (leb (P .d) 4) (b .0) in
-    record {
-      d-low = leb-true 2 (P .d) (c .0);
-      d-high = leb-true (P .d) 4 (c .1);
-      m-low = leb-true 1 (P .m) (b .1);
-      m-high = leb-true (P .m) 16384 (a .1);
-    }
-
-pub good-sized : (P : Params) → goodParams P ≡ true → Sized P
-unfolding goodParams
-good-sized P e =
-    let pairs = below 4 (pairAt (P .d) (P .a) (P .b)) in
-    let apart = below 4 (λ i. below i (λ j. not (twins (P .d) (P .a) (P .b) i j))) in
-    sizes-sized P (and-true (goodSizes P) pairs (and-true (goodSizes P && pairs) apart e .0) .0)
+use Rattle.sketch.proofs.Rules.{good-sized}
 
 -- two sets of parameters that the test finds the same
 module _ (P Q : Params) (same : sameParams P Q ≡ true) where

@@ -76,6 +76,9 @@ pub record Within (d m i k : ℕ) : Type 0 where
   pub bucket : i * m + k < d * m
   pub size : d * m ≤ 65536
 
+pub reach-small : {d m c s : ℕ} {ks : List ℕ} → Reached d m ks c s → d * m ≤ 65536
+reach-small {d} {m} r = small d m (r .d-high) (r .m-high)
+
 pub reach : {d m c s : ℕ} {ks : List ℕ} (i : ℕ) → Reached d m ks c s → i < d → Within d m i (getD ks i 0)
 reach {d} {m} i r h =
     let end = stretch-within d m i h in
@@ -83,7 +86,7 @@ reach {d} {m} i r h =
       few = omega (arith, r .d-high);
       start = end;
       bucket = omega (arith, end, r .inside i h);
-      size = small d m (r .d-high) (r .m-high);
+      size = reach-small r;
     }
 
 -- A scan array by array: what is looked for is the lowest bucket that stands there and passes q.

@@ -13,15 +13,16 @@ use Rattle.sketch.specs.declared.params.Params.{Params}
 use Rattle.sketch.specs.declared.answers.Why.the-variants.{Param, Flow, Count, Damage, Range}
 use Rattle.sketch.specs.declared.answers.Answer.{Answer}
 use Rattle.sketch.specs.declared.answers.Answer.the-variants.{Done, Refused}
-use Rattle.sketch.specs.Answers.{first, kept}
+use Rattle.sketch.specs.Answers.{kept}
 use Rattle.sketch.specs.Params.{prime, primeOf, size, Sized, goodParams, sizesAnswer}
 use Rattle.sketch.specs.Places.{stand, standsIn, stands, Placed, Reached}
-use Rattle.sketch.specs.Buckets.{inLimits, plusMinus, weight}
-use Rattle.sketch.specs.Sketch.{Sketch, sketch, countIn, damagedIn, leavesIn, standingAnswer, changedIn}
+use Rattle.sketch.specs.Buckets.{inLimits, damaged, plusMinus, weight}
+use Rattle.sketch.specs.Sketch.{Sketch, countIn, idsumIn, damagedIn, leavesIn, standingAnswer, changedIn}
 use Rattle.sketch.specs.Packets.{packetAnswer, entryAnswer, stepAnswer, changed, Stepped, moveAnswer, Moved}
 use Rattle.sketch.proofs.Judging.{Refusal, first-refused, first-passed, first-done, kept-old, kept-new, refuse-done, refuse-at-done}
 use Rattle.sketch.proofs.Rules.{sizes-done}
-use Rattle.sketch.proofs.Searches.{and-true}
+use Rattle.sketch.proofs.Searches.{and-true, and-rest}
+use Rattle.sketch.proofs.Limits.{whole}
 use Rattle.sketch.proofs.Standing.{standing-in, standing-same}
 
 -- what an entry that was let in says of its sizes and its packet
@@ -81,15 +82,48 @@ module _ {P : Params} {f : ℕ} {ks : List ℕ} (p : Placed P f ks) (minus : Boo
       ∙ ap (λ (on : ℕ → Bool). changedIn on minus (pos n) w S) (placed p)
       ∙ ap (λ (x : ℕ). changedIn (stands P f) minus (pos n) x S) q
 
--- where no bucket is at fault, each has room
+-- where no bucket is at fault, each of those that are meant is within its limits, and stays there
+pub standing-done : (N : ℕ) (on : ℕ → Bool) (minus : Bool) (n : ℤ) (S : Sketch) → standingAnswer N on minus n S ≡ Done → (k : ℕ) → k < N → on k ≡ true
+    → (damaged (countIn S k) (idsumIn S k) ≡ false) × (inLimits (plusMinus minus (countIn S k) n) ≡ true)
+unfolding standingAnswer damagedIn leavesIn
+standing-done N on minus n S e k l h =
+    let d = refuse-at-done N (damagedIn on S) Damage _ e in
+    let r = refuse-at-done N (leavesIn on minus n (S .counts)) Range _ (d .1) in
+    (and-rest (on k) _ h (d .0 k l), not-false _ (and-rest (on k) _ h (r .0 k l)))
+
 pub has-room : (d m : ℕ) (g : ℕ → ℕ) (minus : Bool) (n : ℤ) (S : Sketch) → standingAnswer (d * m) (standsIn d m g) minus n S ≡ Done
     → (i : ℕ) → i < d → g i < m → i * m + m ≤ d * m → inLimits (plusMinus minus (countIn S (i * m + g i)) n) ≡ true
-unfolding standingAnswer leavesIn
 has-room d m g minus n S e i h l end =
-    let k = refuse-at-done (d * m) (damagedIn (standsIn d m g) S) Damage _ e .1 in
-    let q = refuse-at-done (d * m) (leavesIn (standsIn d m g) minus n (S .counts)) Range _ k .0 (i * m + g i) (omega arith) in
-    let on : standsIn d m g (i * m + g i) ≡ true = standing-in d m g i (i * m + g i) h (omega arith) (omega arith) ∙ eq-eqb (i * m + g i) (i * m + g i) refl in
-    not-false _ (rw on at q)
+    standing-done (d * m) (standsIn d m g) minus n S e (i * m + g i) (omega arith)
+    (standing-in d m g i (i * m + g i) h (omega arith) (omega arith) ∙ eq-eqb (i * m + g i) (i * m + g i) refl) .1
+
+-- what a step that is not refused tells
+pub record StepDone (P : Params) (minus : Bool) (f n : ℕ) (S : Sketch) : Type 0 where
+  pub entry : entryAnswer P (length (S .counts)) (length (S .idsums)) f n ≡ Done
+  pub let-in : Let P (length (S .counts)) (length (S .idsums)) f n
+  pub sound : (k : ℕ) → k < size P → stands P f k ≡ true → (inLimits (countIn S k) ≡ true) × (idsumIn S k < prime)
+  pub stays : (k : ℕ) → k < size P → stands P f k ≡ true → inLimits (plusMinus minus (countIn S k) (pos n)) ≡ true
+
+pub step-done : (P : Params) (minus : Bool) (f n : ℕ) (S : Sketch) → stepAnswer P minus f n S ≡ Done → StepDone P minus f n S
+unfolding stepAnswer
+step-done P minus f n S e =
+    let a = first-done _ _ e in
+    let b = standing-done (size P) (stands P f) minus (pos n) S (a .1) in
+    record {
+      entry = a .0;
+      let-in = entry-done P _ _ f n (a .0);
+      sound = λ k l s. whole (countIn S k) (idsumIn S k) (b k l s .0);
+      stays = λ k l s. b k l s .1;
+    }
+
+-- what an insertion that was not refused tells, and the same of a withdrawal
+pub move-done : (P : Params) (minus : Bool) (f n : ℕ) (S : Sketch) → moveAnswer P minus f n S ≡ Done → (goodParams P ≡ true) × (stepAnswer P minus f n S ≡ Done)
+unfolding moveAnswer
+move-done P minus f n S e = let q = refuse-done (not (goodParams P)) Param 0 _ e in (not-false _ (q .0), q .1)
+
+pub move-good : (P : Params) (minus : Bool) (f n : ℕ) (S : Sketch) → goodParams P ≡ true → moveAnswer P minus f n S ≡ stepAnswer P minus f n S
+unfolding moveAnswer
+move-good P minus f n S e = rw e
 
 -- the stages: refused before a bucket is looked at, refused for a bucket, and done
 module _ (minus : Bool) (P : Params) (f n : ℕ) (S : Sketch) (r : Answer) where
@@ -97,7 +131,7 @@ module _ (minus : Bool) (P : Params) (f n : ℕ) (S : Sketch) (r : Answer) where
   unfolding stepAnswer
   not-let e h =
       record {
-        answer = first-refused r (standingAnswer (size P) (stands P f) minus (pos n) S) h ∙ ap (λ (x : Answer). first x (standingAnswer (size P) (stands P f) minus (pos n) S)) e;
+        answer = first-refused r _ _ e h;
         after = kept-old r S (changed P minus f n S) h;
       }
 

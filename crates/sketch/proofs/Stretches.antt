@@ -2,9 +2,9 @@
 use mathlib.Core.Path.{_≡_, refl}
 use mathlib.Core.Bool.{not, _&&_}
 use mathlib.Core.List.{List, []}
-use Prim.Native.Nat.{ℕ, _+_, _-_, _*_, _≤_}
+use Prim.Native.Nat.{ℕ, _+_, _-_, _*_}
 use native.Mathlib.Omega.{arith}
-use borrow.Author.Tests.{not-false, leb-true, eqb-true}
+use borrow.Author.Tests.{not-false, eqb-true}
 use lib.Dec.{leb, eqb}
 use lib.ListN.{length, take, drop}
 use Rattle.sketch.specs.declared.params.Params.{Params}
@@ -14,32 +14,14 @@ use Rattle.sketch.specs.declared.answers.Answer.the-variants.{Done, Refu
 use Rattle.sketch.specs.Answers.{kept}
 use Rattle.sketch.specs.Params.{size, goodParams}
 use Rattle.sketch.specs.Arrays.{arrayAnswer, stretch}
-use Rattle.sketch.proofs.Searches.{and-true}
 use Rattle.sketch.proofs.Judging.{Refusal, kept-old, refuse-done}
-use Rattle.sketch.proofs.Rules.{sized, good-sized}
-use Rattle.sketch.proofs.Limits.{stretch-within, small}
+use Rattle.sketch.proofs.Rules.{Asked, asked}
 
--- the stretch of array i lies within a slice of n places, which is small
-pub record Within (P : Params) (i n : ℕ) : Type 0 where
-  pub low : 1 ≤ i
-  pub end : (i - 1) * P .m + P .m ≤ n
-  pub short : n ≤ 65536
-
-pub array-done : (P : Params) (i n : ℕ) → arrayAnswer P i n ≡ Done → Within P i n
+pub array-done : (P : Params) (i n : ℕ) → arrayAnswer P i n ≡ Done → Asked P i × (n ≡ size P)
 unfolding arrayAnswer
 array-done P i n e =
     let h = refuse-done (not (goodParams P && (leb 1 i && leb i (P .d)))) Param 0 _ e in
-    let k = and-true (goodParams P) _ (not-false _ (h .0)) in
-    let l = and-true (leb 1 i) _ (k .1) in
-    let low : 1 ≤ i = leb-true _ _ (l .0) in
-    let high : i ≤ P .d = leb-true _ _ (l .1) in
-    let long : n ≡ size P = eqb-true _ _ (not-false _ (refuse-done (not (eqb n (size P))) Length 0 _ (h .1) .0)) in
-    let s = sized P (good-sized P (k .0)) in
-    record {
-      low = low;
-      end = omega (arith, stretch-within (P .d) (P .m) (i - 1) (omega arith));
-      short = omega (arith, small (P .d) (P .m) (s .d-high) (s .m-high));
-    }
+    (asked P i (h .0), eqb-true _ _ (not-false _ (refuse-done (not (eqb n (size P))) Length 0 _ (h .1) .0)))
 
 -- what is lent where the answer is a refusal, and where it is not
 no-stretch : {A : Type 0} (r : Answer) (P : Params) (i : ℕ) (xs : List A) → Refusal r → [] ≡ stretch r P i xs

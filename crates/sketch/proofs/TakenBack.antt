@@ -17,9 +17,10 @@ use Rattle.sketch.specs.Buckets.{inLimits, damaged, plusMinus, weight}
 use Rattle.sketch.specs.Sketch.{Sketch, sketch, countIn, idsumIn, damagedIn, leavesIn, standingAnswer, changedIn}
 use Rattle.sketch.specs.Packets.{stepAnswer, changed, Inserted, Withdrawn}
 use Rattle.sketch.proofs.Changes.{length-touched, getD-touched}
-use Rattle.sketch.proofs.Judging.{first-passed, kept-new}
+use Rattle.sketch.proofs.Judging.{first-passed, kept-new, refuse-none}
 use Rattle.sketch.proofs.Tables.{touched-back}
-use Rattle.sketch.proofs.Passed.{refuse-none, whole-back, Moved, step-done, move-done, move-good}
+use Rattle.sketch.proofs.Limits.{whole-back}
+use Rattle.sketch.proofs.Steps.{StepDone, step-done, move-done, move-good}
 use Rattle.sketch.proofs.Idsums.{prime-pos, wound-back}
 
 -- it is enough that the idsums of the flow's buckets are below p
@@ -51,20 +52,20 @@ step-back P f n S e = (
   first-passed _ _ (simp length-touched (m .entry))
       ∙ refuse-none (size P) _ _ _ (λ k l. sound-after k l (stands P f k) refl)
       ∙ refuse-none (size P) _ _ _ (λ k l. stays-after k l (stands P f k) refl),
-  changed-back P f n S (λ k l s. m .sound k (omega (arith, m .idsums-long)) s .1),
+  changed-back P f n S (λ k l s. m .sound k (omega (arith, m .let-in)) s .1),
 )
   where
-    m : Moved P false f n S
+    m : StepDone P false f n S
     m = step-done P false f n S e
 
     count-after : (k : ℕ) → k < size P → stands P f k ≡ true → countIn (changed P false f n S) k ≡ countIn S k +ℤ pos n
-    count-after k l s = count-changed P false f n S k (omega (arith, m .counts-long)) s
+    count-after k l s = count-changed P false f n S k (omega (arith, m .let-in)) s
 
     sound-after : (k : ℕ) → k < size P → (b : Bool) → stands P f k ≡ b
         → (b && damaged (countIn (changed P false f n S) k) (idsumIn (changed P false f n S) k)) ≡ false
     sound-after k l true s =
         whole-back (countIn (changed P false f n S) k) (idsumIn (changed P false f n S) k) (ap inLimits (count-after k l s) ∙ m .stays k l s)
-        (rw (idsum-changed P false f n S k (omega (arith, m .idsums-long)) s) (residue-below prime prime-pos _))
+        (rw (idsum-changed P false f n S k (omega (arith, m .let-in)) s) (residue-below prime prime-pos _))
     sound-after k l false s = refl
 
     stays-after : (k : ℕ) → k < size P → (b : Bool) → stands P f k ≡ b → (b && not (inLimits (countIn (changed P false f n S) k -ℤ pos n))) ≡ false

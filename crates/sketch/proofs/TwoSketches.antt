@@ -7,22 +7,43 @@ use lib.ListN.{length}
 use Rattle.sketch.specs.declared.params.Params.{Params}
 use Rattle.sketch.specs.declared.answers.Why.the-variants.{Param, Damage, Range, Mismatch}
 use Rattle.sketch.specs.declared.answers.Answer.the-variants.{Done}
-use Rattle.sketch.specs.Params.{goodParams, sameParams, lengthsAnswer}
+use Rattle.sketch.specs.Params.{size, goodParams, sameParams, lengthsAnswer}
 use Rattle.sketch.specs.Buckets.{inLimits, plusMinus}
 use Rattle.sketch.specs.Sketch.{Sketch, countIn}
 use Rattle.sketch.specs.Sums.{shapesAnswer, eitherDamaged, leaves, bucketsAnswer, combineAnswer}
+use Rattle.sketch.proofs.Searches.{and-true}
 use Rattle.sketch.proofs.Judging.{first-done, refuse-done, refuse-at-done}
 use Rattle.sketch.proofs.Rules.{lengths-done}
 
--- all four lengths are the same
-pub shapes-done : (P Q : Params) (c s e t : ℕ) → shapesAnswer P Q c s e t ≡ Done → (s ≡ c) × (e ≡ c) × (t ≡ c)
+-- the parameters keep the rules and are the same, and the four lengths are those that they ask for
+pub record Shaped (P Q : Params) (c s e t : ℕ) : Type 0 where
+  pub good : goodParams P ≡ true
+  pub same : sameParams P Q ≡ true
+  pub counts : c ≡ size P
+  pub idsums : s ≡ size P
+  pub others : e ≡ size P
+  pub weights : t ≡ size P
+
+pub shapes-done : (P Q : Params) (c s e t : ℕ) → shapesAnswer P Q c s e t ≡ Done → Shaped P Q c s e t
 unfolding shapesAnswer
 shapes-done P Q c s e t h =
-    let k = refuse-done (not (goodParams P && goodParams Q)) Param 0 _ h .1 in
-    let l = first-done (lengthsAnswer P c s) _ (refuse-done (not (sameParams P Q)) Mismatch 0 _ k .1) in
-    let x = lengths-done P c s (l .0) in
-    let y = lengths-done P e t (l .1) in
-    (x .1 ∙ sym (x .0), y .0 ∙ sym (x .0), y .1 ∙ sym (x .0))
+    let k = refuse-done (not (goodParams P && goodParams Q)) Param 0 _ h in
+    let l = refuse-done (not (sameParams P Q)) Mismatch 0 _ (k .1) in
+    let long = first-done (lengthsAnswer P c s) _ (l .1) in
+    let x = lengths-done P c s (long .0) in
+    let y = lengths-done P e t (long .1) in
+    record {
+      good = and-true (goodParams P) _ (not-false _ (k .0)) .0;
+      same = not-false _ (l .0);
+      counts = x .0;
+      idsums = x .1;
+      others = y .0;
+      weights = y .1;
+    }
+
+-- so all four are the same
+pub same-lengths : {P Q : Params} {c s e t : ℕ} → Shaped P Q c s e t → (s ≡ c) × (e ≡ c) × (t ≡ c)
+same-lengths h = (h .idsums ∙ sym (h .counts), h .others ∙ sym (h .counts), h .weights ∙ sym (h .counts))
 
 -- and each count stays within its limits
 pub combine-done : (minus : Bool) (P Q : Params) (S T : Sketch) → combineAnswer minus P Q S T ≡ Done
@@ -33,4 +54,4 @@ combine-done minus P Q S T e =
     let h = first-done (shapesAnswer P Q (length (S .counts)) (length (S .idsums)) (length (T .counts)) (length (T .idsums))) _ e in
     let k = refuse-at-done (length (S .counts)) (eitherDamaged S T) Damage _ (h .1) .1 in
     let l = refuse-at-done (length (S .counts)) (leaves minus (S .counts) (T .counts)) Range _ k .0 in
-    (shapes-done P Q _ _ _ _ (h .0), λ j m. not-false _ (l j m))
+    (same-lengths (shapes-done P Q _ _ _ _ (h .0)), λ j m. not-false _ (l j m))

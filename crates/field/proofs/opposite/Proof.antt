@@ -1,5 +1,5 @@
 -- `field::opposite` meets its contract.
-use mathlib.Core.Path.{_≡_, sym, ap, _∙_}
+use mathlib.Core.Path.{sym, ap, _∙_}
 use Prim.Native.Nat.{ℕ}
 use lib.IntN.{pos, negℤ}
 use native.Mathlib.Omega.{arith}

@@ -1,15 +1,14 @@
 -- `field::raise` meets its contract: a negative count is the opposite of its size.
-use mathlib.Core.Path.{_≡_, refl, sym, ap, subst⁻¹, _∙_}
-use Prim.Native.Nat.{_<_, _≤_}
+use mathlib.Core.Path.{_≡_, sym, ap, subst⁻¹, _∙_}
 use lib.IntN.{pos, natAbs, negℤ, _-ℤ_}
 use mir.Facts.{toZ-ofZ}
 use mir.Syntax.{w32, w64}
-use mir.Val.{SFits, Fits, toZ, ofZ}
+use mir.Val.{SFits, toZ, ofZ}
 use native.Mathlib.Omega.{arith}
 use borrow.Author.Needs.{needs}
 use Rattle.field.specs.Residue.{residue}
 use Rattle.field.proofs.Parts.{negative, not-negative, negated, abs-of-sfits}
-use Rattle.field.proofs.Casts.{as-is, widened, widens, cast-asks}
+use Rattle.field.proofs.Casts.{widened, widens, cast-asks}
 use Rattle.field.proofs.raise.Statement.{statement}
 use Rattle.field.proofs.raise.Tie as tie
 

@@ -1,5 +1,5 @@
 -- `field::subtract` meets its contract: the difference, or the opposite of the difference the other way round.
-use mathlib.Core.Path.{_≡_, sym, ap, _∙_}
+use mathlib.Core.Path.{sym, ap, _∙_}
 use native.Mathlib.Omega.{arith}
 use borrow.Author.Needs.{needs}
 use Rattle.field.specs.Residue.{residue}

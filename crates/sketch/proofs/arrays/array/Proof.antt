@@ -1,24 +1,25 @@
 -- `sketch::arrays::array` meets its contract: each test that fails is the first that the answer tells.
-use mathlib.Core.Path.{_≡_, sym, _∙_}
+use mathlib.Core.Path.{_≡_}
 use mathlib.Core.Bool.{true, _&&_}
 use lib.Dec.{leb}
-use borrow.Author.Tests.{not-true, not-false, lt-leb, le-leb, eq-eqb, ne-eqb}
+use borrow.Author.Tests.{lt-leb, le-leb, eq-eqb, ne-eqb}
 use borrow.Author.Needs.{needs}
 use Rattle.sketch.specs.Params.{size, goodParams}
 use Rattle.sketch.specs.Arrays.{arrayAnswer}
+use Rattle.sketch.proofs.Searches.{test-held, test-failed}
 use Rattle.sketch.proofs.arrays.array.Statement.{statement}
 use Rattle.sketch.proofs.arrays.array.Tie as tie
 
 -- the parameters of a call that got past its first test
 good : (c : tie.Else1) → goodParams (c .before .before .args .p) ≡ true
-good c = sym (c .before .check .ensures) ∙ not-false _ (c .if1 .left)
+good c = test-held (c .before .check .ensures) (c .if1 .left)
 
 check-requires : tie.Need-check-requires
 check-requires c κs = search needs
 
 returns : tie.Need-returns
 unfolding arrayAnswer
-returns c = rw (sym (c .before .check .ensures) ∙ not-true _ (c .if1 .taken))
+returns c = rw (test-failed (c .before .check .ensures) (c .if1 .taken))
 
 returns-2 : tie.Need-returns-2
 unfolding arrayAnswer

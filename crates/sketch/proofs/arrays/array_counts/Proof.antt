@@ -1,10 +1,12 @@
 -- `sketch::arrays::array_counts` meets its contract: where `array` does not refuse, the stretch lies within the slice.
-use mathlib.Core.Path.{sym, _∙_}
+use mathlib.Core.Path.{_≡_, sym, _∙_}
 use native.Mathlib.Omega.{arith}
 use lib.ListN.{length}
 use denote.Ref.{now}
 use borrow.Author.Needs.{needs}
-use Rattle.sketch.proofs.Stretches.{Within, array-done, refused-stretch, done-stretch}
+use Rattle.sketch.specs.Params.{size}
+use Rattle.sketch.proofs.Rules.{Asked}
+use Rattle.sketch.proofs.Stretches.{array-done, refused-stretch, done-stretch}
 use Rattle.sketch.proofs.arrays.array_counts.Statement.{statement}
 use Rattle.sketch.proofs.arrays.array_counts.Tie as tie
 
@@ -24,11 +26,11 @@ returns : tie.Need-returns
 returns c = refused-stretch _ _ (now (c .before .before .before .before .args .counts)) _ (c .before .before .before .array .ensures) (c .before .before .match .keys2)
 
 -- what `array` tells of the stretch
-within : (c : tie.After-enum-told) → Within (c .before .before .before .args .p) (c .before .before .before .args .i) (length (now (c .before .before .before .args .counts)))
+within : (c : tie.After-enum-told) → let a = c .before .before .before .args in Asked (a .p) (a .i) × (length (now (a .counts)) ≡ size (a .p))
 within c = array-done _ _ _ (sym (c .before .before .array .ensures) ∙ c .enum-told .given .1)
 
 sub-at : tie.Need-sub-at
-sub-at c = within c .low
+sub-at c = within c .0 .low
 
 mul-at : tie.Need-mul-at
 mul-at c = omega (arith, within c)

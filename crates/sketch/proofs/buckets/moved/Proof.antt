@@ -1,11 +1,11 @@
 -- `sketch::buckets::moved` meets its contract: the sum and the difference of two counts fit the wide width.
-use mathlib.Core.Path.{_≡_, ap₂, subst⁻¹, sym, _∙_}
+use mathlib.Core.Path.{_≡_, ap₂, subst⁻¹, _∙_}
 use mathlib.Core.Bool.{true, false}
-use lib.IntN.{ℤ, _+ℤ_, _-ℤ_}
+use lib.IntN.{_+ℤ_, _-ℤ_}
 use mir.Facts.{toZ-ofZ}
 use mir.Syntax.{w32, w64}
 use mir.Val.{SFits, toZ, ofZ}
-use Rattle.field.proofs.Casts.{as-is, widened, widens}
+use Rattle.field.proofs.Casts.{widened, widens}
 use Rattle.sketch.specs.Buckets.{plusMinus}
 use Rattle.sketch.proofs.Limits.{wide}
 use Rattle.sketch.proofs.buckets.moved.Statement.{statement}

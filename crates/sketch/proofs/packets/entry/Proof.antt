@@ -1,9 +1,7 @@
 -- `sketch::packets::entry` meets its contract.
-use mathlib.Core.Path.{_≡_, sym, ap, _∙_}
+use mathlib.Core.Path.{sym, _∙_}
 use borrow.Author.Needs.{needs}
-use Rattle.sketch.specs.declared.answers.Answer.{Answer}
-use Rattle.sketch.specs.Answers.{first}
-use Rattle.sketch.specs.Packets.{packetAnswer, entryAnswer}
+use Rattle.sketch.specs.Packets.{entryAnswer}
 use Rattle.sketch.proofs.Judging.{first-refused, first-passed}
 use Rattle.sketch.proofs.packets.entry.Statement.{statement}
 use Rattle.sketch.proofs.packets.entry.Tie as tie
@@ -19,7 +17,7 @@ enum-told-2 c = search needs
 
 returns : tie.Need-returns
 unfolding entryAnswer
-returns c = first-refused _ _ (c .before .match .keys2) ∙ ap (λ (r : Answer). first r (packetAnswer (c .before .before .before .args .f) (c .before .before .before .args .n))) (c .before .before .sizes .ensures)
+returns c = first-refused _ _ _ (c .before .before .sizes .ensures) (c .before .match .keys2)
 
 packet-requires : tie.Need-packet-requires
 packet-requires c κs = search needs

@@ -1,20 +1,16 @@
 -- `sketch::packets::first_damaged` meets its contract: a scan array by array finds the lowest bucket at fault.
 use mathlib.Core.Path.{_≡_, sym, ap, _∙_}
 use mathlib.Core.Bool.{not}
-use mathlib.Core.List.{List}
-use Prim.Native.Nat.{ℕ, _+_, _*_, _-_, _≤_, _<_}
+use Prim.Native.Nat.{_+_, _*_, _-_, _≤_}
 use native.Mathlib.Omega.{arith}
-use lib.IntN.{ℤ}
-use lib.ListN.{length, getD}
+use lib.ListN.{getD}
 use denote.Ref.{now}
 use mir.Syntax.{w32}
 use borrow.Author.Needs.{needs}
 use Rattle.field.proofs.Casts.{back}
 use Rattle.sketch.specs.Lists.{least}
-use Rattle.sketch.specs.Places.{Reached}
 use Rattle.sketch.specs.Sketch.{sketch, damagedAt, damagedIn}
-use Rattle.sketch.proofs.Limits.{stretch-within, small}
-use Rattle.sketch.proofs.Standing.{Within, reach, sought, leastFrom, arrays-start, array-found, array-passed, arrays-end}
+use Rattle.sketch.proofs.Standing.{Within, reach-small, reach, sought, leastFrom, arrays-start, array-found, array-passed, arrays-end}
 use Rattle.sketch.proofs.packets.first_damaged.Statement.{statement}
 use Rattle.sketch.proofs.packets.first_damaged.Tie as tie
 
@@ -87,7 +83,7 @@ loop-again c =
     )
 
 mul-result : tie.Need-mul-result Inv-loop μ-loop
-mul-result c = omega (arith, small (c .before .before .before .args .d) (c .before .before .before .args .m) (c .before .before .before .pre .d-high) (c .before .before .before .pre .m-high))
+mul-result c = omega (arith, reach-small (c .before .before .before .pre))
 
 returns-2 : tie.Need-returns-2 Inv-loop μ-loop
 unfolding damagedIn

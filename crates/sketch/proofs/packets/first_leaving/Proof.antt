@@ -12,8 +12,7 @@ use borrow.Author.Needs.{needs}
 use Rattle.field.proofs.Casts.{back}
 use Rattle.sketch.specs.Lists.{least}
 use Rattle.sketch.specs.Sketch.{leavesAt, leavesIn}
-use Rattle.sketch.proofs.Limits.{small}
-use Rattle.sketch.proofs.Standing.{Within, reach, sought, leastFrom, arrays-start, array-found, array-passed, arrays-end}
+use Rattle.sketch.proofs.Standing.{Within, reach-small, reach, sought, leastFrom, arrays-start, array-found, array-passed, arrays-end}
 use Rattle.sketch.proofs.packets.first_leaving.Statement.{statement}
 use Rattle.sketch.proofs.packets.first_leaving.Tie as tie
 
@@ -85,7 +84,7 @@ loop-again c =
     )
 
 mul-result : tie.Need-mul-result Inv-loop μ-loop
-mul-result c = omega (arith, small (c .before .before .args .d) (c .before .before .args .m) (c .before .before .pre .d-high) (c .before .before .pre .m-high))
+mul-result c = omega (arith, reach-small (c .before .before .pre))
 
 returns-2 : tie.Need-returns-2 Inv-loop μ-loop
 unfolding leavesIn

@@ -1,5 +1,5 @@
 -- `sketch::packets::fresh` meets its contract.
-use mathlib.Core.Path.{_≡_, sym, ap₂, _∙_}
+use mathlib.Core.Path.{sym, ap₂, _∙_}
 use borrow.Author.Needs.{needs}
 use Rattle.sketch.specs.Sketch.{sketch, zeros}
 use Rattle.sketch.proofs.Judging.{kept-old, kept-new}

@@ -1,7 +1,6 @@
 -- `sketch::packets::insert` meets its contract.
-use mathlib.Core.Path.{_≡_, sym, _∙_}
 use borrow.Author.Needs.{needs}
-use borrow.Author.Tests.{not-true, not-false}
+use Rattle.sketch.proofs.Searches.{test-held, test-failed}
 use Rattle.sketch.proofs.Steps.{not-moved, moved}
 use Rattle.sketch.proofs.packets.insert.Statement.{statement}
 use Rattle.sketch.proofs.packets.insert.Tie as tie
@@ -10,7 +9,7 @@ check-requires : tie.Need-check-requires
 check-requires c κs = search needs
 
 returns : tie.Need-returns
-returns c = not-moved _ _ _ _ _ (sym (c .before .check .ensures) ∙ not-true _ (c .if1 .taken))
+returns c = not-moved _ _ _ _ _ (test-failed (c .before .check .ensures) (c .if1 .taken))
 
 step-requires : tie.Need-step-requires
 step-requires c κs = search needs
@@ -22,7 +21,7 @@ same-length-2 : tie.Need-same-length-2
 same-length-2 c = search needs
 
 returns-2 : tie.Need-returns-2
-returns-2 c = moved _ _ _ _ _ _ _ (sym (c .before .before .before .before .before .before .before .check .ensures) ∙ not-false _ (c .before .before .before .before .before .before .if1 .left)) (c .before .before .before .step .ensures)
+returns-2 c = moved _ _ _ _ _ _ _ (test-held (c .before .before .before .before .before .before .before .check .ensures) (c .before .before .before .before .before .before .if1 .left)) (c .before .before .before .step .ensures)
 
 pub insert-spec : {M : Type 1} → statement M
 insert-spec =

@@ -1,5 +1,5 @@
 -- `sketch::packets::put` meets its contract.
-use mathlib.Core.Path.{_≡_, ap, _∙_}
+use mathlib.Core.Path.{ap, _∙_}
 use lib.ListN.{set}
 use denote.Ref.{now}
 use mir.Facts.{toZ-ofZ}

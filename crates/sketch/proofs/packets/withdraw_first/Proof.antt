@@ -1,13 +1,12 @@
 -- `sketch::packets::withdraw_first` meets its contract. The invariant: the sketch is what the first i packets made of the one they went into.
-use mathlib.Core.Path.{_≡_, refl, sym, _∙_}
+use mathlib.Core.Path.{_≡_, refl, _∙_}
 use Prim.Native.Nat.{_≤_}
 use native.Mathlib.Omega.{arith}
 use lib.ListN.{length, take}
-use denote.Ref.{now}
 use borrow.Author.Needs.{needs}
 use Rattle.sketch.specs.Sketch.{Sketch, sketch}
 use Rattle.sketch.specs.Packets.{after, Accepted}
-use Rattle.sketch.proofs.ManyPackets.{Long, stepped-long, unwind}
+use Rattle.sketch.proofs.ManyPackets.{stepped-long, unwind}
 use Rattle.sketch.proofs.packets.withdraw_first.Statement.{statement}
 use Rattle.sketch.proofs.packets.withdraw_first.Tie as tie
 

@@ -1,9 +1,9 @@
 -- `sketch::params::pairs_ok` meets its contract: the first pair that breaks its rule decides, or the last.
 use mathlib.Core.Path.{sym, _∙_}
 use native.Mathlib.Omega.{arith}
-use borrow.Author.Tests.{not-true, not-false}
 use Rattle.sketch.specs.Params.{pairAt}
-use Rattle.sketch.proofs.Rules.{below-fails, last-of-four}
+use Rattle.sketch.proofs.Rules.{last-of-four}
+use Rattle.sketch.proofs.Searches.{below-fails, test-held, test-failed}
 use borrow.Author.Needs.{needs}
 use Rattle.sketch.proofs.params.pairs_ok.Statement.{statement}
 use Rattle.sketch.proofs.params.pairs_ok.Tie as tie
@@ -19,7 +19,7 @@ pair-ok-requires c κs = search needs
 
 returns : tie.Need-returns
 unfolding pairAt
-returns c = sym (below-fails 4 0 _ (omega arith) (sym (c .before .pair-ok .ensures) ∙ not-true _ (c .if1 .taken)))
+returns c = sym (below-fails 4 0 _ (omega arith) (test-failed (c .before .pair-ok .ensures) (c .if1 .taken)))
 
 array-read-pair-ok-3 : tie.Need-array-read-pair-ok-3
 array-read-pair-ok-3 c = search needs
@@ -32,7 +32,7 @@ pair-ok-requires-2 c κs = search needs
 
 returns-2 : tie.Need-returns-2
 unfolding pairAt
-returns-2 c = sym (below-fails 4 1 _ (omega arith) (sym (c .before .pair-ok2 .ensures) ∙ not-true _ (c .if2 .taken)))
+returns-2 c = sym (below-fails 4 1 _ (omega arith) (test-failed (c .before .pair-ok2 .ensures) (c .if2 .taken)))
 
 array-read-pair-ok-5 : tie.Need-array-read-pair-ok-5
 array-read-pair-ok-5 c = search needs
@@ -45,7 +45,7 @@ pair-ok-requires-3 c κs = search needs
 
 returns-3 : tie.Need-returns-3
 unfolding pairAt
-returns-3 c = sym (below-fails 4 2 _ (omega arith) (sym (c .before .pair-ok3 .ensures) ∙ not-true _ (c .if3 .taken)))
+returns-3 c = sym (below-fails 4 2 _ (omega arith) (test-failed (c .before .pair-ok3 .ensures) (c .if3 .taken)))
 
 array-read-pair-ok-7 : tie.Need-array-read-pair-ok-7
 array-read-pair-ok-7 c = search needs
@@ -61,9 +61,9 @@ unfolding pairAt
 returns-4 c =
     c .pair-ok4 .ensures
     ∙ last-of-four _
-    (sym (c .before .before .before .before .before .before .pair-ok .ensures) ∙ not-false _ (c .before .before .before .before .before .if1 .left))
-    (sym (c .before .before .before .before .pair-ok2 .ensures) ∙ not-false _ (c .before .before .before .if2 .left))
-    (sym (c .before .before .pair-ok3 .ensures) ∙ not-false _ (c .before .if3 .left))
+    (test-held (c .before .before .before .before .before .before .pair-ok .ensures) (c .before .before .before .before .before .if1 .left))
+    (test-held (c .before .before .before .before .pair-ok2 .ensures) (c .before .before .before .if2 .left))
+    (test-held (c .before .before .pair-ok3 .ensures) (c .before .if3 .left))
 
 pub pairs-ok-spec : {M : Type 1} → statement M
 pairs-ok-spec =

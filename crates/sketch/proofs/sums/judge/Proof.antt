@@ -6,7 +6,7 @@ use borrow.Author.Needs.{needs}
 use Rattle.sketch.specs.declared.answers.Answer.the-variants.{Done}
 use Rattle.sketch.specs.Sums.{shapesAnswer, bucketsAnswer, combineAnswer}
 use Rattle.sketch.proofs.Judging.{first-refused, first-passed, refuse-found, refuse-past}
-use Rattle.sketch.proofs.TwoSketches.{shapes-done}
+use Rattle.sketch.proofs.TwoSketches.{shapes-done, same-lengths}
 use Rattle.sketch.proofs.sums.judge.Statement.{statement}
 use Rattle.sketch.proofs.sums.judge.Tie as tie
 
@@ -25,17 +25,17 @@ enum-told-2 c = search needs
 
 returns : tie.Need-returns
 unfolding combineAnswer
-returns c = rw (← c .before .before .shapes .ensures) (first-refused _ _ (c .before .match .keys2))
+returns c = first-refused _ _ _ (c .before .before .shapes .ensures) (c .before .match .keys2)
 
 first-damaged-requires : tie.Need-first-damaged-requires
-first-damaged-requires c κs = shapes-done _ _ _ _ _ _ (shaped c)
+first-damaged-requires c κs = same-lengths (shapes-done _ _ _ _ _ _ (shaped c))
 
 returns-2 : tie.Need-returns-2
 unfolding combineAnswer bucketsAnswer
 returns-2 c = refuse-found _ _ _ _ _ (c .before .first-damaged .ensures) (c .if1 .taken) ∙ sym (first-passed _ _ (shaped (c .before .before)))
 
 first-leaving-requires : tie.Need-first-leaving-requires
-first-leaving-requires c κs = shapes-done _ _ _ _ _ _ (shaped (c .before .before)) .1
+first-leaving-requires c κs = same-lengths (shapes-done _ _ _ _ _ _ (shaped (c .before .before))) .1
 
 returns-3 : tie.Need-returns-3
 unfolding combineAnswer bucketsAnswer

@@ -1,22 +1,23 @@
 -- `sketch::params::Params::asked` meets its contract: the parameters, then the array, then the flow.
-use mathlib.Core.Path.{_≡_, sym, _∙_}
+use mathlib.Core.Path.{_≡_}
 use mathlib.Core.Bool.{true}
-use borrow.Author.Tests.{le-leb, lt-leb, lt-ltb, le-ltb, not-true, not-false}
+use borrow.Author.Tests.{le-leb, lt-leb, lt-ltb, le-ltb}
 use Rattle.sketch.specs.Params.{prime, goodParams}
 use Rattle.sketch.specs.Places.{standAnswer}
 use borrow.Author.Needs.{needs}
+use Rattle.sketch.proofs.Searches.{test-held, test-failed}
 use Rattle.sketch.proofs.params.Params.asked.Statement.{statement}
 use Rattle.sketch.proofs.params.Params.asked.Tie as tie
 
 passed : (c : tie.Else1) → goodParams (c .before .before .args .self) ≡ true
-passed c = sym (c .before .check .ensures) ∙ not-false _ (c .if1 .left)
+passed c = test-held (c .before .check .ensures) (c .if1 .left)
 
 check-requires : tie.Need-check-requires
 check-requires c κs = search needs
 
 returns : tie.Need-returns
 unfolding standAnswer
-returns c = simp (sym (c .before .check .ensures) ∙ not-true _ (c .if1 .taken))
+returns c = simp (test-failed (c .before .check .ensures) (c .if1 .taken))
 
 returns-2 : tie.Need-returns-2
 unfolding standAnswer

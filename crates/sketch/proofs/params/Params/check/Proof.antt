@@ -1,8 +1,7 @@
 -- `sketch::params::Params::check` meets its contract: the sizes, then each pair, then the pairs together.
-use mathlib.Core.Path.{sym, _∙_}
-use borrow.Author.Tests.{not-true, not-false}
 use Rattle.sketch.specs.Params.{goodParams}
 use borrow.Author.Needs.{needs}
+use Rattle.sketch.proofs.Searches.{test-held, test-failed}
 use Rattle.sketch.proofs.params.Params.check.Statement.{statement}
 use Rattle.sketch.proofs.params.Params.check.Tie as tie
 
@@ -11,7 +10,7 @@ sized-requires c κs = search needs
 
 returns : tie.Need-returns
 unfolding goodParams
-returns c = simp (sym (c .before .sized .ensures) ∙ not-true _ (c .if1 .taken))
+returns c = simp (test-failed (c .before .sized .ensures) (c .if1 .taken))
 
 pairs-ok-requires : tie.Need-pairs-ok-requires
 pairs-ok-requires c κs = search needs
@@ -19,7 +18,7 @@ pairs-ok-requires c κs = search needs
 returns-2 : tie.Need-returns-2
 unfolding goodParams
 returns-2 c =
-    simp (sym (c .before .before .before .before .before .sized .ensures) ∙ not-false _ (c .before .before .before .before .if1 .left), sym (c .before .pairs-ok .ensures) ∙ not-true _ (c .if2 .taken))
+    simp (test-held (c .before .before .before .before .before .sized .ensures) (c .before .before .before .before .if1 .left), test-failed (c .before .pairs-ok .ensures) (c .if2 .taken))
 
 pairs-apart-requires : tie.Need-pairs-apart-requires
 pairs-apart-requires c κs = search needs
@@ -27,7 +26,7 @@ pairs-apart-requires c κs = search needs
 returns-3 : tie.Need-returns-3
 unfolding goodParams
 returns-3 c =
-    simp (sym (c .before .before .before .before .before .before .sized .ensures) ∙ not-false _ (c .before .before .before .before .before .if1 .left), sym (c .before .before .pairs-ok .ensures) ∙ not-false _ (c .before .if2 .left))
+    simp (test-held (c .before .before .before .before .before .before .sized .ensures) (c .before .before .before .before .before .if1 .left), test-held (c .before .before .pairs-ok .ensures) (c .before .if2 .left))
     (c .pairs-apart .ensures)
 
 pub check-spec : {M : Type 1} → statement M

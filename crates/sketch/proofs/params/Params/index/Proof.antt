@@ -1,22 +1,14 @@
 -- `sketch::params::Params::index` meets its contract: what was asked is right, and the bucket is one of the sketch, or the caller is told why not.
 use mathlib.Core.Path.{sym, ap, _∙_}
-use Prim.Native.Nat.{ℕ, _+_, _-_, _*_, _≤_}
+use Prim.Native.Nat.{ℕ, _+_, _-_, _*_}
 use native.Mathlib.Omega.{arith}
-use Rattle.sketch.specs.Params.{Sized}
-use Rattle.sketch.proofs.Limits.{stretch-within, small}
-use Rattle.sketch.proofs.Rules.{asked-done, spot-at, no-spot}
+use Rattle.sketch.proofs.Rules.{Asked, asked-done, spot-at, no-spot}
 use borrow.Author.Needs.{needs}
 use Rattle.sketch.proofs.params.Params.index.Statement.{statement}
 use Rattle.sketch.proofs.params.Params.index.Tie as tie
 
-right : (c : tie.After-enum-told) → let s = c .before .before .before .args in Sized (s .self) × (1 ≤ s .i) × (s .i ≤ s .self .d)
+right : (c : tie.After-enum-told) → Asked (c .before .before .before .args .self) (c .before .before .before .args .i)
 right c = asked-done _ _ _ (sym (c .before .before .asked .ensures) ∙ c .enum-told .given .1)
-
-within : (c : tie.After-enum-told) → let s = c .before .before .before .args in (s .i - 1) * s .self .m + s .self .m ≤ 65536
-within c =
-    let h = right c in
-    let s = c .before .before .before .args in
-    omega (arith, stretch-within (s .self .d) (s .self .m) (s .i - 1) (omega arith), small (s .self .d) (s .self .m) (h .0 .d-high) (h .0 .m-high))
 
 asked-requires : tie.Need-asked-requires
 asked-requires c κs = search needs
@@ -25,19 +17,19 @@ enum-told : tie.Need-enum-told
 enum-told c = search needs
 
 sub-t8 : tie.Need-sub-t8
-sub-t8 c = right c .1
+sub-t8 c = right c .low
 
 mul-t9 : tie.Need-mul-t9
-mul-t9 c = omega (arith, within (c .before))
+mul-t9 c = omega (arith, right (c .before))
 
 sub-spot : tie.Need-sub-spot
-sub-spot c = right (c .before) .1
+sub-spot c = right (c .before) .low
 
 spot-requires : tie.Need-spot-requires
-spot-requires c κs = let h = right (c .before) in (h .0, omega arith)
+spot-requires c κs = let h = right (c .before) in (h .sized, omega arith)
 
 add-t12 : tie.Need-add-t12
-add-t12 c = omega (arith, c .spot .ensures .1, within (c .before .before))
+add-t12 c = omega (arith, c .spot .ensures .1, right (c .before .before))
 
 enum-known-asked : tie.Need-enum-known-asked
 enum-known-asked c = search needs

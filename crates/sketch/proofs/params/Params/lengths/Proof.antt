@@ -2,12 +2,12 @@
 use native.Mathlib.Omega.{arith}
 use borrow.Author.Tests.{eq-eqb, ne-eqb}
 use Rattle.sketch.specs.Params.{lengthsAnswer}
-use Rattle.sketch.proofs.Limits.{small}
+use Rattle.sketch.proofs.Rules.{sized-small}
 use Rattle.sketch.proofs.params.Params.lengths.Statement.{statement}
 use Rattle.sketch.proofs.params.Params.lengths.Tie as tie
 
 mul-size : tie.Need-mul-size
-mul-size c = omega (arith, small _ _ (c .before .pre .d-high) (c .before .pre .m-high))
+mul-size c = omega (arith, sized-small (c .before .pre))
 
 returns : tie.Need-returns
 unfolding lengthsAnswer

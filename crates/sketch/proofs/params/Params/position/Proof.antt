@@ -1,14 +1,12 @@
 -- `sketch::params::Params::position` meets its contract: what was asked is right, or the caller is told why not.
 use mathlib.Core.Path.{sym, _∙_}
-use Prim.Native.Nat.{_≤_}
 use native.Mathlib.Omega.{arith}
-use Rattle.sketch.specs.Params.{Sized}
-use Rattle.sketch.proofs.Rules.{asked-done, spot-at, no-spot}
+use Rattle.sketch.proofs.Rules.{Asked, asked-done, spot-at, no-spot}
 use borrow.Author.Needs.{needs}
 use Rattle.sketch.proofs.params.Params.position.Statement.{statement}
 use Rattle.sketch.proofs.params.Params.position.Tie as tie
 
-right : (c : tie.After-enum-told) → let s = c .before .before .before .args in Sized (s .self) × (1 ≤ s .i) × (s .i ≤ s .self .d)
+right : (c : tie.After-enum-told) → Asked (c .before .before .before .args .self) (c .before .before .before .args .i)
 right c = asked-done _ _ _ (sym (c .before .before .asked .ensures) ∙ c .enum-told .given .1)
 
 asked-requires : tie.Need-asked-requires
@@ -18,10 +16,10 @@ enum-told : tie.Need-enum-told
 enum-told c = search needs
 
 sub-spot : tie.Need-sub-spot
-sub-spot c = right c .1
+sub-spot c = right c .low
 
 spot-requires : tie.Need-spot-requires
-spot-requires c κs = let h = right c in (h .0, omega arith)
+spot-requires c κs = let h = right c in (h .sized, omega arith)
 
 enum-known-asked : tie.Need-enum-known-asked
 enum-known-asked c = search needs

@@ -1,9 +1,10 @@
 -- `sketch::params::Params::same` meets its contract: the first size or pair that differs decides, or the last pair.
 use mathlib.Core.Path.{sym, _∙_}
 use native.Mathlib.Omega.{arith}
-use borrow.Author.Tests.{eq-eqb, ne-eqb, not-true, not-false}
+use borrow.Author.Tests.{eq-eqb, ne-eqb}
 use Rattle.sketch.specs.Params.{samePair, sameParams}
-use Rattle.sketch.proofs.Rules.{below-fails, last-of-four, same-sizes}
+use Rattle.sketch.proofs.Rules.{last-of-four, pairs-decide}
+use Rattle.sketch.proofs.Searches.{below-fails, test-held, test-failed}
 use borrow.Author.Needs.{needs}
 use Rattle.sketch.proofs.params.Params.same.Statement.{statement}
 use Rattle.sketch.proofs.params.Params.same.Tie as tie
@@ -34,8 +35,8 @@ same-pair-requires c κs = search needs
 returns-3 : tie.Need-returns-3
 unfolding samePair
 returns-3 c =
-    sym (below-fails 4 0 _ (omega arith) (sym (c .before .same-pair .ensures) ∙ not-true _ (c .if3 .taken)))
-    ∙ same-sizes _ _ (c .before .before .before .before .before .before .before .before .before .if1 .left) (c .before .before .before .before .before .before .if2 .left)
+    sym (below-fails 4 0 _ (omega arith) (test-failed (c .before .same-pair .ensures) (c .if3 .taken)))
+    ∙ pairs-decide _ _ (c .before .before .before .before .before .before .before .before .before .if1 .left) (c .before .before .before .before .before .before .if2 .left)
 
 array-read-same-pair-5 : tie.Need-array-read-same-pair-5
 array-read-same-pair-5 c = search needs
@@ -55,8 +56,8 @@ same-pair-requires-2 c κs = search needs
 returns-4 : tie.Need-returns-4
 unfolding samePair
 returns-4 c =
-    sym (below-fails 4 1 _ (omega arith) (sym (c .before .same-pair2 .ensures) ∙ not-true _ (c .if4 .taken)))
-    ∙ same-sizes _ _ (c .before .before .before .before .before .before .before .before .before .before .before .if1 .left) (c .before .before .before .before .before .before .before .before .if2 .left)
+    sym (below-fails 4 1 _ (omega arith) (test-failed (c .before .same-pair2 .ensures) (c .if4 .taken)))
+    ∙ pairs-decide _ _ (c .before .before .before .before .before .before .before .before .before .before .before .if1 .left) (c .before .before .before .before .before .before .before .before .if2 .left)
 
 array-read-same-pair-9 : tie.Need-array-read-same-pair-9
 array-read-same-pair-9 c = search needs
@@ -76,8 +77,8 @@ same-pair-requires-3 c κs = search needs
 returns-5 : tie.Need-returns-5
 unfolding samePair
 returns-5 c =
-    sym (below-fails 4 2 _ (omega arith) (sym (c .before .same-pair3 .ensures) ∙ not-true _ (c .if5 .taken)))
-    ∙ same-sizes _ _ (c .before .before .before .before .before .before .before .before .before .before .before .before .before .if1 .left) (c .before .before .before .before .before .before .before .before .before .before .if2 .left)
+    sym (below-fails 4 2 _ (omega arith) (test-failed (c .before .same-pair3 .ensures) (c .if5 .taken)))
+    ∙ pairs-decide _ _ (c .before .before .before .before .before .before .before .before .before .before .before .before .before .if1 .left) (c .before .before .before .before .before .before .before .before .before .before .if2 .left)
 
 array-read-same-pair-13 : tie.Need-array-read-same-pair-13
 array-read-same-pair-13 c = search needs
@@ -99,10 +100,10 @@ unfolding samePair
 returns-6 c =
     c .same-pair4 .ensures
     ∙ last-of-four _
-    (sym (c .before .before .before .before .before .before .same-pair .ensures) ∙ not-false _ (c .before .before .before .before .before .if3 .left))
-    (sym (c .before .before .before .before .same-pair2 .ensures) ∙ not-false _ (c .before .before .before .if4 .left))
-    (sym (c .before .before .same-pair3 .ensures) ∙ not-false _ (c .before .if5 .left))
-    ∙ same-sizes _ _ (c .before .before .before .before .before .before .before .before .before .before .before .before .before .before .if1 .left) (c .before .before .before .before .before .before .before .before .before .before .before .if2 .left)
+    (test-held (c .before .before .before .before .before .before .same-pair .ensures) (c .before .before .before .before .before .if3 .left))
+    (test-held (c .before .before .before .before .same-pair2 .ensures) (c .before .before .before .if4 .left))
+    (test-held (c .before .before .same-pair3 .ensures) (c .before .if5 .left))
+    ∙ pairs-decide _ _ (c .before .before .before .before .before .before .before .before .before .before .before .before .before .before .if1 .left) (c .before .before .before .before .before .before .before .before .before .before .before .if2 .left)
 
 pub same-spec : {M : Type 1} → statement M
 same-spec =

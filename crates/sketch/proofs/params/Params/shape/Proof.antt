@@ -1,25 +1,25 @@
 -- `sketch::params::Params::shape` meets its contract: the parameters, then the lengths.
-use mathlib.Core.Path.{_≡_, sym, _∙_}
+use mathlib.Core.Path.{_≡_}
 use mathlib.Core.Bool.{true}
-use borrow.Author.Tests.{not-true, not-false}
 use Rattle.sketch.specs.Params.{goodParams, shapeAnswer}
-use Rattle.sketch.proofs.Rules.{sized, good-sized}
+use Rattle.sketch.proofs.Searches.{test-held, test-failed}
+use Rattle.sketch.proofs.Rules.{good-sized}
 use borrow.Author.Needs.{needs}
 use Rattle.sketch.proofs.params.Params.shape.Statement.{statement}
 use Rattle.sketch.proofs.params.Params.shape.Tie as tie
 
 passed : (c : tie.Else1) → goodParams (c .before .before .args .self) ≡ true
-passed c = sym (c .before .check .ensures) ∙ not-false _ (c .if1 .left)
+passed c = test-held (c .before .check .ensures) (c .if1 .left)
 
 check-requires : tie.Need-check-requires
 check-requires c κs = search needs
 
 returns : tie.Need-returns
 unfolding shapeAnswer
-returns c = simp (sym (c .before .check .ensures) ∙ not-true _ (c .if1 .taken))
+returns c = simp (test-failed (c .before .check .ensures) (c .if1 .taken))
 
 lengths-requires : tie.Need-lengths-requires
-lengths-requires c κs = sized _ (good-sized _ (passed c))
+lengths-requires c κs = good-sized _ (passed c)
 
 returns-2 : tie.Need-returns-2
 unfolding shapeAnswer

@@ -1,28 +1,26 @@
 -- `sketch::params::Params::size` meets its contract: parameters that keep the rules have a size that fits.
-use mathlib.Core.Path.{_≡_, sym, _∙_}
+use mathlib.Core.Path.{_≡_}
 use mathlib.Core.Bool.{true}
 use native.Mathlib.Omega.{arith}
-use borrow.Author.Tests.{not-true, not-false}
 use Rattle.sketch.specs.Params.{goodParams}
-use Rattle.sketch.proofs.Limits.{small}
-use Rattle.sketch.proofs.Rules.{sized, good-sized}
+use Rattle.sketch.proofs.Searches.{test-held, test-failed}
+use Rattle.sketch.proofs.Rules.{sized-small, good-sized}
 use borrow.Author.Needs.{needs}
 use Rattle.sketch.proofs.params.Params.size.Statement.{statement}
 use Rattle.sketch.proofs.params.Params.size.Tie as tie
 
 passed : (c : tie.Else1) → goodParams (c .before .before .args .self) ≡ true
-passed c = sym (c .before .check .ensures) ∙ not-false _ (c .if1 .left)
+passed c = test-held (c .before .check .ensures) (c .if1 .left)
 
 check-requires : tie.Need-check-requires
 check-requires c κs = search needs
 
 returns : tie.Need-returns
-returns c = simp (sym (c .before .check .ensures) ∙ not-true _ (c .if1 .taken))
+returns c = simp (test-failed (c .before .check .ensures) (c .if1 .taken))
 
 mul-result : tie.Need-mul-result
 mul-result c =
-    let h = sized _ (good-sized _ (passed (c .before))) in
-    omega (arith, small _ _ (h .d-high) (h .m-high))
+    omega (arith, sized-small (good-sized _ (passed (c .before))))
 
 returns-2 : tie.Need-returns-2
 returns-2 c = simp (passed (c .before))

@@ -1,22 +1,22 @@
 -- `sketch::params::Params::sizes` meets its contract: the sizes, then the lengths.
-use mathlib.Core.Path.{_≡_, sym, _∙_}
+use mathlib.Core.Path.{_≡_}
 use mathlib.Core.Bool.{true}
-use borrow.Author.Tests.{not-true, not-false}
 use Rattle.sketch.specs.Params.{goodSizes, sizesAnswer}
+use Rattle.sketch.proofs.Searches.{test-held, test-failed}
 use Rattle.sketch.proofs.Rules.{sized}
 use borrow.Author.Needs.{needs}
 use Rattle.sketch.proofs.params.Params.sizes.Statement.{statement}
 use Rattle.sketch.proofs.params.Params.sizes.Tie as tie
 
 passed : (c : tie.Else1) → goodSizes (c .before .before .args .self) ≡ true
-passed c = sym (c .before .sized .ensures) ∙ not-false _ (c .if1 .left)
+passed c = test-held (c .before .sized .ensures) (c .if1 .left)
 
 sized-requires : tie.Need-sized-requires
 sized-requires c κs = search needs
 
 returns : tie.Need-returns
 unfolding sizesAnswer
-returns c = simp (sym (c .before .sized .ensures) ∙ not-true _ (c .if1 .taken))
+returns c = simp (test-failed (c .before .sized .ensures) (c .if1 .taken))
 
 lengths-requires : tie.Need-lengths-requires
 lengths-requires c κs = sized _ (passed c)

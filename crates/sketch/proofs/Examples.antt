@@ -1,0 +1,135 @@
+-- Examples from the bench, computed from the definitions in one table: E1, E7 and E8, positions, and bad input with the number and the index that it gets.
+use mathlib.Core.Path.{_≡_, refl}
+use mathlib.Core.Bool.{true, false}
+use mathlib.Core.List.{List, [], _∷_, map}
+use Prim.Native.Nat.{ℕ}
+use lib.IntN.{ℤ, pos, negsuc}
+use lib.ListN.{replicate, set}
+use Rattle.field.specs.Residue.{residue}
+use Rattle.sketch.specs.declared.params.Params.{Params}
+use Rattle.sketch.specs.declared.answers.Answer.{Answer}
+use Rattle.sketch.specs.Lists.{below, least, mapFrom, touched, from}
+use Rattle.sketch.specs.Answers.{numberIn, indexIn, refuseAt, first}
+use Rattle.sketch.specs.Params.{pairAt, twins, goodSizes, goodParams, samePair, sameParams, lengthsAnswer, sizesAnswer}
+use Rattle.sketch.specs.Places.{stand, position, standAnswer, standsIn}
+use Rattle.sketch.specs.Buckets.{inLimits}
+use Rattle.sketch.specs.Sketch.{Sketch, sketch, by, countAt, weightAt, sketchOf, zeros, damagedIn, leavesIn, standingAnswer, changedIn}
+use Rattle.sketch.specs.Packets.{packetAnswer, entryAnswer, stepAnswer, changed, moveAnswer}
+use Rattle.sketch.specs.Arrays.{arrayAnswer}
+use Rattle.sketch.specs.Sums.{shapesAnswer, eitherDamaged, leaves, bucketsAnswer, combineAnswer}
+
+-- what a row tells: a position, a sketch, or an answer's number and index
+pub data Told : Type 0 where
+  place : ℕ → Told
+  content : Sketch → Told
+  answer : ℕ → ℕ → Told
+
+abbrev told : Answer → Told
+told r = answer (numberIn r) (indexIn r)
+
+-- d arrays of m buckets
+abbrev params : ℕ → ℕ → List ℕ → List ℕ → Params
+params d m xs ys = record { d = d; m = m; a = xs; b = ys }
+
+-- the bench's parameters
+abbrev pub K : Params
+K = params 2 5 (1 ∷ 1073741824 ∷ 0 ∷ 0 ∷ []) (0 ∷ 0 ∷ 0 ∷ 0 ∷ [])
+
+-- zeros in slices of these lengths, a fresh sketch under K, and one with bucket k set
+abbrev long : ℕ → ℕ → Sketch
+long c s = sketch (replicate c (pos 0)) (replicate s 0)
+
+abbrev fresh : Sketch
+fresh = long 10 10
+
+abbrev holding : ℕ → ℤ → ℕ → Sketch
+holding k c s = sketch (set (fresh .counts) k c) (set (fresh .idsums) k s)
+
+-- what is told where n packets of flow f go in, and where the second sketch is added or subtracted
+abbrev inserting : Params → ℕ → ℕ → Sketch → Told
+inserting P f n S = told (moveAnswer P false f n S)
+
+abbrev adding : Params → Params → Sketch → Sketch → Told
+adding P Q S T = told (combineAnswer false P Q S T)
+
+abbrev subtracting : Params → Params → Sketch → Sketch → Told
+subtracting P Q S T = told (combineAnswer true P Q S T)
+
+-- each row: what is computed, and what it has to be
+abbrev pub table : List (Told × Told)
+table =
+    (content (zeros K), content fresh)
+    -- positions in array 2
+    ∷ (place (position K 2 2), place 1)
+    ∷ (place (position K 2 7), place 2)
+    ∷ (place (position K 2 11), place 4)
+    ∷ (place (position K 2 12), place 1)
+    ∷ (place (position K 2 20), place 0)
+    -- E1
+    ∷ (
+      content (sketchOf K (by 7 (pos 1) ∷ by 12 (pos 2) ∷ [])),
+      content (sketch
+          (pos 0 ∷ pos 0 ∷ pos 3 ∷ pos 0 ∷ pos 0 ∷ pos 0 ∷ pos 2 ∷ pos 1 ∷ pos 0 ∷ pos 0 ∷ [])
+          (0 ∷ 0 ∷ 31 ∷ 0 ∷ 0 ∷ 0 ∷ 24 ∷ 7 ∷ 0 ∷ 0 ∷ [])),
+    )
+    -- E7
+    ∷ (inserting K 2147483646 2147483646 fresh, answer 0 0)
+    ∷ (
+      content (changed K false 2147483646 2147483646 fresh),
+      content (sketch
+          (pos 0 ∷ pos 2147483646 ∷ pos 0 ∷ pos 0 ∷ pos 0 ∷ pos 0 ∷ pos 0 ∷ pos 0 ∷ pos 2147483646 ∷ pos 0 ∷ [])
+          (0 ∷ 1 ∷ 0 ∷ 0 ∷ 0 ∷ 0 ∷ 0 ∷ 0 ∷ 1 ∷ 0 ∷ [])),
+    )
+    ∷ (inserting K 1 1 (changed K false 2147483646 2147483646 fresh), answer 6 1)
+    -- E8
+    ∷ (inserting K 2147483647 1 fresh, answer 3 0)
+    ∷ (inserting K 7 0 fresh, answer 4 0)
+    ∷ (inserting K 7 2147483647 fresh, answer 4 0)
+    -- parameters that break a rule: the number of arrays, of buckets, the pairs in use and those that are not
+    ∷ (inserting (params 0 5 (0 ∷ 0 ∷ 0 ∷ 0 ∷ []) (0 ∷ 0 ∷ 0 ∷ 0 ∷ [])) 7 1 (long 0 0), answer 1 0)
+    ∷ (inserting (params 1 5 (1 ∷ 0 ∷ 0 ∷ 0 ∷ []) (0 ∷ 0 ∷ 0 ∷ 0 ∷ [])) 7 1 (long 5 5), answer 1 0)
+    ∷ (inserting (params 5 5 (1 ∷ 2 ∷ 3 ∷ 4 ∷ []) (0 ∷ 0 ∷ 0 ∷ 0 ∷ [])) 7 1 (long 25 25), answer 1 0)
+    ∷ (inserting (params 2 0 (K .a) (K .b)) 7 1 (long 0 0), answer 1 0)
+    ∷ (inserting (params 2 16385 (K .a) (K .b)) 7 1 fresh, answer 1 0)
+    ∷ (inserting (params 2 5 (1 ∷ 1 ∷ 0 ∷ 0 ∷ []) (0 ∷ 0 ∷ 0 ∷ 0 ∷ [])) 7 1 fresh, answer 1 0)
+    ∷ (inserting (params 2 5 (1 ∷ 0 ∷ 0 ∷ 0 ∷ []) (0 ∷ 0 ∷ 0 ∷ 0 ∷ [])) 7 1 fresh, answer 1 0)
+    ∷ (inserting (params 2 5 (1 ∷ 2147483647 ∷ 0 ∷ 0 ∷ []) (0 ∷ 0 ∷ 0 ∷ 0 ∷ [])) 7 1 fresh, answer 1 0)
+    ∷ (inserting (params 2 5 (1 ∷ 1073741824 ∷ 0 ∷ 0 ∷ []) (0 ∷ 2147483647 ∷ 0 ∷ 0 ∷ [])) 7 1 fresh, answer 1 0)
+    ∷ (inserting (params 2 5 (1 ∷ 1073741824 ∷ 1 ∷ 0 ∷ []) (0 ∷ 0 ∷ 0 ∷ 0 ∷ [])) 7 1 fresh, answer 1 0)
+    ∷ (inserting (params 2 5 (1 ∷ 1073741824 ∷ 0 ∷ 0 ∷ []) (0 ∷ 0 ∷ 0 ∷ 1 ∷ [])) 7 1 fresh, answer 1 0)
+    ∷ (told (standAnswer K 0 7), answer 1 0)
+    ∷ (told (standAnswer K 3 7), answer 1 0)
+    ∷ (told (standAnswer K 2 2147483647), answer 3 0)
+    ∷ (told (arrayAnswer K 0 10), answer 1 0)
+    ∷ (told (arrayAnswer K 3 10), answer 1 0)
+    ∷ (told (arrayAnswer K 2 11), answer 2 0)
+    -- slices one short and one long, which come before the packet
+    ∷ (inserting K 7 1 (long 9 10), answer 2 0)
+    ∷ (inserting K 7 1 (long 11 10), answer 2 0)
+    ∷ (inserting K 7 1 (long 10 9), answer 2 0)
+    ∷ (inserting K 2147483647 0 (long 10 11), answer 2 0)
+    ∷ (inserting K 2147483647 0 fresh, answer 3 0)
+    -- buckets outside their limits, of the flow and of another
+    ∷ (inserting K 7 1 (holding 2 (negsuc 2147483647) 0), answer 5 2)
+    ∷ (inserting K 7 1 (holding 2 (negsuc 2147483646) 0), answer 5 2)
+    ∷ (inserting K 7 1 (holding 2 (negsuc 2147483645) 0), answer 0 0)
+    ∷ (inserting K 7 1 (holding 7 (pos 2147483647) 0), answer 5 7)
+    ∷ (inserting K 7 1 (holding 7 (pos 0) 2147483647), answer 5 7)
+    ∷ (inserting K 7 1 (holding 3 (pos 2147483647) 2147483647), answer 0 0)
+    ∷ (inserting K 7 1 (holding 7 (pos 2147483646) 0), answer 6 7)
+    ∷ (told (moveAnswer K true 7 1 (holding 7 (negsuc 2147483645) 0)), answer 6 7)
+    -- two sketches: every bucket is looked at, in either
+    ∷ (adding K K fresh fresh, answer 0 0)
+    ∷ (adding K K (holding 3 (pos 2147483646) 0) (holding 3 (pos 1) 0), answer 6 3)
+    ∷ (subtracting K K (holding 3 (negsuc 2147483645) 0) (holding 3 (pos 1) 0), answer 6 3)
+    ∷ (subtracting K K (holding 3 (pos 2147483646) 0) (holding 3 (pos 1) 0), answer 0 0)
+    ∷ (adding K K (holding 9 (pos 2147483647) 0) (holding 4 (pos 0) 2147483647), answer 5 4)
+    ∷ (adding K K (holding 9 (pos 2147483647) 0) fresh, answer 5 9)
+    ∷ (adding K (params 2 5 (2 ∷ 1073741824 ∷ 0 ∷ 0 ∷ []) (K .b)) fresh (long 9 10), answer 7 0)
+    ∷ (adding K (params 2 0 (K .a) (K .b)) fresh (long 9 10), answer 1 0)
+    ∷ (adding K K fresh (long 9 10), answer 2 0)
+    ∷ []
+
+pub examples : map (λ row. row .0) table ≡ map (λ row. row .1) table
+unfolding residue below least mapFrom touched from refuseAt first pairAt twins goodSizes goodParams samePair sameParams lengthsAnswer sizesAnswer stand standAnswer standsIn inLimits countAt weightAt sketchOf zeros damagedIn leavesIn standingAnswer changedIn packetAnswer entryAnswer stepAnswer changed moveAnswer arrayAnswer shapesAnswer eitherDamaged leaves bucketsAnswer combineAnswer
+examples = refl
