@@ -1,5 +1,5 @@
 -- Signed numbers as the machine has them. A signed local holds bits, so what the code computes with is `toZ w (ofZ w z)`, which is z where z fits.
-use mathlib.Core.Path.{_≡_, ap, _∙_}
+use mathlib.Core.Path.{_≡_, sym, ap, _∙_}
 use Prim.Native.Nat.{ℕ, _^_, _<_}
 use lib.IntN.{ℤ, pos, natAbs}
 use lib.Dec.{T}

@@ -26,7 +26,14 @@ pub(crate) fn find(flows: &[u32], n: usize, f: u32) -> usize
 }
 
 // c more for f, whose place is at: the number of entries then.
-pub(crate) fn credit(flows: &mut [u32], numbers: &mut [i32], n: usize, at: usize, f: u32, c: i32) -> usize
+pub(crate) fn credit(
+    flows: &mut [u32],
+    numbers: &mut [i32],
+    n: usize,
+    at: usize,
+    f: u32,
+    c: i32,
+) -> usize
     requires { ⌜ Finds (now flows) n f at × (length (now numbers) ≡ length (now flows)) × (at < length (now flows)) × (n ≤ length (now flows)) × (inLimits (entryOf f (tableOf (now flows) (now numbers) n) +ℤ c) ≡ true) ⌝ }
     ensures { λ r. ⌜ Credited f c (now (flows .entry)) (now (numbers .entry)) n (now (flows .exit)) (now (numbers .exit)) r ⌝ }
 {

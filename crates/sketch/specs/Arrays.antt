@@ -3,7 +3,7 @@ use mathlib.Core.Bool.{not, _&&_}
 use mathlib.Core.List.{List, []}
 use Prim.Native.Nat.{ℕ, _-_, _*_}
 use lib.Dec.{leb, eqb}
-use lib.ListN.{length, take, drop}
+use lib.ListN.{take, drop}
 use Rattle.sketch.specs.declared.params.Params.{Params}
 use Rattle.sketch.specs.declared.answers.Why.the-variants.{Param, Length}
 use Rattle.sketch.specs.declared.answers.Answer.{Answer}

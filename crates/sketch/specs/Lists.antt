@@ -1,5 +1,5 @@
 -- Lists and numbers by index: a test at every number, the least number that passes a test, and changes place by place.
-use mathlib.Core.Bool.{Bool, true, false, cond, _&&_}
+use mathlib.Core.Bool.{Bool, true, cond, _&&_}
 use mathlib.Core.List.{List, [], _∷_}
 use Prim.Native.Nat.{ℕ, zero, suc}
 

@@ -3,7 +3,7 @@ use mathlib.Core.Bool.{Bool, true, false, not, _&&_}
 use mathlib.Core.Path.{_≡_}
 use mathlib.Core.List.{List, [], _∷_}
 use Prim.Native.Nat.{ℕ, _<_}
-use lib.IntN.{ℤ, pos}
+use lib.IntN.{pos}
 use lib.Dec.{leb, ltb, eqb}
 use lib.ListN.{length, getD, take}
 use Rattle.sketch.specs.declared.params.Params.{Params}
@@ -11,7 +11,7 @@ use Rattle.sketch.specs.declared.answers.Why.the-variants.{Param, Length
 use Rattle.sketch.specs.declared.answers.Answer.{Answer}
 use Rattle.sketch.specs.declared.answers.Answer.the-variants.{Done}
 use Rattle.sketch.specs.Answers.{refuseIf, first, kept}
-use Rattle.sketch.specs.Params.{prime, primeOf, isFlow, size, goodParams, sizesAnswer, shapeAnswer}
+use Rattle.sketch.specs.Params.{prime, size, goodParams, sizesAnswer, shapeAnswer}
 use Rattle.sketch.specs.Places.{stands}
 use Rattle.sketch.specs.Buckets.{weight}
 use Rattle.sketch.specs.Sketch.{Sketch, Entry, by, standingAnswer, changedIn}

@@ -2,8 +2,8 @@
 // and what holds of it in proofs/; the crate `peel` does it.
 ghost use mathlib.Core.Path.{_≡_};
 ghost use Rattle.walk.specs.Purity.{sizedTest};
-use sketch::params::PRIME;
 use sketch::Params;
+use sketch::params::PRIME;
 
 // How a walk ends.
 pub enum Ending {
@@ -33,5 +33,9 @@ pub fn test(p: Params, k: usize, c: i32, s: u32) -> Found
         return Found::Undefined;
     }
     let f = field::flow(PRIME, c, s);
-    if p.stands(f, k) { Found::Pure(f) } else { Found::Impure }
+    if p.stands(f, k) {
+        Found::Pure(f)
+    } else {
+        Found::Impure
+    }
 }

@@ -1,53 +1,67 @@
+-- `peel::peeling::judge` meets its contract: the shape, then the other lengths, then the first damaged bucket.
+use mathlib.Core.Path.{_≡_, sym, _∙_}
+use Prim.Native.Nat.{_*_}
+use native.Mathlib.Omega.{arith}
+use denote.Ref.{now}
+use lib.ListN.{length}
 use borrow.Author.Needs.{needs}
+use Rattle.sketch.specs.declared.answers.Answer.the-variants.{Done}
+use Rattle.sketch.specs.Params.{shapeAnswer}
+use Rattle.sketch.proofs.Rules.{shape-done}
+use Rattle.peel.proofs.Judged.{Lent, ill-shaped, ill-lent, one-damaged, none-damaged}
 use Rattle.peel.proofs.peeling.judge.Statement.{statement}
 use Rattle.peel.proofs.peeling.judge.Tie as tie
-use Rattle.peel.proofs.peeling.judge.Reads as reads
-use Rattle.peel.proofs.peeling.judge.Lts as lts
-use Rattle.sketch.proofs.buckets.first_damaged.Reads as first-damaged-reads
-use Rattle.sketch.proofs.params.Params.shape.Reads as shape-reads
 
--- src/peeling.rt:48:9
+-- the shape was passed, and the counts are as many as the buckets
+shaped : (c : tie.After-enum-told) → shapeAnswer (c .before .before .before .before .args .p) (length (now (c .before .before .before .before .args .counts))) (length (now (c .before .before .before .before .args .idsums))) ≡ Done
+shaped c = sym (c .before .before .shape .ensures) ∙ c .enum-told .given .1
+
+long : (c : tie.After-enum-told) → length (now (c .before .before .before .before .args .counts)) ≡ c .before .before .before .before .args .p .d * c .before .before .before .before .args .p .m
+long c = shape-done _ _ _ (shaped c) .1
+
+-- so were the other lengths
+passed : (c : tie.Else4) → let a = c .before .before .before .before .before .before .before .before .args in Lent (a .p) (a .flows) (a .numbers) (a .queue) (a .marks)
+passed c =
+    let e = long (c .before .before .before .before) in
+    record {
+      queue-long = c .before .before .before .if1 .left ∙ e;
+      marks-long = c .before .before .if2 .left ∙ e;
+      same = c .before .if3 .left;
+      few = c .if4 .left;
+    }
+
 shape-requires : tie.Need-shape-requires
 shape-requires c κs = search needs
 
 enum-told : tie.Need-enum-told
 enum-told c = search needs
 
--- src/peeling.rt:50:9
 enum-told-2 : tie.Need-enum-told-2
 enum-told-2 c = search needs
 
--- src/peeling.rt:50:9
 returns : tie.Need-returns
-returns c = ?
+returns c = ill-shaped _ _ _ _ _ _ _ (c .before .before .shape .ensures) (c .before .match .keys2)
 
--- src/peeling.rt:53:9
 returns-2 : tie.Need-returns-2
-returns-2 c = ?
+returns-2 c = ill-lent _ _ _ _ _ _ (shaped (c .before)) (λ l. c .if1 .taken (l .queue-long ∙ sym (long (c .before))))
 
--- src/peeling.rt:56:9
 returns-3 : tie.Need-returns-3
-returns-3 c = ?
+returns-3 c = ill-lent _ _ _ _ _ _ (shaped (c .before .before)) (λ l. c .if2 .taken (l .marks-long ∙ sym (long (c .before .before))))
 
--- src/peeling.rt:59:9
 returns-4 : tie.Need-returns-4
-returns-4 c = ?
+returns-4 c = ill-lent _ _ _ _ _ _ (shaped (c .before .before .before)) (λ l. c .if3 .taken (l .same))
 
--- src/peeling.rt:62:9
 returns-5 : tie.Need-returns-5
-returns-5 c = ?
+returns-5 c = ill-lent _ _ _ _ _ _ (shaped (c .before .before .before .before)) (λ l. omega (arith, c .if4 .taken, l .few))
 
--- src/peeling.rt:64:9
 first-damaged-requires : tie.Need-first-damaged-requires
 first-damaged-requires c κs = search needs
 
--- src/peeling.rt:66:9
 returns-6 : tie.Need-returns-6
-returns-6 c = ?
+returns-6 c = one-damaged _ _ _ _ _ _ (shaped (c .before .before .before .before .before .before)) _ (passed (c .before .before)) (c .before .first-damaged .ensures) (c .if5 .taken)
 
--- src/peeling.rt:37:1
 returns-7 : tie.Need-returns-7
-returns-7 c = ?
+returns-7 c = none-damaged _ _ _ _ _ _ (shaped (c .before .before .before .before .before .before)) _ (passed (c .before .before)) (c .before .first-damaged .ensures) (c .if5 .left)
 
 pub judge-spec : {M : Type 1} → statement M
 judge-spec =

@@ -1,45 +1,41 @@
+-- `peel::queue::clear` meets its contract: one more zero a turn.
+use native.Mathlib.Omega.{arith}
+use Prim.Native.Nat.{_-_}
+use lib.ListN.{length}
+use borrow.Author.Needs.{needs}
+use Rattle.peel.proofs.Clearing.{Clearing, clearing-none, clearing-more, clearing-all}
 use Rattle.peel.proofs.queue.clear.Statement.{statement}
 use Rattle.peel.proofs.queue.clear.Tie as tie
-use Rattle.peel.proofs.queue.clear.Reads as reads
-use Rattle.peel.proofs.queue.clear.Lts as lts
 
 abbrev Inv-loop : tie.InvT-loop
-Inv-loop s₀ n i₀ s i = ?
+Inv-loop s₀ n i₀ s i = Clearing 0 n s₀ i s
 
 abbrev μ-loop : tie.MeasureT-loop
-μ-loop s₀ n i₀ s i = ?
+μ-loop s₀ n i₀ s i = length s₀ - i
 
--- src/queue.rt:71:5
 loop-holds : tie.Need-loop-holds Inv-loop μ-loop
-loop-holds c = ?
+loop-holds c = clearing-none
 
--- src/queue.rt:72:9
 mul-s : tie.Need-mul-s Inv-loop μ-loop
-mul-s c = ?
+mul-s c = search needs
 
--- src/queue.rt:72:9
 slice-write-s : tie.Need-slice-write-s Inv-loop μ-loop
-slice-write-s c = ?
+slice-write-s c = search needs
 
--- src/queue.rt:73:9
 add-i : tie.Need-add-i Inv-loop μ-loop
-add-i c = ?
+add-i c = search needs
 
--- src/queue.rt:71:5
 loop-less : tie.Need-loop-less Inv-loop μ-loop
-loop-less c = ?
+loop-less c = omega (arith, c .before .loop .inv .long)
 
--- src/queue.rt:71:5
 loop-again : tie.Need-loop-again Inv-loop μ-loop
-loop-again c = ?
+loop-again c = clearing-more (c .loop-test .taken) (c .before .loop .inv)
 
--- src/queue.rt:67:1
 same-length : tie.Need-same-length Inv-loop μ-loop
-same-length c = ?
+same-length c = c .before .loop .inv .long
 
--- src/queue.rt:67:1
 returns : tie.Need-returns Inv-loop μ-loop
-returns c = ?
+returns c = clearing-all (c .loop-test .left) (c .before .loop .inv)
 
 pub clear-spec : {M : Type 1} → statement M
 clear-spec =

@@ -1,36 +1,30 @@
+-- `peel::queue::pop` meets its contract: the number at the head is a bucket's, whose mark goes.
+use native.Mathlib.Omega.{arith}
 use borrow.Author.Needs.{needs}
+use Rattle.peel.proofs.Rings.{pop-inside, ring-pop}
 use Rattle.peel.proofs.queue.pop.Statement.{statement}
 use Rattle.peel.proofs.queue.pop.Tie as tie
-use Rattle.peel.proofs.queue.pop.Reads as reads
-use Rattle.peel.proofs.queue.pop.Lts as lts
 
--- src/queue.rt:21:13
 mul-k : tie.Need-mul-k
 mul-k c = search needs
 
--- src/queue.rt:21:13
 shared-slice-read-k : tie.Need-shared-slice-read-k
 shared-slice-read-k c = search needs
 
--- src/queue.rt:21:13
 cast-k : tie.Need-cast-k
-cast-k c = ?
+cast-k c = omega (arith, c .shared-slice-known .given (c .before .args .head))
 
--- src/queue.rt:22:5
 mul-marks : tie.Need-mul-marks
-mul-marks c = ?
+mul-marks c = omega (arith, c .shared-slice-known .given (c .before .args .head))
 
--- src/queue.rt:22:5
 slice-write-marks : tie.Need-slice-write-marks
-slice-write-marks c = ?
+slice-write-marks c = let h = c .before .pre in omega (arith, h .0 .long-marks, pop-inside (h .0) (h .1))
 
--- src/queue.rt:17:1
 same-length : tie.Need-same-length
 same-length c = search needs
 
--- src/queue.rt:17:1
 returns : tie.Need-returns
-returns c = ?
+returns c = ring-pop (c .before .pre .0) (c .before .pre .1)
 
 pub pop-spec : {M : Type 1} → statement M
 pop-spec =

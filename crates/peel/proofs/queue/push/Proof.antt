@@ -1,61 +1,50 @@
+-- `peel::queue::push` meets its contract: a number without a mark goes to the place after the last.
+use native.Mathlib.Omega.{arith}
 use borrow.Author.Needs.{needs}
+use Rattle.peel.proofs.Rings.{ring-most, back-below, ring-stay, ring-push}
 use Rattle.peel.proofs.queue.push.Statement.{statement}
 use Rattle.peel.proofs.queue.push.Tie as tie
-use Rattle.peel.proofs.queue.push.Reads as reads
-use Rattle.peel.proofs.queue.push.Lts as lts
-use Rattle.peel.proofs.queue.place.Reads as place-reads
 
--- src/queue.rt:31:8
 mul-if1 : tie.Need-mul-if1
 mul-if1 c = search needs
 
--- src/queue.rt:31:8
 slice-read-if1 : tie.Need-slice-read-if1
 slice-read-if1 c = search needs
 
--- src/queue.rt:32:13
 place-requires : tie.Need-place-requires
-place-requires c κs = ?
+place-requires c κs = let h = c .before .before .before .before .pre in (h .0 .head-in, ring-most (h .0), h .2)
 
--- src/queue.rt:33:21
 cast-queue : tie.Need-cast-queue
 cast-queue c = search needs
 
--- src/queue.rt:33:9
 mul-queue : tie.Need-mul-queue
-mul-queue c = ?
+mul-queue c = let h = c .before .before .before .before .before .pre in omega (arith, c .place .ensures, h .2, back-below (h .0))
 
--- src/queue.rt:33:9
 slice-write-queue : tie.Need-slice-write-queue
-slice-write-queue c = ?
+slice-write-queue c = omega (arith, c .place .ensures, back-below (c .before .before .before .before .before .pre .0))
 
--- src/queue.rt:34:9
 mul-marks : tie.Need-mul-marks
 mul-marks c = search needs
 
--- src/queue.rt:34:9
 slice-write-marks : tie.Need-slice-write-marks
 slice-write-marks c = search needs
 
--- src/queue.rt:35:16
 add-result : tie.Need-add-result
-add-result c = ?
+add-result c = let h = c .before .before .before .before .before .pre in omega (arith, h .2, ring-most (h .0))
 
--- src/queue.rt:35:9
 same-length : tie.Need-same-length
 same-length c = search needs
 
--- src/queue.rt:35:9
 same-length-2 : tie.Need-same-length-2
 same-length-2 c = search needs
 
--- src/queue.rt:35:9
 returns : tie.Need-returns
-returns c = ?
+returns c =
+    let h = c .before .before .before .before .before .pre in
+    rw (c .place .ensures) (ring-push (h .0) _ (h .1) (c .before .if1 .taken))
 
--- src/queue.rt:27:1
 returns-2 : tie.Need-returns-2
-returns-2 c = ?
+returns-2 c = ring-stay (c .before .before .before .before .pre .0) _ (c .if1 .left)
 
 pub push-spec : {M : Type 1} → statement M
 push-spec =

@@ -1,70 +1,98 @@
+-- `peel::queue::requeue` meets its contract: what is left of the requeueing, from the ring as it stands, gives the queue that the whole gives from the ring at the start.
+use mathlib.Core.Path.{sym, _∙_}
+use mathlib.Core.Logic.{⊎-elim}
+use mathlib.Core.List.{[]}
+use Prim.Native.Nat.{_+_, _*_, _-_, _≤_}
+use native.Mathlib.Omega.{arith}
+use lib.IntN.{ℤ, pos}
+use lib.ListN.{getD}
+use borrow.Author.Needs.{needs, sfits-of}
+use Rattle.field.proofs.Casts.{zero-of-bits, bits-of-zero}
+use Rattle.sketch.specs.Sketch.{sketch}
+use Rattle.sketch.proofs.Standing.{Within, reach}
+use Rattle.walk.specs.Walk.{requeue}
+use Rattle.walk.proofs.Zeros.{is-zero, not-zero}
+use Rattle.peel.specs.Ring.{Ring, ring}
+use Rattle.peel.proofs.Queues.{Requeueing, requeue-none, requeue-past, requeue-join, requeue-all}
 use Rattle.peel.proofs.queue.requeue.Statement.{statement}
 use Rattle.peel.proofs.queue.requeue.Tie as tie
-use Rattle.peel.proofs.queue.requeue.Reads as reads
-use Rattle.peel.proofs.queue.requeue.Lts as lts
-use Rattle.peel.proofs.queue.push.Reads as push-reads
 
 abbrev Inv-loop : tie.InvT-loop
-Inv-loop d m ks counts queue₀ marks₀ head first waiting₀ i₀ queue marks waiting i = ?
+Inv-loop d m ks counts queue₀ marks₀ head first waiting₀ i₀ queue marks waiting i =
+    (i ≤ d) × Ring (d * m) queue marks head waiting
+    × Requeueing (λ i. i * m + getD ks i 0) (sketch counts []) d i (ring queue head waiting)
+    (requeue (λ i. i * m + getD ks i 0) (sketch counts []) 0 d (ring queue₀ head first))
 
 abbrev μ-loop : tie.MeasureT-loop
-μ-loop d m ks counts queue₀ marks₀ head first waiting₀ i₀ queue marks waiting i = ?
+μ-loop d m ks counts queue₀ marks₀ head first waiting₀ i₀ queue marks waiting i = d - i
 
--- src/queue.rt:56:5
 loop-holds : tie.Need-loop-holds Inv-loop μ-loop
-loop-holds c = ?
+loop-holds c = (omega arith, c .before .before .pre .1, requeue-none)
 
--- src/queue.rt:57:17
+-- where a turn reaches
+within : (c : tie.In-loop Inv-loop μ-loop) → let b = c .before .before .before .before in Within (b .args .d) (b .args .m) (c .before .loop .i) (getD (b .args .ks .now) (c .before .loop .i) 0)
+within c = reach (c .before .loop .i) (c .before .before .before .before .pre .0) (c .loop-test .taken)
+
 mul-j : tie.Need-mul-j Inv-loop μ-loop
-mul-j c = ?
+mul-j c = omega (arith, within c .bucket, within c .size)
 
--- src/queue.rt:57:25
 mul-j-2 : tie.Need-mul-j-2 Inv-loop μ-loop
-mul-j-2 c = ?
+mul-j-2 c = omega (arith, within c .few)
 
--- src/queue.rt:57:25
 element-copy-out-j : tie.Need-element-copy-out-j Inv-loop μ-loop
-element-copy-out-j c = ?
+element-copy-out-j c = within c .few
 
--- src/queue.rt:57:17
 add-j : tie.Need-add-j Inv-loop μ-loop
-add-j c = ?
+add-j c = omega (arith, within (c .before) .bucket, within (c .before) .size)
 
--- src/queue.rt:58:12
 mul-if1 : tie.Need-mul-if1 Inv-loop μ-loop
-mul-if1 c = ?
+mul-if1 c = omega (arith, within (c .before) .bucket, within (c .before) .size)
 
--- src/queue.rt:58:12
 shared-slice-copy-out-if1 : tie.Need-shared-slice-copy-out-if1 Inv-loop μ-loop
-shared-slice-copy-out-if1 c = ?
+shared-slice-copy-out-if1 c = rw (c .before .before .before .before .before .pre .0 .counts-long) (within (c .before) .bucket)
 
--- src/queue.rt:59:13
 push-requires : tie.Need-push-requires Inv-loop μ-loop
-push-requires c κs = ?
+push-requires c κs =
+    let t = c .before .before .before .before .before in
+    let v = t .before .loop .inv in
+    rw (v .1 .long) (v .1, within t .bucket, within t .size)
 
--- src/queue.rt:61:9
 add-i : tie.Need-add-i Inv-loop μ-loop
-add-i c = ?
+add-i c = search needs
 
--- src/queue.rt:56:5
 loop-less : tie.Need-loop-less Inv-loop μ-loop
-loop-less c = ?
+loop-less c = omega arith
 
--- src/queue.rt:56:5
 loop-again : tie.Need-loop-again Inv-loop μ-loop
-loop-again c = ?
+loop-again c =
+    let t = c .before .before .before in
+    let b = t .before .before .before .before in
+    let i = t .before .loop .i in
+    let v = t .before .loop .inv in
+    let x : ℤ = getD (b .args .counts .now) (i * b .args .m + getD (b .args .ks .now) i 0) (pos 0) in
+    ⊎-elim
+    (λ w.
+    rw (w .8, w .9, w .10) (
+      omega arith,
+      rw (v .1 .long) at (w .3 .ensures .ringed),
+      requeue-join (v .2) (t .loop-test .taken) (not-zero x (λ e. w .0 .taken (bits-of-zero x e))) (w .3 .ensures .list),
+    ))
+    (λ w.
+    rw (w .1, w .2, w .3) (
+      omega arith,
+      v .1,
+      requeue-past (v .2) (t .loop-test .taken) (is-zero x (zero-of-bits x (sfits-of (c .before .if12 .given)) (w .0 .left))),
+    ))
+    (c .if1 .came)
 
--- src/queue.rt:41:1
 same-length : tie.Need-same-length Inv-loop μ-loop
-same-length c = ?
+same-length c = c .before .loop .inv .1 .long ∙ sym (c .before .before .before .before .pre .1 .long)
 
--- src/queue.rt:41:1
 same-length-2 : tie.Need-same-length-2 Inv-loop μ-loop
-same-length-2 c = ?
+same-length-2 c = c .before .loop .inv .1 .long-marks ∙ sym (c .before .before .before .before .pre .1 .long-marks)
 
--- src/queue.rt:41:1
 returns : tie.Need-returns Inv-loop μ-loop
-returns c = ?
+returns c = let v = c .before .loop .inv in record { list = requeue-all (v .2) (c .loop-test .left); ringed = v .1 }
 
 pub requeue-spec : {M : Type 1} → statement M
 requeue-spec =

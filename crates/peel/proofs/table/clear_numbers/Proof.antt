@@ -1,45 +1,42 @@
+-- `peel::table::clear_numbers` meets its contract: zeros stand from n up to where the loop is.
+use Prim.Native.Nat.{_-_}
+use native.Mathlib.Omega.{arith}
+use lib.IntN.{pos}
+use lib.ListN.{length}
+use borrow.Author.Needs.{needs}
+use Rattle.peel.proofs.Clearing.{Clearing, clearing-none, clearing-more, clearing-all}
 use Rattle.peel.proofs.table.clear_numbers.Statement.{statement}
 use Rattle.peel.proofs.table.clear_numbers.Tie as tie
-use Rattle.peel.proofs.table.clear_numbers.Reads as reads
-use Rattle.peel.proofs.table.clear_numbers.Lts as lts
 
 abbrev Inv-loop : tie.InvT-loop
-Inv-loop s₀ n i₀ s i = ?
+Inv-loop s₀ n i₀ s i = Clearing (pos 0) n s₀ i s
 
 abbrev μ-loop : tie.MeasureT-loop
-μ-loop s₀ n i₀ s i = ?
+μ-loop s₀ n i₀ s i = length s₀ - i
 
--- src/table.rt:67:5
 loop-holds : tie.Need-loop-holds Inv-loop μ-loop
-loop-holds c = ?
+loop-holds c = clearing-none
 
--- src/table.rt:68:9
 mul-s : tie.Need-mul-s Inv-loop μ-loop
-mul-s c = ?
+mul-s c = search needs
 
--- src/table.rt:68:9
 slice-set-of-s : tie.Need-slice-set-of-s Inv-loop μ-loop
-slice-set-of-s c = ?
+slice-set-of-s c = search needs
 
--- src/table.rt:69:9
 add-i : tie.Need-add-i Inv-loop μ-loop
-add-i c = ?
+add-i c = search needs
 
--- src/table.rt:67:5
 loop-less : tie.Need-loop-less Inv-loop μ-loop
-loop-less c = ?
+loop-less c = omega (arith, c .before .loop .inv .long)
 
--- src/table.rt:67:5
 loop-again : tie.Need-loop-again Inv-loop μ-loop
-loop-again c = ?
+loop-again c = clearing-more (c .loop-test .taken) (c .before .loop .inv)
 
--- src/table.rt:63:1
 same-length : tie.Need-same-length Inv-loop μ-loop
-same-length c = ?
+same-length c = c .before .loop .inv .long
 
--- src/table.rt:63:1
 returns : tie.Need-returns Inv-loop μ-loop
-returns c = ?
+returns c = clearing-all (c .loop-test .left) (c .before .loop .inv)
 
 pub clear-numbers-spec : {M : Type 1} → statement M
 clear-numbers-spec =

@@ -1,77 +1,103 @@
+-- `peel::table::compact` meets its contract: what is kept so far, with the close of the entries still to come, is the close of all.
+use mathlib.Core.Path.{_≡_, refl, _∙_}
+use mathlib.Core.Logic.{⊎-elim}
+use mathlib.Core.List.{_++_}
+use Prim.Native.Nat.{_-_, _≤_}
+use native.Mathlib.Omega.{arith}
+use lib.IntN.{ℤ, pos}
+use lib.ListN.{length, getD, length-set}
+use mir.Facts.{toZ-ofZ}
+use mir.Syntax.{w32}
+use mir.Val.{SFits}
+use borrow.Author.Needs.{needs, sfits-of}
+use Rattle.field.proofs.Casts.{zero-of-bits, bits-of-zero}
+use Rattle.sketch.specs.Lists.{from}
+use Rattle.walk.specs.Walk.{close}
+use Rattle.walk.proofs.Zeros.{is-zero, not-zero}
+use Rattle.peel.specs.Table.{row, tableOf}
+use Rattle.peel.proofs.Closing.{close-none, close-past, close-keep, close-all}
 use Rattle.peel.proofs.table.compact.Statement.{statement}
 use Rattle.peel.proofs.table.compact.Tie as tie
-use Rattle.peel.proofs.table.compact.Reads as reads
-use Rattle.peel.proofs.table.compact.Lts as lts
 
 abbrev Inv-loop : tie.InvT-loop
-Inv-loop flows₀ numbers₀ n w₀ i₀ flows numbers w i = ?
+Inv-loop flows₀ numbers₀ n w₀ i₀ flows numbers w i = (w ≤ i) × (i ≤ n) × (length flows ≡ length flows₀) × (length numbers ≡ length numbers₀) × (tableOf flows numbers w ++ close (from i (n - i) (row flows numbers)) ≡ close (tableOf flows₀ numbers₀ n))
 
 abbrev μ-loop : tie.MeasureT-loop
-μ-loop flows₀ numbers₀ n w₀ i₀ flows numbers w i = ?
+μ-loop flows₀ numbers₀ n w₀ i₀ flows numbers w i = n - i
 
--- src/table.rt:49:5
 loop-holds : tie.Need-loop-holds Inv-loop μ-loop
-loop-holds c = ?
+loop-holds c = (omega arith, omega arith, refl, refl, close-none _ _ _)
 
--- src/table.rt:50:17
 mul-f : tie.Need-mul-f Inv-loop μ-loop
-mul-f c = ?
+mul-f c = search needs
 
--- src/table.rt:50:17
 slice-read-f : tie.Need-slice-read-f Inv-loop μ-loop
-slice-read-f c = ?
+slice-read-f c = search needs
 
--- src/table.rt:51:17
 mul-c : tie.Need-mul-c Inv-loop μ-loop
-mul-c c = ?
+mul-c c = search needs
 
--- src/table.rt:51:17
 slice-copy-out-c : tie.Need-slice-copy-out-c Inv-loop μ-loop
-slice-copy-out-c c = ?
+slice-copy-out-c c = search needs
 
--- src/table.rt:53:13
 mul-flows : tie.Need-mul-flows Inv-loop μ-loop
-mul-flows c = ?
+mul-flows c = search needs
 
--- src/table.rt:53:13
 slice-write-flows : tie.Need-slice-write-flows Inv-loop μ-loop
-slice-write-flows c = ?
+slice-write-flows c = search needs
 
--- src/table.rt:54:13
 mul-c-2 : tie.Need-mul-c-2 Inv-loop μ-loop
-mul-c-2 c = ?
+mul-c-2 c = search needs
 
--- src/table.rt:54:13
 slice-set-from-c : tie.Need-slice-set-from-c Inv-loop μ-loop
-slice-set-from-c c = ?
+slice-set-from-c c = search needs
 
--- src/table.rt:55:13
 add-w : tie.Need-add-w Inv-loop μ-loop
-add-w c = ?
+add-w c = search needs
 
--- src/table.rt:57:9
 add-i : tie.Need-add-i Inv-loop μ-loop
-add-i c = ?
+add-i c = search needs
 
--- src/table.rt:49:5
 loop-less : tie.Need-loop-less Inv-loop μ-loop
-loop-less c = ?
+loop-less c = omega arith
 
--- src/table.rt:49:5
 loop-again : tie.Need-loop-again Inv-loop μ-loop
-loop-again c = ?
+loop-again c =
+    let l = c .before .before .before .before in
+    let b = l .before in
+    let v = l .loop .inv in
+    let y : ℤ = getD (l .loop .numbers) (l .loop .i) (pos 0) in
+    let f : SFits w32 y = sfits-of (c .before .c .given) in
+    ⊎-elim
+    (λ w.
+    rw (w .1, w .2, w .3, toZ-ofZ f) (
+      omega arith,
+      omega arith,
+      length-set (l .loop .flows) (l .loop .w) (getD (l .loop .flows) (l .loop .i) 0) ∙ v .2,
+      length-set (l .loop .numbers) (l .loop .w) y ∙ v .3,
+      close-keep _ _ _ _ (c .before .before .before .loop-test .taken) _ _ (v .4) (not-zero y (λ e. w .0 .taken (bits-of-zero y e))) (v .0)
+          (omega (arith, v .2, b .pre .0)) (omega (arith, v .3, b .pre .0, b .pre .1)),
+    ))
+    (λ w.
+    rw (w .1, w .2, w .3) (
+      omega arith,
+      omega arith,
+      v .2,
+      v .3,
+      close-past _ _ _ _ (c .before .before .before .loop-test .taken) _ _ (v .4) (is-zero y (zero-of-bits y f (w .0 .left))),
+    ))
+    (c .if1 .came)
 
--- src/table.rt:43:1
 same-length : tie.Need-same-length Inv-loop μ-loop
-same-length c = ?
+same-length c = c .before .loop .inv .2
 
--- src/table.rt:43:1
 same-length-2 : tie.Need-same-length-2 Inv-loop μ-loop
-same-length-2 c = ?
+same-length-2 c = c .before .loop .inv .3
 
--- src/table.rt:43:1
 returns : tie.Need-returns Inv-loop μ-loop
-returns c = ?
+returns c =
+    let v = c .before .loop .inv in
+    record { table = close-all _ _ _ _ _ _ (omega arith) (v .4); within = omega (arith, v .0, v .1) }
 
 pub compact-spec : {M : Type 1} → statement M
 compact-spec =

@@ -1,45 +1,42 @@
+-- `peel::table::find` meets its contract: no place that the loop has passed holds the flow.
+use mathlib.Core.Path.{_≡_}
+use Prim.Native.Nat.{ℕ, _-_, _<_, _≤_}
+use native.Mathlib.Omega.{arith}
+use lib.ListN.{getD}
+use borrow.Author.Count.{below-none, below-more}
+use borrow.Author.Needs.{needs}
 use Rattle.peel.proofs.table.find.Statement.{statement}
 use Rattle.peel.proofs.table.find.Tie as tie
-use Rattle.peel.proofs.table.find.Reads as reads
-use Rattle.peel.proofs.table.find.Lts as lts
 
 abbrev Inv-loop : tie.InvT-loop
-Inv-loop flows n f i₀ i = ?
+Inv-loop flows n f i₀ i = (i ≤ n) × ((j : ℕ) → j < i → getD flows j 0 ≡ f → ⊥)
 
 abbrev μ-loop : tie.MeasureT-loop
-μ-loop flows n f i₀ i = ?
+μ-loop flows n f i₀ i = n - i
 
--- src/table.rt:19:5
 loop-holds : tie.Need-loop-holds Inv-loop μ-loop
-loop-holds c = ?
+loop-holds c = (omega arith, below-none _)
 
--- src/table.rt:20:12
 mul-if1 : tie.Need-mul-if1 Inv-loop μ-loop
-mul-if1 c = ?
+mul-if1 c = search needs
 
--- src/table.rt:20:12
 shared-slice-read-if1 : tie.Need-shared-slice-read-if1 Inv-loop μ-loop
-shared-slice-read-if1 c = ?
+shared-slice-read-if1 c = search needs
 
--- src/table.rt:21:13
 returns : tie.Need-returns Inv-loop μ-loop
-returns c = ?
+returns c = record { within = omega arith; before = c .before .before .before .loop .inv .1; found = λ l. c .if1 .taken }
 
--- src/table.rt:23:9
 add-i : tie.Need-add-i Inv-loop μ-loop
-add-i c = ?
+add-i c = search needs
 
--- src/table.rt:19:5
 loop-less : tie.Need-loop-less Inv-loop μ-loop
-loop-less c = ?
+loop-less c = omega arith
 
--- src/table.rt:19:5
 loop-again : tie.Need-loop-again Inv-loop μ-loop
-loop-again c = ?
+loop-again c = (omega arith, below-more _ _ (c .before .before .before .loop .inv .1) (c .if1 .left))
 
--- src/table.rt:14:1
 returns-2 : tie.Need-returns-2 Inv-loop μ-loop
-returns-2 c = ?
+returns-2 c = record { within = omega arith; before = c .before .loop .inv .1; found = λ l. absurd (omega arith) }
 
 pub find-spec : {M : Type 1} → statement M
 find-spec =

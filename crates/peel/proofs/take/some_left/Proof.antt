@@ -1,19 +1,22 @@
+-- `peel::take::some_left` meets its contract.
+use borrow.Author.Tests.{eq-eqb, ne-eqb}
+use Rattle.field.proofs.Casts.{zero-of-bits, bits-of-zero}
+use Rattle.walk.proofs.Zeros.{is-zero, not-zero}
+use Rattle.peel.specs.Dirt.{some}
 use Rattle.peel.proofs.take.some_left.Statement.{statement}
 use Rattle.peel.proofs.take.some_left.Tie as tie
-use Rattle.peel.proofs.take.some_left.Reads as reads
-use Rattle.peel.proofs.take.some_left.Lts as lts
 
--- src/take.rt:40:13
 returns : tie.Need-returns
-returns c = ?
+unfolding some
+returns c = rw (is-zero _ (zero-of-bits _ (c .before .before .fits .c) (c .before .if1 .taken)), eq-eqb _ _ (c .if2 .taken))
 
--- src/take.rt:35:1
 returns-2 : tie.Need-returns-2
-returns-2 c = ?
+unfolding some
+returns-2 c = rw (is-zero _ (zero-of-bits _ (c .before .before .fits .c) (c .before .if1 .taken)), ne-eqb _ _ (c .if2 .left))
 
--- src/take.rt:35:1
 returns-3 : tie.Need-returns-3
-returns-3 c = ?
+unfolding some
+returns-3 c = rw (not-zero _ (λ e. c .if1 .left (bits-of-zero _ e)))
 
 pub some-left-spec : {M : Type 1} → statement M
 some-left-spec = tie.close (tie.spec returns returns-2 returns-3)

@@ -1,78 +1,108 @@
-use borrow.Author.Needs.{needs}
+-- `peel::take::take_one` meets its contract.
+use mathlib.Core.Path.{_≡_, refl, ap}
+use Prim.Native.Nat.{_+_, _≤_}
+use native.Mathlib.Omega.{arith}
+use lib.IntN.{pos, _-ℤ_}
+use lib.ListN.{getD, set}
+use mir.Facts.{toZ-ofZ}
+use mir.Syntax.{w32}
+use mir.Val.{SFits, toZ, ofZ}
+use borrow.Author.Needs.{needs, sfits-of}
+use Rattle.sketch.proofs.Limits.{limits-fit}
+use Rattle.peel.specs.Dirt.{some, dirty}
+use Rattle.peel.proofs.Dirtiness.{some-most, dirty-most, dirty-set}
 use Rattle.peel.proofs.take.take_one.Statement.{statement}
 use Rattle.peel.proofs.take.take_one.Tie as tie
-use Rattle.peel.proofs.take.take_one.Reads as reads
-use Rattle.peel.proofs.take.take_one.Lts as lts
-use Rattle.peel.proofs.take.some_left.Reads as some-left-reads
-use Rattle.sketch.proofs.buckets.wound.Reads as wound-reads
 
--- src/take.rt:65:13
+-- the count that is read, and the difference as the machine has it
+x-fits : (c : tie.After-x) → SFits w32 (getD (c .before .before .args .counts .now) (c .before .before .args .j) (pos 0))
+x-fits c = sfits-of (c .x .given)
+
+v-is : (c : tie.After-x) → let a = c .before .before .args in
+    toZ w32 (ofZ w32 (toZ w32 (ofZ w32 (getD (a .counts .now) (a .j) (pos 0))) -ℤ toZ w32 (ofZ w32 (a .c)))) ≡ getD (a .counts .now) (a .j) (pos 0) -ℤ a .c
+v-is c =
+    let b = c .before .before in
+    rw (toZ-ofZ (x-fits c), toZ-ofZ (b .fits .c)) (toZ-ofZ (limits-fit _ (b .pre .limits)))
+
+-- what the bucket counts after and counted before, and so what is left
+new-is : (c : tie.After-some-left) → let b = c .before .before .before .before .before in
+    c .some-left .result ≡ some (getD (b .args .counts .now) (b .args .j) (pos 0) -ℤ b .args .c) (c .before .wound .result)
+new-is c = rw (v-is (c .before .before .before)) at (c .some-left .ensures)
+
+old-is : (c : tie.After-some-left2) → let b = c .before .before .before .before .before .before in
+    c .some-left2 .result ≡ some (getD (b .args .counts .now) (b .args .j) (pos 0)) (getD (b .args .idsums .now) (b .args .j) 0)
+old-is c = rw (toZ-ofZ (x-fits (c .before .before .before .before))) at (c .some-left2 .ensures)
+
+account : (c : tie.After-some-left2) → let b = c .before .before .before .before .before .before in
+    dirty (set (b .args .counts .now) (b .args .j) (getD (b .args .counts .now) (b .args .j) (pos 0) -ℤ b .args .c)) (set (b .args .idsums .now) (b .args .j) (c .before .before .wound .result)) + c .some-left2 .result
+    ≡ b .args .dirt + c .before .some-left .result
+account c =
+    let b = c .before .before .before .before .before .before in
+    rw (new-is (c .before), old-is c, b .pre .dirt)
+    (dirty-set (b .args .counts .now) (b .args .idsums .now) (b .args .j) _ (c .before .before .wound .result) (b .pre .inside) (b .pre .inside-ids))
+
 mul-x : tie.Need-mul-x
 mul-x c = search needs
 
--- src/take.rt:65:13
 slice-copy-out-x : tie.Need-slice-copy-out-x
 slice-copy-out-x c = search needs
 
--- src/take.rt:66:13
 mul-y : tie.Need-mul-y
 mul-y c = search needs
 
--- src/take.rt:66:13
 slice-read-y : tie.Need-slice-read-y
 slice-read-y c = search needs
 
--- src/take.rt:67:13
 sub-v : tie.Need-sub-v
-sub-v c = ?
+sub-v c =
+    let b = c .before .before .before in
+    rw (toZ-ofZ (x-fits (c .before)), toZ-ofZ (b .fits .c)) (limits-fit _ (b .pre .limits))
 
--- src/take.rt:68:9
 wound-requires : tie.Need-wound-requires
 wound-requires c κs = search needs
 
--- src/take.rt:69:5
 mul-v : tie.Need-mul-v
 mul-v c = search needs
 
--- src/take.rt:69:5
 slice-set-from-v : tie.Need-slice-set-from-v
 slice-set-from-v c = search needs
 
--- src/take.rt:70:5
 mul-idsums : tie.Need-mul-idsums
 mul-idsums c = search needs
 
--- src/take.rt:70:5
 slice-write-idsums : tie.Need-slice-write-idsums
 slice-write-idsums c = search needs
 
--- src/take.rt:71:12
 some-left-requires : tie.Need-some-left-requires
 some-left-requires c κs = search needs
 
--- src/take.rt:71:5
 add-result : tie.Need-add-result
-add-result c = ?
+add-result c =
+    let b = c .before .before .before .before .before in
+    let one : c .some-left .result ≤ 1 = rw (c .some-left .ensures) (some-most _ _) in
+    omega (arith, b .pre .dirt, dirty-most (b .args .counts .now) (b .args .idsums .now), b .good .0 .0)
 
--- src/take.rt:71:30
 some-left-requires-2 : tie.Need-some-left-requires-2
 some-left-requires-2 c κs = search needs
 
--- src/take.rt:71:5
 sub-result : tie.Need-sub-result
-sub-result c = ?
+sub-result c = omega (arith, account c)
 
--- src/take.rt:61:1
 same-length : tie.Need-same-length
 same-length c = search needs
 
--- src/take.rt:61:1
 same-length-2 : tie.Need-same-length-2
 same-length-2 c = search needs
 
--- src/take.rt:61:1
 returns : tie.Need-returns
-returns c = ?
+returns c =
+    let b = c .before .before .before .before .before .before in
+    rw (v-is (c .before .before .before .before))
+    (record {
+      counts = refl;
+      idsums = ap (set (b .args .idsums .now) (b .args .j)) (c .before .before .wound .ensures);
+      dirt = omega (arith, account c);
+    })
 
 pub take-one-spec : {M : Type 1} → statement M
 take-one-spec =
