@@ -61,7 +61,7 @@ module _ (P : Params) (flows numbers queue marks : ℕ) where
   module _ (S : Sketch) where
     pub ill-shaped : (r : Answer) → r ≡ shapeAnswer P (length (S .counts)) (length (S .idsums)) → Refusal r → r ≡ peelAnswer P S flows numbers queue marks
     unfolding peelAnswer
-    ill-shaped r e h = rw (← e) (first-refused r _ h)
+    ill-shaped r e h = first-refused r _ _ e h
 
     module _ (shaped : shapeAnswer P (length (S .counts)) (length (S .idsums)) ≡ Done) where
       pub ill-lent : (Lent P flows numbers queue marks → ⊥) → Refused Length 0 ≡ peelAnswer P S flows numbers queue marks
