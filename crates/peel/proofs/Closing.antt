@@ -92,3 +92,9 @@ net-close (e ∷ es) = go (isZero (e .number)) refl (net-close es)
     go : (b : Bool) → isZero (e .number) ≡ b → net (close es) ≡ net es → net (cond b (close es) (e ∷ close es)) ≡ e .number +ℤ net es
     go true h ih = rw (zero-is (e .number) h, +ℤ-idl) ih
     go false h ih = rw ih
+
+-- the table below n, with what is past it changed
+pub table-kept : (fs fs' : List ℕ) (ns ns' : List ℤ) (n : ℕ) → ((k : ℕ) → k < n → getD fs' k 0 ≡ getD fs k 0) → ((k : ℕ) → k < n → getD ns' k (pos 0) ≡ getD ns k (pos 0)) → tableOf fs' ns' n ≡ tableOf fs ns n
+unfolding tableOf
+table-kept fs fs' ns ns' n f g =
+    from-same 0 n (row fs' ns') (row fs ns) (λ i a b. ap₂ by (f i (omega arith)) (g i (omega arith)))

@@ -10,3 +10,8 @@ pub mod Padding
 pub mod Dirtiness
 pub mod Takes
 pub mod Judged
+pub mod Moves
+pub mod RangeLoop
+pub mod Taken
+pub mod Turns
+pub mod Begins

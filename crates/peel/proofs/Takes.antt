@@ -17,13 +17,13 @@ use Rattle.sketch.proofs.Changes.{untouched, touch-next}
 use Rattle.sketch.proofs.Rules.{Begun, next-placed, last-size}
 use Rattle.sketch.proofs.Standing.{standing-past, standing-next}
 
-pub good-sizes : {P : Params} → Sized P → goodSizes P ≡ true
-good-sizes {P} z = sym (last-size P (z .d-low) (z .d-high) (z .m-low)) ∙ le-leb _ _ (z .m-high)
+pub sizes-good : {P : Params} → Sized P → goodSizes P ≡ true
+sizes-good {P} z = sym (last-size P (z .d-low) (z .d-high) (z .m-low)) ∙ le-leb _ _ (z .m-high)
 
 -- one place more, as `stand` tells it; where there is no such array, it matters to none
 module _ {P : Params} {f : ℕ} {ks : List ℕ} (z : Sized P) (n : ℕ) {k : ℕ} (b : Begun P f n ks) (h : n < 4) (e : k ≡ cond (goodSizes P && ltb n (P .d)) (stand P n f) 0) where
   told : Dec (n < P .d) → Begun P f (n + 1) (set ks n k)
-  told (yes l) = next-placed n b h (e ∙ rw (good-sizes z, lt-ltb n (P .d) l))
+  told (yes l) = next-placed n b h (e ∙ rw (sizes-good z, lt-ltb n (P .d) l))
   told (no l) = record {
     long = length-set ks n k ∙ b .long;
     at = λ i m u. getD-set-other ks n i k 0 (omega arith) ∙ b .at i (omega arith) u;

@@ -47,7 +47,7 @@ pub record Sound (P : Params) (cs : List ℤ) (ss fs : List ℕ) (ns : List ℤ)
 pub record Leaves (o : Outcome) (r : Figures) (cs' : List ℤ) (ss' fs' : List ℕ) (ns' : List ℤ) (q' ms' : List ℕ) : Type 0 where
   pub ending : r .ending ≡ o .ending
   pub pops : r .pops ≡ o .pops
-  pub net : r .net ≡ netOf (o .table)
+  pub net : r .net ≡ netOf (close (o .table))
   pub left : sketch cs' ss' ≡ o .left
   pub table : tableOf fs' ns' (r .entries) ≡ close (o .table)
   pub past : (k : ℕ) → r .entries ≤ k → getD fs' k 0 ≡ 0

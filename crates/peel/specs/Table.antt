@@ -6,7 +6,8 @@ use lib.IntN.{ℤ, pos}
 use lib.ListN.{getD, length}
 use Rattle.sketch.specs.Lists.{from}
 use Rattle.sketch.specs.Sketch.{Entry, by}
-use Rattle.walk.specs.Walk.{credited, close}
+use Rattle.walk.specs.Walk.{credited, close, net as netOf}
+use Rattle.peel.specs.declared.table.Listed.{Listed}
 
 -- the entry at place i, and the first n entries
 abbrev pub row : List ℕ → List ℤ → ℕ → Entry
@@ -21,7 +22,7 @@ pub record Finds (fs : List ℕ) (n f r : ℕ) : Type 0 where
   pub before : (j : ℕ) → j < r → getD fs j 0 ≡ f → ⊥
   pub found : r < n → getD fs r 0 ≡ f
 
--- what a take leaves in the table, and what the close does
+-- what a take leaves in the table, what keeping the entries that are not 0 does, and what the close does
 pub record Credited (f : ℕ) (c : ℤ) (fs : List ℕ) (ns : List ℤ) (n : ℕ) (fs' : List ℕ) (ns' : List ℤ) (r : ℕ) : Type 0 where
   pub table : tableOf fs' ns' r ≡ credited f c (tableOf fs ns n)
   pub room : r ≤ length fs
@@ -29,3 +30,12 @@ pub record Credited (f : ℕ) (c : ℤ) (fs : List ℕ) (ns : List ℤ) (n : ℕ
 pub record Closed (fs : List ℕ) (ns : List ℤ) (n : ℕ) (fs' : List ℕ) (ns' : List ℤ) (r : ℕ) : Type 0 where
   pub table : tableOf fs' ns' r ≡ close (tableOf fs ns n)
   pub within : r ≤ n
+
+pub record Lists (fs : List ℕ) (ns : List ℤ) (n : ℕ) (r : Listed) (fs' : List ℕ) (ns' : List ℤ) : Type 0 where
+  pub table : tableOf fs' ns' (r .entries) ≡ close (tableOf fs ns n)
+  pub within : r .entries ≤ n
+  pub net : r .net ≡ netOf (close (tableOf fs ns n))
+  pub long : length fs' ≡ length fs
+  pub long-numbers : length ns' ≡ length ns
+  pub past : (k : ℕ) → r .entries ≤ k → getD fs' k 0 ≡ 0
+  pub past-numbers : (k : ℕ) → r .entries ≤ k → getD ns' k (pos 0) ≡ pos 0

@@ -8,12 +8,8 @@ ghost use Rattle.walk.specs.Purity.{ruleOf};
 ghost use Rattle.peel.specs.Rep.{Sound, Leaves};
 ghost use Rattle.peel.specs.Peel.{peelAnswer, Peels};
 use crate::queue::clear;
-use crate::queue::start;
-use crate::table::clear_numbers;
-use crate::table::compact;
-use crate::table::net_of;
-use crate::take::count_left;
-use crate::walking::walk;
+use crate::table::close;
+use crate::walking::walk_whole;
 use sketch::Answer;
 use sketch::Params;
 use sketch::Why;
@@ -68,7 +64,7 @@ fn judge(
     Answer::Done
 }
 
-// The start, the walk and the close, where nothing is refused.
+// The walk and the close, where nothing is refused.
 fn unravel(
     p: Params,
     counts: &mut [i32],
@@ -82,33 +78,17 @@ fn unravel(
     requires { ⌜ Sound p (now counts) (now idsums) (now flows) (now numbers) (now queue) (now marks) ⌝ }
     ensures { λ r. ⌜ Leaves («walk-of» (ruleOf p) (length (now (flows .entry))) allowance (sketch (now (counts .entry)) (now (idsums .entry)))) r (now (counts .exit)) (now (idsums .exit)) (now (flows .exit)) (now (numbers .exit)) (now (queue .exit)) (now (marks .exit)) ⌝ }
 {
-    let first = start(counts, queue, marks);
-    let dirt = count_left(counts, idsums);
-    let walked = walk(
-        p,
-        counts,
-        idsums,
-        flows,
-        numbers,
-        queue,
-        marks,
-        first,
-        dirt,
-        allowance,
-    );
+    let walked = walk_whole(p, counts, idsums, flows, numbers, queue, marks, allowance);
     let ending = walked.ending;
     let pops = walked.pops;
     let reached = walked.entries;
-    let entries = compact(flows, numbers, reached);
-    clear(flows, entries);
-    clear_numbers(numbers, entries);
+    let listed = close(flows, numbers, reached);
     clear(queue, 0);
     clear(marks, 0);
-    let net = net_of(numbers, entries);
     Figures {
         ending,
-        entries,
-        net,
+        entries: listed.entries,
+        net: listed.net,
         pops,
     }
 }

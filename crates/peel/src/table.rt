@@ -8,7 +8,14 @@ ghost use lib.ListN.{length};
 ghost use Rattle.sketch.specs.Buckets.{inLimits};
 ghost use Rattle.walk.specs.Walk.{entryOf, net};
 ghost use Rattle.peel.specs.Ring.{Cleared};
-ghost use Rattle.peel.specs.Table.{tableOf, Finds, Credited, Closed};
+ghost use Rattle.peel.specs.Table.{tableOf, Finds, Credited, Closed, Lists};
+use crate::queue::clear;
+
+// How many entries a closed table has, and the sum of their numbers.
+pub(crate) struct Listed {
+    pub entries: usize,
+    pub net: i64,
+}
 
 // The place of f among the first n flows, or n.
 pub(crate) fn find(flows: &[u32], n: usize, f: u32) -> usize
@@ -47,7 +54,7 @@ pub(crate) fn credit(
 }
 
 // The entries that are not 0, in their order, each moved at most once: how many there are.
-pub(crate) fn compact(flows: &mut [u32], numbers: &mut [i32], n: usize) -> usize
+fn compact(flows: &mut [u32], numbers: &mut [i32], n: usize) -> usize
     requires { ⌜ (n ≤ length (now flows)) × (length (now numbers) ≡ length (now flows)) ⌝ }
     ensures { λ r. ⌜ Closed (now (flows .entry)) (now (numbers .entry)) n (now (flows .exit)) (now (numbers .exit)) r ⌝ }
 {
@@ -67,7 +74,7 @@ pub(crate) fn compact(flows: &mut [u32], numbers: &mut [i32], n: usize) -> usize
 }
 
 // Zeros from place n on.
-pub(crate) fn clear_numbers(s: &mut [i32], n: usize)
+fn clear_numbers(s: &mut [i32], n: usize)
     ensures { λ _. ⌜ Cleared (pos 0) n (now (s .entry)) (now (s .exit)) ⌝ }
 {
     let mut i = n;
@@ -78,7 +85,7 @@ pub(crate) fn clear_numbers(s: &mut [i32], n: usize)
 }
 
 // The net figure: the sum of the first n entries' numbers.
-pub(crate) fn net_of(numbers: &[i32], n: usize) -> i64
+fn net_of(numbers: &[i32], n: usize) -> i64
     requires { ⌜ (n ≤ length (now numbers)) × (n ≤ 65536) ⌝ }
     ensures { λ r. ⌜ ((fs : List ℕ) → r ≡ net (tableOf fs (now (numbers .entry)) n)) ⌝ }
 {
@@ -89,4 +96,16 @@ pub(crate) fn net_of(numbers: &[i32], n: usize) -> i64
         i += 1;
     }
     sum
+}
+
+// The close: entries with number 0 go, the others keep their order, and all slots past them are 0.
+pub(crate) fn close(flows: &mut [u32], numbers: &mut [i32], n: usize) -> Listed
+    requires { ⌜ (n ≤ length (now flows)) × (length (now numbers) ≡ length (now flows)) × (length (now flows) ≤ 65536) ⌝ }
+    ensures { λ r. ⌜ Lists (now (flows .entry)) (now (numbers .entry)) n r (now (flows .exit)) (now (numbers .exit)) ⌝ }
+{
+    let entries = compact(flows, numbers, n);
+    clear(flows, entries);
+    clear_numbers(numbers, entries);
+    let net = net_of(numbers, entries);
+    Listed { entries, net }
 }

@@ -2,15 +2,18 @@
 ghost use mathlib.Core.Path.{_≡_};
 ghost use Prim.Native.Nat.{ℕ, _+_, _<_, _≤_};
 ghost use lib.ListN.{length};
-ghost use Rattle.walk.specs.Walk.{run};
+ghost use Rattle.sketch.specs.Sketch.{sketch};
+ghost use Rattle.walk.specs.Walk.{run, walk as «walk-of»};
 ghost use Rattle.walk.specs.Purity.{ruleOf};
-ghost use Rattle.peel.specs.Rep.{Holds, stateOf, Walks};
+ghost use Rattle.peel.specs.Rep.{Holds, Sound, stateOf, Walks};
 use crate::queue::place;
 use crate::queue::pop;
 use crate::queue::requeue;
+use crate::queue::start;
 use crate::table::credit;
 use crate::table::find;
 use crate::take::apply;
+use crate::take::count_left;
 use crate::take::fits;
 use crate::take::places;
 use sketch::Params;
@@ -25,7 +28,7 @@ pub(crate) struct Walked {
 }
 
 // The walk from a queue of `first` buckets, with `dirt` buckets that are not all zero.
-pub(crate) fn walk(
+fn walk(
     p: Params,
     counts: &mut [i32],
     idsums: &mut [u32],
@@ -101,4 +104,34 @@ pub(crate) fn walk(
         pops,
         entries,
     }
+}
+
+// The whole walk: every bucket with a count waits at the start.
+pub(crate) fn walk_whole(
+    p: Params,
+    counts: &mut [i32],
+    idsums: &mut [u32],
+    flows: &mut [u32],
+    numbers: &mut [i32],
+    queue: &mut [u32],
+    marks: &mut [u32],
+    allowance: u32,
+) -> Walked
+    requires { ⌜ Sound p (now counts) (now idsums) (now flows) (now numbers) (now queue) (now marks) ⌝ }
+    ensures { λ r. ⌜ Walks («walk-of» (ruleOf p) (length (now (flows .entry))) allowance (sketch (now (counts .entry)) (now (idsums .entry)))) (length (now (flows .entry))) r (now (counts .exit)) (now (idsums .exit)) (now (flows .exit)) (now (numbers .exit)) ⌝ }
+{
+    let first = start(counts, queue, marks);
+    let dirt = count_left(counts, idsums);
+    walk(
+        p,
+        counts,
+        idsums,
+        flows,
+        numbers,
+        queue,
+        marks,
+        first,
+        dirt,
+        allowance,
+    )
 }

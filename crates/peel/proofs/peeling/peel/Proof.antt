@@ -6,59 +6,59 @@ use Rattle.peel.proofs.peeling.peel.Lts as lts
 use Rattle.peel.proofs.peeling.judge.Reads as judge-reads
 use Rattle.peel.proofs.peeling.unravel.Reads as unravel-reads
 
--- src/peeling.rt:130:9
+-- src/peeling.rt:110:9
 judge-requires : tie.Need-judge-requires
 judge-requires c κs = search needs
 
--- src/peeling.rt:140:25
+-- src/peeling.rt:120:25
 enum-known-judged : tie.Need-enum-known-judged
 enum-known-judged c = search needs
 
--- src/peeling.rt:143:13
+-- src/peeling.rt:123:13
 enum-told : tie.Need-enum-told
 enum-told c = search needs
 
--- src/peeling.rt:141:39
+-- src/peeling.rt:121:39
 unravel-requires : tie.Need-unravel-requires
 unravel-requires c κs = ?
 
--- src/peeling.rt:118:1
+-- src/peeling.rt:98:1
 same-length : tie.Need-same-length
 same-length c = search needs
 
--- src/peeling.rt:118:1
+-- src/peeling.rt:98:1
 same-length-2 : tie.Need-same-length-2
 same-length-2 c = search needs
 
--- src/peeling.rt:118:1
+-- src/peeling.rt:98:1
 returns : tie.Need-returns
 returns c = ?
 
--- src/peeling.rt:118:1
+-- src/peeling.rt:98:1
 same-length-3 : tie.Need-same-length-3
 same-length-3 c = search needs
 
--- src/peeling.rt:118:1
+-- src/peeling.rt:98:1
 same-length-4 : tie.Need-same-length-4
 same-length-4 c = search needs
 
--- src/peeling.rt:118:1
+-- src/peeling.rt:98:1
 same-length-5 : tie.Need-same-length-5
 same-length-5 c = search needs
 
--- src/peeling.rt:118:1
+-- src/peeling.rt:98:1
 same-length-6 : tie.Need-same-length-6
 same-length-6 c = search needs
 
--- src/peeling.rt:118:1
+-- src/peeling.rt:98:1
 same-length-7 : tie.Need-same-length-7
 same-length-7 c = search needs
 
--- src/peeling.rt:118:1
+-- src/peeling.rt:98:1
 same-length-8 : tie.Need-same-length-8
 same-length-8 c = search needs
 
--- src/peeling.rt:118:1
+-- src/peeling.rt:98:1
 returns-2 : tie.Need-returns-2
 returns-2 c = ?
 
