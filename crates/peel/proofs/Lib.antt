@@ -15,3 +15,4 @@ pub mod RangeLoop
 pub mod Taken
 pub mod Turns
 pub mod Begins
+pub mod Peeled

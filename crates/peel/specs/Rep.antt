@@ -50,6 +50,7 @@ pub record Leaves (o : Outcome) (r : Figures) (cs' : List ℤ) (ss' fs' : List �
   pub net : r .net ≡ netOf (close (o .table))
   pub left : sketch cs' ss' ≡ o .left
   pub table : tableOf fs' ns' (r .entries) ≡ close (o .table)
+  pub room : r .entries ≤ length fs'
   pub past : (k : ℕ) → r .entries ≤ k → getD fs' k 0 ≡ 0
   pub past-numbers : (k : ℕ) → r .entries ≤ k → getD ns' k (pos 0) ≡ pos 0
   pub queue : (k : ℕ) → getD q' k 0 ≡ 0

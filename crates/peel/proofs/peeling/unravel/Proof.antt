@@ -50,6 +50,7 @@ returns c =
       net = toZ-ofZ (record { sfits = c .struct-told .given .1 .0 .1 }) ∙ l .ensures .net ∙ ap (λ (o : Outcome). net (close (o .table))) e;
       left = ap (λ (o : Outcome). o .left) e;
       table = t;
+      room = omega (arith, l .ensures .within, w .ensures .room, l .ensures .long, w .kept .1 .1 .1 .0);
       past = l .ensures .past;
       past-numbers = l .ensures .past-numbers;
       queue = λ j. c .before .before .before .before .before .before .before .clear .ensures .zeros j (omega arith);
