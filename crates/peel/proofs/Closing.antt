@@ -83,16 +83,6 @@ pub net-all : (fs : List ℕ) (ns : List ℤ) (i k : ℕ) → k ≡ 0 → net (f
 unfolding from net
 net-all fs ns i k e = rw e
 
--- the close changes no sum
-pub net-close : (t : List Entry) → net (close t) ≡ net t
-unfolding net close
-net-close [] = refl
-net-close (e ∷ es) = go (isZero (e .number)) refl (net-close es)
-  where
-    go : (b : Bool) → isZero (e .number) ≡ b → net (close es) ≡ net es → net (cond b (close es) (e ∷ close es)) ≡ e .number +ℤ net es
-    go true h ih = rw (zero-is (e .number) h, +ℤ-idl) ih
-    go false h ih = rw ih
-
 -- the table below n, with what is past it changed
 pub table-kept : (fs fs' : List ℕ) (ns ns' : List ℤ) (n : ℕ) → ((k : ℕ) → k < n → getD fs' k 0 ≡ getD fs k 0) → ((k : ℕ) → k < n → getD ns' k (pos 0) ≡ getD ns k (pos 0)) → tableOf fs' ns' n ≡ tableOf fs ns n
 unfolding tableOf

@@ -13,10 +13,10 @@ use lib.Seq.{getD-set-same, getD-set-other}
 use borrow.Author.Tests.{eq-eqb, ne-eqb, lt-ltb, le-ltb}
 use Rattle.sketch.specs.Lists.{from}
 use Rattle.sketch.specs.Sketch.{Entry, by}
-use Rattle.sketch.proofs.Tables.{from-same}
+use Rattle.sketch.proofs.Tables.{length-from, from-same}
 use Rattle.walk.specs.Walk.{any, has, entryOf, credited, hasRoom}
 use Rattle.peel.specs.Table.{row, tableOf, Finds, Credited}
-use Rattle.peel.proofs.Froms.{length-from, from-last}
+use Rattle.peel.proofs.Froms.{from-last}
 
 module _ (E : ℕ → Entry) (f : ℕ) where
   -- f stands at r, and at no place from k on before it

@@ -1,17 +1,11 @@
--- The length, the first and the last place of a list made by `from`.
+-- The first and the last place of a list made by `from`.
 use mathlib.Core.Path.{_≡_, refl, ap}
 use mathlib.Core.List.{List, [], _∷_, _++_}
 use Prim.Native.Nat.{ℕ, zero, suc, _+_}
 use native.Mathlib.Nat.{add-suc, suc-add, add-zero}
-use lib.ListN.{length}
 use Rattle.sketch.specs.Lists.{from}
 
 module _ {A : Type 0} where
-  pub length-from : (k n : ℕ) (h : ℕ → A) → length (from k n h) ≡ n
-  unfolding from
-  length-from k zero h = refl
-  length-from k (suc n) h = ap suc (length-from (suc k) n h)
-
   pub from-first : (n : ℕ) (h : ℕ → A) → from 0 (suc n) h ≡ h 0 ∷ from 0 n (λ i. h (suc i))
   unfolding from
   from-first n h = ap (λ (l : List A). h 0 ∷ l) (later 0 n)

@@ -8,8 +8,7 @@ use lib.ListN.{length, getD, take, drop, replicate, length-drop, take-append-dro
 use lib.Seq.{length-take-le, getD-take, getD-drop, ext-getD}
 use Rattle.sketch.specs.Lists.{from}
 use Rattle.sketch.specs.Sketch.{Entry}
-use Rattle.sketch.proofs.Tables.{getD-from}
-use Rattle.peel.proofs.Froms.{length-from}
+use Rattle.sketch.proofs.Tables.{length-from, getD-from}
 use Rattle.peel.specs.Table.{row, tableOf}
 use Rattle.peel.specs.Peel.{flowsOf, numbersOf, padded}
 

@@ -26,18 +26,6 @@ use Rattle.walk.specs.Purity.{ruleOf}
 use Rattle.peel.specs.Dirt.{Sane, Applied}
 use Rattle.peel.proofs.RangeLoop.{fitsAt}
 
--- a flow's places are buckets of the sketch
-pub reached : {P : Params} {f c s : ℕ} {ks : List ℕ} → Sized P → c ≡ P .d * P .m → s ≡ P .d * P .m → Placed P f ks → Reached (P .d) (P .m) ks c s
-reached {P} {f} h e q p =
-    record {
-      d-high = h .d-high;
-      m-low = h .m-low;
-      m-high = h .m-high;
-      inside = λ i l. rw (p .at i l) (stand-below P i f (h .m-low));
-      counts-long = e;
-      idsums-long = q;
-    }
-
 -- what holds of each place of a list that is changed where a test holds
 touched-each : {A : Type 0} (K : A → Type 0) (z : A) (t : ℕ → Bool) (g : ℕ → A → A) (xs : List A) → K z → ((k : ℕ) (b : Bool) → t k ≡ b → K (cond b (g k (getD xs k z)) (getD xs k z))) → (k : ℕ) → K (getD (touched t g xs) k z)
 touched-each K z t g xs o h k = at (decLt k (length xs))

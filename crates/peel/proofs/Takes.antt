@@ -14,11 +14,8 @@ use Rattle.sketch.specs.Lists.{touched}
 use Rattle.sketch.specs.Params.{Sized, goodSizes}
 use Rattle.sketch.specs.Places.{stand, standsIn}
 use Rattle.sketch.proofs.Changes.{untouched, touch-next}
-use Rattle.sketch.proofs.Rules.{Begun, next-placed, last-size}
+use Rattle.sketch.proofs.Rules.{Begun, next-placed, sizes-good}
 use Rattle.sketch.proofs.Standing.{standing-past, standing-next}
-
-pub sizes-good : {P : Params} → Sized P → goodSizes P ≡ true
-sizes-good {P} z = sym (last-size P (z .d-low) (z .d-high) (z .m-low)) ∙ le-leb _ _ (z .m-high)
 
 -- one place more, as `stand` tells it; where there is no such array, it matters to none
 module _ {P : Params} {f : ℕ} {ks : List ℕ} (z : Sized P) (n : ℕ) {k : ℕ} (b : Begun P f n ks) (h : n < 4) (e : k ≡ cond (goodSizes P && ltb n (P .d)) (stand P n f) 0) where

@@ -20,6 +20,7 @@ use Rattle.walk.specs.declared.Ending.{Ending}
 use Rattle.walk.specs.declared.Ending.the-variants.{Clean, Stuck, Spent, NoInverse, Range, Full}
 use Rattle.walk.specs.declared.Found.the-variants.{Undefined, Impure, Pure}
 use Rattle.walk.specs.Walk.{State, Outcome, out, stops, goes, nothingLeft, requeue, entryOf, taken, popped, run}
+use Rattle.sketch.proofs.Rules.{sizes-good}
 use Rattle.walk.specs.Purity.{testIn, pureTest, sizedTest, ruleOf}
 use Rattle.peel.specs.Ring.{slot, ring, Popped, Requeued}
 use Rattle.peel.specs.Table.{tableOf, Finds, Credited}
@@ -27,7 +28,6 @@ use Rattle.peel.specs.Dirt.{Applied}
 use Rattle.peel.specs.Rep.{stateOf, Holds}
 use Rattle.peel.proofs.Entries.{table-held, table-new, table-room, table-full}
 use Rattle.peel.proofs.Dirtiness.{dirty-none, dirty-some}
-use Rattle.peel.proofs.Takes.{sizes-good}
 use Rattle.peel.proofs.Moves.{popped-no-inverse, popped-impure, popped-pure, takes-range, takes-full, takes-goes, run-clean, run-stuck, run-spent, run-stops, run-goes, requeue-same}
 use Rattle.peel.proofs.RangeLoop.{fitsAt, leaves-count, entry-decides}
 use Rattle.peel.proofs.Taken.{applied-sane, applied-less}

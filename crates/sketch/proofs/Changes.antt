@@ -15,12 +15,12 @@ use lib.Seq.{drop-length, ext-getD, getD-set-same, getD-set-other, getD-take, ge
 use Rattle.sketch.specs.Lists.{mapFrom, touched}
 
 module _ {A : Type 0} where
-  length-mapFrom : (k : ℕ) (g : ℕ → A → A) (xs : List A) → length (mapFrom k g xs) ≡ length xs
+  pub length-mapFrom : (k : ℕ) (g : ℕ → A → A) (xs : List A) → length (mapFrom k g xs) ≡ length xs
   unfolding mapFrom
   length-mapFrom k g [] = refl
   length-mapFrom k g (x ∷ xs) = ap suc (length-mapFrom (suc k) g xs)
 
-  getD-mapFrom : (k : ℕ) (g : ℕ → A → A) (xs : List A) (j : ℕ) (d : A) → j < length xs → getD (mapFrom k g xs) j d ≡ g (k + j) (getD xs j d)
+  pub getD-mapFrom : (k : ℕ) (g : ℕ → A → A) (xs : List A) (j : ℕ) (d : A) → j < length xs → getD (mapFrom k g xs) j d ≡ g (k + j) (getD xs j d)
   unfolding mapFrom
   getD-mapFrom k g [] j d h = absurd (omega arith)
   getD-mapFrom k g (x ∷ xs) zero d h = ap (λ (i : ℕ). g i x) (sym same)

@@ -53,8 +53,7 @@ unfoldable above : List Entry → ℕ
 above [] = 0
 above (e ∷ es) = suc (e .flow) + above es
 
--- the sum over entries is the sum over flows of their net counts
-times-sum : (x y v : ℤ) → (x +ℤ y) *ℤ v ≡ x *ℤ v +ℤ y *ℤ v
+pub times-sum : (x y v : ℤ) → (x +ℤ y) *ℤ v ≡ x *ℤ v +ℤ y *ℤ v
 times-sum x y v =
     omega (
       int,

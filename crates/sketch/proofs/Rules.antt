@@ -66,6 +66,9 @@ pub last-size : (P : Params) → 2 ≤ P .d → P .d ≤ 4 → 1 ≤ P .m → le
 unfolding goodSizes
 last-size P h k l = simp (le-leb 2 _ h, le-leb _ 4 k, le-leb 1 _ l)
 
+pub sizes-good : {P : Params} → Sized P → goodSizes P ≡ true
+sizes-good {P} z = sym (last-size P (z .d-low) (z .d-high) (z .m-low)) ∙ le-leb _ _ (z .m-high)
+
 -- where the sizes are the same, the pairs decide
 pub pairs-decide : (P Q : Params) → P .d ≡ Q .d → P .m ≡ Q .m → below 4 (samePair P Q) ≡ sameParams P Q
 unfolding sameParams

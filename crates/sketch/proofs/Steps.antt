@@ -55,15 +55,15 @@ pub stand-below : (P : Params) (i f : ℕ) → 1 ≤ P .m → stand P i f < P .m
 unfolding stand
 stand-below P i f h = mod-lt ((getD (P .a) i 0 * f + getD (P .b) i 0) % primeOf P) h
 
-pub reached : {P : Params} {f n c s : ℕ} {ks : List ℕ} → Let P c s f n → Placed P f ks → Reached (P .d) (P .m) ks c s
-reached {P} {f} l p =
+pub reached : {P : Params} {f c s : ℕ} {ks : List ℕ} → Sized P → c ≡ P .d * P .m → s ≡ P .d * P .m → Placed P f ks → Reached (P .d) (P .m) ks c s
+reached {P} {f} h e q p =
     record {
-      d-high = l .sized .d-high;
-      m-low = l .sized .m-low;
-      m-high = l .sized .m-high;
-      inside = λ i h. rw (p .at i h) (stand-below P i f (l .sized .m-low));
-      counts-long = l .counts;
-      idsums-long = l .idsums;
+      d-high = h .d-high;
+      m-low = h .m-low;
+      m-high = h .m-high;
+      inside = λ i l. rw (p .at i l) (stand-below P i f (h .m-low));
+      counts-long = e;
+      idsums-long = q;
     }
 
 -- the places that the code keeps are the flow's

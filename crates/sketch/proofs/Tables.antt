@@ -10,6 +10,11 @@ use Rattle.sketch.specs.Lists.{mapFrom, touched, from}
 use Rattle.sketch.proofs.Changes.{length-touched, getD-touched}
 
 module _ {A : Type 0} where
+  pub length-from : (k n : ℕ) (h : ℕ → A) → length (from k n h) ≡ n
+  unfolding from
+  length-from k zero h = refl
+  length-from k (suc n) h = ap suc (length-from (suc k) n h)
+
   pub getD-from : (k n : ℕ) (h : ℕ → A) (j : ℕ) (d : A) → j < n → getD (from k n h) j d ≡ h (k + j)
   unfolding from
   getD-from k zero h j d l = absurd (omega arith)

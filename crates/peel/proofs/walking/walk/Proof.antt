@@ -17,6 +17,7 @@ use borrow.Author.Tests.{not-true, not-false}
 use Rattle.sketch.specs.Buckets.{inLimits}
 use Rattle.sketch.specs.Places.{Placed, Reached}
 use Rattle.sketch.proofs.Limits.{small}
+use Rattle.sketch.proofs.Steps.{reached}
 use Rattle.sketch.proofs.Standing.{Within, reach}
 use Rattle.walk.specs.declared.Found.the-variants.{Pure}
 use Rattle.walk.specs.Walk.{run}
@@ -26,7 +27,6 @@ use Rattle.peel.specs.Table.{Credited}
 use Rattle.peel.specs.Dirt.{Applied}
 use Rattle.peel.specs.Rep.{stateOf}
 use Rattle.peel.proofs.RangeLoop.{fitsAt}
-use Rattle.peel.proofs.Taken.{reached}
 use Rattle.peel.proofs.Turns.{Inv, sized-test}
 use Rattle.peel.proofs.Turns as turn
 use Rattle.peel.proofs.walking.walk.Statement.{statement}

@@ -39,7 +39,7 @@ cast-buckets : tie.Need-cast-buckets
 cast-buckets c = record { sfits = omega (arith, let-in (c .before .before .before .before .before) .high) }
 
 buckets-requires : tie.Need-buckets-requires
-buckets-requires c κs = reached (let-in (c .before .before .before .before .before)) (c .before .before .before .places .ensures)
+buckets-requires c κs = reached (let-in (c .before .before .before .before .before) .sized) (let-in (c .before .before .before .before .before) .counts) (let-in (c .before .before .before .before .before) .idsums) (c .before .before .before .places .ensures)
 
 enum-told-3 : tie.Need-enum-told-3
 enum-told-3 c = search needs
@@ -68,7 +68,7 @@ weight-requires c κs = search needs
 put-all-requires : tie.Need-put-all-requires
 put-all-requires c κs =
     let l = let-in (c .before .before .before .before .before .before .before .before .before .before .before .before) in
-    let r = reached l (c .before .before .before .before .before .before .before .before .before .before .places .ensures) in (
+    let r = reached (l .sized) (l .counts) (l .idsums) (c .before .before .before .before .before .before .before .before .before .before .places .ensures) in (
       r,
       (λ i h. has-room _ _ _ _ _ _ (sym (c .before .before .before .before .before .before .buckets .ensures) ∙ c .before .before .before .before .enum-told3 .given .1) i h (r .inside i h) (stretch-within _ _ i h)),
     )

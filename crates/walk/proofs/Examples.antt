@@ -1,0 +1,183 @@
+-- The examples E1 to E10 of the bench as one table, under a single theorem, `all-right`: the checker works every line out by the definitions.
+use mathlib.Core.Path.{_≡_, refl}
+use mathlib.Core.Bool.{false}
+use mathlib.Core.List.{List, [], _∷_, map}
+use Prim.Native.Nat.{ℕ, zero, suc}
+use lib.IntN.{ℤ, pos, negsuc}
+use Rattle.field.specs.Residue.{residue}
+use Rattle.field.specs.Flow.{inverseIn, inverse, flow}
+use Rattle.sketch.specs.declared.params.Params.{Params}
+use Rattle.sketch.specs.declared.answers.Answer.{Answer}
+use Rattle.sketch.specs.Lists.{below, least, mapFrom, touched, from}
+use Rattle.sketch.specs.Answers.{numberIn, indexIn, refuseAt, first, kept}
+use Rattle.sketch.specs.Params.{primeOf, pairAt, twins, goodSizes, goodParams, lengthsAnswer, sizesAnswer}
+use Rattle.sketch.specs.Places.{stand, position, standsIn}
+use Rattle.sketch.specs.Buckets.{inLimits}
+use Rattle.sketch.specs.Sketch.{Sketch, sketch, Entry, by, countAt, weightAt, sketchOf, damagedIn, leavesIn, standingAnswer, changedIn}
+use Rattle.sketch.specs.Packets.{packetAnswer, entryAnswer, stepAnswer, changed, moveAnswer}
+use Rattle.walk.specs.declared.Ending.{Ending}
+use Rattle.walk.specs.declared.Ending.the-variants.{Clean, Stuck, Spent, Full}
+use Rattle.walk.specs.declared.Found.{Found}
+use Rattle.walk.specs.declared.Found.the-variants.{Impure, Pure}
+use Rattle.walk.specs.Walk.{State, Move, stops, goes, Outcome, queued, all, any, nothingLeft, less, has, entryOf, credited, waits, requeue, inRange, hasRoom, taken, takes, follows, popped, before, after, run, firstQueue, walk, close, net}
+use Rattle.walk.specs.Purity.{testIn, pureTest, ruleOf}
+
+-- d = 2, m = 5, pairs (1, 0) and (1073741824, 0)
+abbrev pub K : Params
+K = record { d = 2; m = 5; a = 1 ∷ 1073741824 ∷ 0 ∷ 0 ∷ []; b = 0 ∷ 0 ∷ 0 ∷ 0 ∷ [] }
+
+-- what is asked
+pub data Question : Type 0 where
+  position-of : (array flow : ℕ) → Question
+  sketch-of : (list : List Entry) → Question
+  test-of : (index : ℕ) (count : ℤ) (idsum : ℕ) → Question
+  peeling : (S : Sketch) (slots allowance : ℕ) → Question
+  queue-after : (pops : ℕ) (S : Sketch) → Question
+  inserting : (S : Sketch) (flow number : ℕ) → Question
+
+-- and told
+pub data Told : Type 0 where
+  at : ℕ → Told
+  holds : Sketch → Told
+  finds : (flow : ℕ) → Found → Told
+  ends : Ending → (pops : ℕ) (net : ℤ) (table : List Entry) (left : Sketch) → Told
+  waits-on : List ℕ → Told
+  says : (number index : ℕ) → Sketch → Told
+
+-- the table is that after the close
+abbrev ended : Outcome → Told
+ended o = ends (o .ending) (o .pops) (net (close (o .table))) (close (o .table)) (o .left)
+
+-- the walk's own moves, pop by pop
+abbrev moved : Move → State → State
+moved (stops e) st = st
+moved (goes st') st = st'
+
+abbrev onePop : List ℕ → State → State
+onePop [] st = st
+onePop (k ∷ q) st = moved (popped (ruleOf K) 10 k (queued st q)) st
+
+unfoldable pub pops : ℕ → State → State
+pops zero st = st
+pops (suc n) st = pops n (onePop (st .queue) st)
+
+abbrev judged : Sketch → Answer → Sketch → Told
+judged S r S' = says (numberIn r) (indexIn r) (kept r S S')
+
+-- what the definitions tell
+abbrev pub told : Question → Told
+told (position-of i f) = at (position K i f)
+told (sketch-of es) = holds (sketchOf K es)
+told (test-of k c s) = finds (flow (primeOf K) c s) (pureTest K k c s)
+told (peeling S slots allowance) = ended (walk (ruleOf K) slots allowance S)
+told (queue-after n S) = waits-on (pops n (record { held = S; queue = firstQueue 0 (S .counts); table = [] }) .queue)
+told (inserting S f n) = judged S (moveAnswer K false f n S) (changed K false f n S)
+
+-- a line of the table
+pub record Line : Type 0 where
+  pub asked : Question
+  pub answer : Told
+
+infix 40 _gives_
+abbrev _gives_ : Question → Told → Line
+q gives t = record { asked = q; answer = t }
+
+-- a sketch by its ten buckets, those of array 1 first; `o` is all zero
+pub record Bucket : Type 0 where
+  pub count : ℤ
+  pub idsum : ℕ
+
+abbrev b : ℤ → ℕ → Bucket
+b c s = record { count = c; idsum = s }
+
+abbrev o : Bucket
+o = b (pos 0) 0
+
+abbrev buckets : List Bucket → Sketch
+buckets bs = sketch (map (λ b. b .count) bs) (map (λ b. b .idsum) bs)
+
+-- the sketches of the examples, all zero, and what E3 leaves
+abbrev S0 : Sketch
+S0 = buckets (o ∷ o ∷ o ∷ o ∷ o ∷ o ∷ o ∷ o ∷ o ∷ o ∷ [])
+
+abbrev S1 : Sketch
+S1 = buckets (o ∷ o ∷ b (pos 3) 31 ∷ o ∷ o ∷ o ∷ b (pos 2) 24 ∷ b (pos 1) 7 ∷ o ∷ o ∷ [])
+
+abbrev S3 : Sketch
+S3 = buckets (o ∷ o ∷ b (pos 2) 14 ∷ o ∷ o ∷ o ∷ b (pos 2) 14 ∷ o ∷ o ∷ o ∷ [])
+
+abbrev left3 : Sketch
+left3 = buckets (o ∷ o ∷ o ∷ o ∷ o ∷ o ∷ b (pos 2) 14 ∷ b (negsuc 1) 2147483633 ∷ o ∷ o ∷ [])
+
+abbrev S5 : Sketch
+S5 = buckets (o ∷ o ∷ b (pos 0) 2147483637 ∷ o ∷ o ∷ o ∷ b (pos 0) 2147483637 ∷ o ∷ o ∷ o ∷ [])
+
+abbrev S6 : Sketch
+S6 = buckets (o ∷ o ∷ b (negsuc 3) 2147483619 ∷ o ∷ o ∷ o ∷ o ∷ b (negsuc 3) 2147483619 ∷ o ∷ o ∷ [])
+
+abbrev S7 : Sketch
+S7 = buckets (o ∷ b (pos 2147483646) 1 ∷ o ∷ o ∷ o ∷ o ∷ o ∷ o ∷ b (pos 2147483646) 1 ∷ o ∷ [])
+
+abbrev pub examples : List Line
+examples =
+    -- K
+    (position-of 1 2 gives at 2)
+    ∷ (position-of 1 7 gives at 2)
+    ∷ (position-of 1 11 gives at 1)
+    ∷ (position-of 1 12 gives at 2)
+    ∷ (position-of 1 20 gives at 0)
+    ∷ (position-of 2 2 gives at 1)
+    ∷ (position-of 2 7 gives at 2)
+    ∷ (position-of 2 11 gives at 4)
+    ∷ (position-of 2 12 gives at 1)
+    ∷ (position-of 2 20 gives at 0)
+    -- E1
+    ∷ (sketch-of (by 7 (pos 1) ∷ by 12 (pos 2) ∷ []) gives holds S1)
+    -- E2
+    ∷ (test-of 2 (pos 3) 31 gives finds 1431655775 Impure)
+    ∷ (peeling S1 10 80 gives ends Clean 3 (pos 3) (by 12 (pos 2) ∷ by 7 (pos 1) ∷ []) S0)
+    ∷ (queue-after 0 S1 gives waits-on (2 ∷ 6 ∷ 7 ∷ []))
+    ∷ (queue-after 3 S1 gives waits-on (2 ∷ []))
+    -- E3
+    ∷ (sketch-of (by 2 (pos 1) ∷ by 12 (pos 1) ∷ []) gives holds S3)
+    ∷ (test-of 2 (pos 2) 14 gives finds 7 (Pure 7))
+    ∷ (peeling S3 10 10 gives ends Spent 10 (pos 2) (by 7 (pos 2) ∷ []) left3)
+    -- E4
+    ∷ (peeling S3 10 9 gives ends Spent 9 (pos 0) [] S3)
+    -- E5
+    ∷ (sketch-of (by 2 (pos 1) ∷ by 12 (negsuc 0) ∷ []) gives holds S5)
+    ∷ (peeling S5 10 80 gives ends Stuck 0 (pos 0) [] S5)
+    -- E6
+    ∷ (sketch-of (by 7 (negsuc 3) ∷ []) gives holds S6)
+    ∷ (peeling S6 10 80 gives ends Clean 1 (negsuc 3) (by 7 (negsuc 3) ∷ []) S0)
+    -- E7
+    ∷ (sketch-of (by 2147483646 (pos 2147483646) ∷ []) gives holds S7)
+    ∷ (inserting S0 2147483646 2147483646 gives says 0 0 S7)
+    ∷ (inserting S7 1 1 gives says 6 1 S7)
+    -- E8
+    ∷ (inserting S0 2147483647 1 gives says 3 0 S0)
+    ∷ (inserting S0 1 0 gives says 4 0 S0)
+    ∷ (inserting S0 1 2147483647 gives says 4 0 S0)
+    -- E9
+    ∷ (peeling S0 10 0 gives ends Clean 0 (pos 0) [] S0)
+    ∷ (peeling S1 10 0 gives ends Spent 0 (pos 0) [] S1)
+    -- E10
+    ∷ (peeling S1 0 80 gives ends Full 2 (pos 0) [] S1)
+    ∷ []
+
+-- every line of the table is right, and the walk of E3 goes on without end: it is spent whatever it is allowed
+pub all-right : (map (λ l. told (l .asked)) examples ≡ map (λ l. l .answer) examples) × ((n : ℕ) → walk (ruleOf K) 10 n S3 .ending ≡ Spent)
+unfolding residue inverseIn inverse flow below least mapFrom touched from refuseAt first kept pairAt twins goodSizes goodParams lengthsAnswer sizesAnswer stand standsIn inLimits countAt weightAt sketchOf damagedIn leavesIn standingAnswer changedIn packetAnswer entryAnswer stepAnswer changed moveAnswer all any nothingLeft less has entryOf credited waits requeue inRange hasRoom taken takes follows popped before after run firstQueue walk close net testIn pops
+all-right = (refl, without-end)
+  where
+    -- flow 7 goes in and comes out
+    in-and-out : (n i : ℕ) → (run (ruleOf K) 10 n i (record { held = S3; queue = 2 ∷ []; table = by 7 (pos 0) ∷ [] }) .ending ≡ Spent)
+        × (run (ruleOf K) 10 n i (record { held = left3; queue = 7 ∷ []; table = by 7 (pos 2) ∷ [] }) .ending ≡ Spent)
+    in-and-out zero i = (refl, refl)
+    in-and-out (suc n) i = (in-and-out n (suc i) .1, in-and-out n (suc i) .0)
+
+    without-end : (n : ℕ) → walk (ruleOf K) 10 n S3 .ending ≡ Spent
+    without-end zero = refl
+    without-end (suc zero) = refl
+    without-end (suc (suc zero)) = refl
+    without-end (suc (suc (suc n))) = in-and-out n 3 .0

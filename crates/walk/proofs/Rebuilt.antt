@@ -1,0 +1,94 @@
+-- With a sketch's parameters, the balance says that the sketch of the table, added to what is left, is the input; where nothing is left, it is the input itself.
+use mathlib.Core.Path.{_≡_, refl, sym, ap, ap₂, _∙_}
+use mathlib.Core.Bool.{true, false}
+use mathlib.Core.List.{List}
+use Prim.Native.Nat.{ℕ, _<_}
+use native.Mathlib.Nat.{zero-add}
+use native.Mathlib.Omega.{arith}
+use lib.IntN.{ℤ, pos, _+ℤ_, +ℤ-comm, +ℤ-idl}
+use lib.ListN.{length, getD}
+use lib.Seq.{ext-getD}
+use Rattle.field.specs.Residue.{residue}
+use Rattle.field.proofs.Residues.{residue-below, residue-own, residue-twice, residue-add-same}
+use Rattle.sketch.specs.declared.params.Params.{Params}
+use Rattle.sketch.specs.Lists.{mapFrom, touched, from}
+use Rattle.sketch.specs.Params.{prime, size}
+use Rattle.sketch.specs.Sketch.{Sketch, sketch, countIn, idsumIn, Entry, countAt, weightAt, sketchOf}
+use Rattle.sketch.specs.Sums.{combined}
+use Rattle.sketch.proofs.Changes.{length-touched, getD-touched, touched-all}
+use Rattle.sketch.proofs.Tables.{length-from, getD-from}
+use Rattle.sketch.proofs.Idsums.{prime-pos}
+use Rattle.sketch.proofs.Weighted.{count-weighted, weight-weighted}
+use Rattle.walk.specs.Walk.{nothingLeft}
+use Rattle.walk.specs.Purity.{ruleOf}
+use Rattle.walk.proofs.Alls.{nothing-count, nothing-idsum}
+use Rattle.walk.proofs.Balance.{Balanced}
+
+-- a change at every place
+module _ {A : Type 0} (g : ℕ → A → A) (xs : List A) (d : A) where
+  everywhere : mapFrom 0 g xs ≡ touched (λ k. true) g xs
+  everywhere = sym (touched-all (λ k. true) g xs d (λ j l. refl))
+
+  map-long : length (mapFrom 0 g xs) ≡ length xs
+  map-long = ap length everywhere ∙ length-touched (λ k. true) g xs
+
+  map-at : (j : ℕ) → j < length xs → getD (mapFrom 0 g xs) j d ≡ g j (getD xs j d)
+  map-at j l = ap (λ (ys : List A). getD ys j d) everywhere ∙ getD-touched (λ k. true) g xs j d l
+
+from-at : {A : Type 0} (n : ℕ) (h : ℕ → A) (j : ℕ) (d : A) → j < n → getD (from 0 n h) j d ≡ h j
+from-at n h j d l = getD-from 0 n h j d l ∙ ap h (zero-add j)
+
+-- a summand's residue does for it
+residue-inner : (a w : ℤ) → residue prime (a +ℤ pos (residue prime w)) ≡ residue prime (a +ℤ w)
+residue-inner a w =
+    ap (residue prime) (+ℤ-comm a (pos (residue prime w)))
+    ∙ residue-add-same prime prime-pos (pos (residue prime w)) w a (residue-twice prime prime-pos w)
+    ∙ ap (residue prime) (+ℤ-comm w a)
+
+module _ (P : Params) (S left : Sketch) (t : List Entry) (counts-long : length (S .counts) ≡ size P) (idsums-long : length (S .idsums) ≡ size P) (h : Balanced (ruleOf P) S left t) where
+  count-back : (k : ℕ) → k < size P → countIn left k +ℤ countIn (sketchOf P t) k ≡ countIn S k
+  unfolding sketchOf
+  count-back k l =
+      ap (_+ℤ_ (countIn left k)) (from-at (size P) (countAt P t) k (pos 0) l ∙ count-weighted P t k)
+      ∙ h .counts k (omega arith)
+
+  idsum-back : (k : ℕ) → k < size P → residue prime (pos (idsumIn left k) +ℤ pos (idsumIn (sketchOf P t) k)) ≡ idsumIn S k
+  unfolding sketchOf
+  idsum-back k l =
+      ap (λ (r : ℕ). residue prime (pos (idsumIn left k) +ℤ pos r)) (from-at (size P) (λ k. residue prime (weightAt P t k)) k 0 l)
+      ∙ residue-inner (pos (idsumIn left k)) (weightAt P t k)
+      ∙ ap (λ (w : ℤ). residue prime (pos (idsumIn left k) +ℤ w)) (weight-weighted P t k)
+      ∙ h .idsums k (omega arith)
+
+  pub rebuilt : combined false left (sketchOf P t) ≡ S
+  unfolding combined
+  rebuilt =
+      sym (ap₂ sketch
+      (ext-getD (pos 0) (S .counts) _ (sym (map-long _ (left .counts) (pos 0) ∙ h .counts-long))
+      (λ k l. sym (map-at _ (left .counts) (pos 0) k (omega (arith, h .counts-long)) ∙ count-back k (omega arith))))
+      (ext-getD 0 (S .idsums) _ (sym (map-long _ (left .idsums) 0 ∙ h .idsums-long))
+      (λ k l. sym (map-at _ (left .idsums) 0 k (omega (arith, h .idsums-long)) ∙ idsum-back k (omega arith)))))
+
+  -- where nothing is left
+  module _ (e : nothingLeft left ≡ true) where
+    count-alone : (k : ℕ) → k < size P → countIn (sketchOf P t) k ≡ countIn S k
+    count-alone k l =
+        sym (ap (λ (z : ℤ). z +ℤ countIn (sketchOf P t) k) (nothing-count left e k) ∙ +ℤ-idl (countIn (sketchOf P t) k))
+        ∙ count-back k l
+
+    idsum-alone : (k : ℕ) → k < size P → idsumIn (sketchOf P t) k ≡ idsumIn S k
+    unfolding sketchOf
+    idsum-alone k l =
+        let r : idsumIn (sketchOf P t) k ≡ residue prime (weightAt P t k) = from-at (size P) (λ k. residue prime (weightAt P t k)) k 0 l in
+        let low : residue prime (weightAt P t k) < prime = residue-below prime prime-pos (weightAt P t k) in
+        sym (ap (λ (x : ℕ). residue prime (pos x +ℤ pos (idsumIn (sketchOf P t) k))) (nothing-idsum left e k)
+        ∙ ap (residue prime) (+ℤ-idl (pos (idsumIn (sketchOf P t) k)))
+        ∙ residue-own prime prime-pos (idsumIn (sketchOf P t) k) (omega arith))
+        ∙ idsum-back k l
+
+    pub rebuilt-alone : sketchOf P t ≡ S
+    unfolding sketchOf
+    rebuilt-alone =
+        sym (ap₂ sketch
+        (ext-getD (pos 0) (S .counts) _ (counts-long ∙ sym (length-from 0 (size P) (countAt P t))) (λ k l. sym (count-alone k (omega arith))))
+        (ext-getD 0 (S .idsums) _ (idsums-long ∙ sym (length-from 0 (size P) (λ k. residue prime (weightAt P t k)))) (λ k l. sym (idsum-alone k (omega arith)))))
