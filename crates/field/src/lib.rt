@@ -1,17 +1,14 @@
 // Arithmetic modulo a number p below 2^32 that is a parameter. Every function takes every input: what is read of a
 // number is its residue, so arguments need not be below p, and modulo 0 the only residue is 0. What holds of inverses and
-// flows holds where p is prime; proofs/Primes.antt proves it of the two primes below.
+// flows holds where p is prime.
 ghost use mathlib.Core.Path.{_≡_};
 ghost use Prim.Native.Nat.{ℕ, _+_, _*_};
 ghost use lib.IntN.{pos, negℤ, _-ℤ_};
 ghost use Rattle.field.specs.Residue.{residue};
 ghost use Rattle.field.specs.Flow.{inverse as «inverse-of», flow as «flow-of»};
 
-// 2^31 - 1.
+// 2^31 - 1; proofs/Primes.antt has it, and the largest below 2^32, proved prime.
 pub const P31: u32 = 2147483647;
-
-// The largest prime below 2^32.
-pub const P32: u32 = 4294967291;
 
 // What n leaves, divided by p.
 fn rest(p: u32, n: u64) -> u32

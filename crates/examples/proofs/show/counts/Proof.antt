@@ -1,0 +1,79 @@
+-- `examples::show::counts` is safe and ends.
+use Prim.Native.Nat.{_≤_, _-_}
+use borrow.Author.Needs.{needs}
+use lib.ListN.{length}
+use Rattle.examples.proofs.show.counts.Statement.{statement}
+use Rattle.examples.proofs.show.counts.Tie as tie
+
+abbrev Inv-loop : tie.InvT-loop
+Inv-loop what cs i₀ t5 t6 i = i ≤ length cs
+
+abbrev μ-loop : tie.MeasureT-loop
+μ-loop what cs i₀ t5 t6 i = length cs - i
+
+text-requires : tie.Need-text-requires Inv-loop μ-loop
+text-requires c κs = search needs
+
+slice-aggregate-text : tie.Need-slice-aggregate-text Inv-loop μ-loop
+slice-aggregate-text c = search needs
+
+text-requires-2 : tie.Need-text-requires-2 Inv-loop μ-loop
+text-requires-2 c κs = search needs
+
+loop-holds : tie.Need-loop-holds Inv-loop μ-loop
+loop-holds c = search needs
+
+slice-aggregate-text-2 : tie.Need-slice-aggregate-text-2 Inv-loop μ-loop
+slice-aggregate-text-2 c = search needs
+
+text-requires-3 : tie.Need-text-requires-3 Inv-loop μ-loop
+text-requires-3 c κs = search needs
+
+mul-signed : tie.Need-mul-signed Inv-loop μ-loop
+mul-signed c = search needs
+
+shared-slice-copy-out-signed : tie.Need-shared-slice-copy-out-signed Inv-loop μ-loop
+shared-slice-copy-out-signed c = search needs
+
+signed-requires : tie.Need-signed-requires Inv-loop μ-loop
+signed-requires c κs = search needs
+
+add-i : tie.Need-add-i Inv-loop μ-loop
+add-i c = search needs
+
+loop-less : tie.Need-loop-less Inv-loop μ-loop
+loop-less c = search needs
+
+loop-again : tie.Need-loop-again Inv-loop μ-loop
+loop-again c = search needs
+
+slice-aggregate-text-3 : tie.Need-slice-aggregate-text-3 Inv-loop μ-loop
+slice-aggregate-text-3 c = search needs
+
+text-requires-4 : tie.Need-text-requires-4 Inv-loop μ-loop
+text-requires-4 c κs = search needs
+
+returns : tie.Need-returns Inv-loop μ-loop
+returns c = search needs
+
+pub counts-spec : {M : Type 1} → statement M
+counts-spec =
+    tie.close
+    (tie.spec
+    Inv-loop
+    μ-loop
+    text-requires
+    slice-aggregate-text
+    text-requires-2
+    loop-holds
+    slice-aggregate-text-2
+    text-requires-3
+    mul-signed
+    shared-slice-copy-out-signed
+    signed-requires
+    add-i
+    loop-less
+    loop-again
+    slice-aggregate-text-3
+    text-requires-4
+    returns)
