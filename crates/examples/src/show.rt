@@ -14,7 +14,7 @@ pub(crate) fn number(n: u64) {
 pub(crate) fn signed(c: i64) {
     if c < 0 {
         text(b"-");
-        number((0 - c) as u64);
+        number((-1 - c) as u64 + 1);
     } else {
         number(c as u64);
     }

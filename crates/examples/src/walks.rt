@@ -58,26 +58,43 @@ fn told(peeled: Peeled, counts: &[i32], idsums: &[u32], flows: &[u32], numbers: 
     }
 }
 
-// The sketch is peeled, with `slots` table slots, of ten at most, and whatever was in the slices that are lent.
-fn peel(title: &[u8], counts: &mut [i32], idsums: &mut [u32], slots: usize, allowance: u32) {
-    let mut flows: [u32; 10] = [9; 10];
-    let mut numbers: [i32; 10] = [-9; 10];
+// The sketch is peeled into these table slices; whatever was in the other slices that are lent makes no difference.
+fn peel_into(
+    title: &[u8],
+    counts: &mut [i32],
+    idsums: &mut [u32],
+    flows: &mut [u32],
+    numbers: &mut [i32],
+    allowance: u32,
+) {
     let mut queue: [u32; 10] = [9; 10];
     let mut marks: [u32; 10] = [9; 10];
     show::text(title);
-    if slots <= 10 {
-        let peeled = peeling::peel(
-            k(),
-            counts,
-            idsums,
-            &mut flows[..slots],
-            &mut numbers[..slots],
-            &mut queue,
-            &mut marks,
-            allowance,
-        );
-        told(peeled, counts, idsums, &flows, &numbers);
-    }
+    let peeled = peeling::peel(
+        k(),
+        counts,
+        idsums,
+        flows,
+        numbers,
+        &mut queue,
+        &mut marks,
+        allowance,
+    );
+    told(peeled, counts, idsums, flows, numbers);
+}
+
+// The same with ten table slots.
+fn peel(title: &[u8], counts: &mut [i32], idsums: &mut [u32], allowance: u32) {
+    let mut flows: [u32; 10] = [9; 10];
+    let mut numbers: [i32; 10] = [-9; 10];
+    peel_into(
+        title,
+        counts,
+        idsums,
+        &mut flows,
+        &mut numbers,
+        allowance,
+    );
 }
 
 // The sketch of a flow by 1, and one of 12 put in or taken out.
@@ -91,7 +108,7 @@ fn e2() {
     let mut counts: [i32; 10] = [0; 10];
     let mut idsums: [u32; 10] = [0; 10];
     calls::e1(&mut counts, &mut idsums);
-    peel(b"E2\n", &mut counts, &mut idsums, 10, 80);
+    peel(b"E2\n", &mut counts, &mut idsums, 80);
 }
 
 // E3 and E4 are the same sketch with an odd and an even number of pops too few.
@@ -99,36 +116,43 @@ fn e3(title: &[u8], allowance: u32) {
     let mut counts: [i32; 10] = [0; 10];
     let mut idsums: [u32; 10] = [0; 10];
     pair(&mut counts, &mut idsums, false);
-    peel(title, &mut counts, &mut idsums, 10, allowance);
+    peel(title, &mut counts, &mut idsums, allowance);
 }
 
 fn e5(title: &[u8], allowance: u32) {
     let mut counts: [i32; 10] = [0; 10];
     let mut idsums: [u32; 10] = [0; 10];
     pair(&mut counts, &mut idsums, true);
-    peel(title, &mut counts, &mut idsums, 10, allowance);
+    peel(title, &mut counts, &mut idsums, allowance);
 }
 
 fn e6() {
     let mut counts: [i32; 10] = [0; 10];
     let mut idsums: [u32; 10] = [0; 10];
     packets::withdraw(k(), &mut counts, &mut idsums, 7, 4);
-    peel(b"E6\n", &mut counts, &mut idsums, 10, 80);
+    peel(b"E6\n", &mut counts, &mut idsums, 80);
 }
 
 fn e9() {
     let mut counts: [i32; 10] = [0; 10];
     let mut idsums: [u32; 10] = [0; 10];
-    peel(b"E9, all zero\n", &mut counts, &mut idsums, 10, 0);
+    peel(b"E9, all zero\n", &mut counts, &mut idsums, 0);
     calls::e1(&mut counts, &mut idsums);
-    peel(b"E9, E1\n", &mut counts, &mut idsums, 10, 0);
+    peel(b"E9, E1\n", &mut counts, &mut idsums, 0);
 }
 
 fn e10() {
     let mut counts: [i32; 10] = [0; 10];
     let mut idsums: [u32; 10] = [0; 10];
     calls::e1(&mut counts, &mut idsums);
-    peel(b"E10\n", &mut counts, &mut idsums, 0, 80);
+    peel_into(
+        b"E10\n",
+        &mut counts,
+        &mut idsums,
+        &mut [],
+        &mut [],
+        80,
+    );
 }
 
 // A count below the limits at index 3, and an idsum of p at index 9: the lowest index is told.
@@ -136,10 +160,10 @@ fn damaged() {
     let mut counts: [i32; 10] = [0; 10];
     let mut idsums: [u32; 10] = [0; 10];
     idsums[9] = 2147483647;
-    peel(b"idsum p at 9\n", &mut counts, &mut idsums, 10, 80);
+    peel(b"idsum p at 9\n", &mut counts, &mut idsums, 80);
     counts[3] = -2147483647;
-    peel(b"count -p at 3 too\n", &mut counts, &mut idsums, 10, 80);
-    peel(b"one count short\n", &mut counts[..9], &mut idsums, 10, 80);
+    peel(b"count -p at 3 too\n", &mut counts, &mut idsums, 80);
+    peel(b"one count short\n", &mut counts[..9], &mut idsums, 80);
 }
 
 pub(crate) fn run() {

@@ -1,7 +1,7 @@
 -- `examples::show::counts` is safe and ends.
-use Prim.Native.Nat.{_≤_, _-_}
-use borrow.Author.Needs.{needs}
+use Prim.Native.Nat.{_-_, _≤_}
 use lib.ListN.{length}
+use borrow.Author.Needs.{needs}
 use Rattle.examples.proofs.show.counts.Statement.{statement}
 use Rattle.examples.proofs.show.counts.Tie as tie
 
@@ -34,6 +34,9 @@ mul-signed c = search needs
 
 shared-slice-copy-out-signed : tie.Need-shared-slice-copy-out-signed Inv-loop μ-loop
 shared-slice-copy-out-signed c = search needs
+
+cast-signed : tie.Need-cast-signed Inv-loop μ-loop
+cast-signed c = search needs
 
 signed-requires : tie.Need-signed-requires Inv-loop μ-loop
 signed-requires c κs = search needs
@@ -70,6 +73,7 @@ counts-spec =
     text-requires-3
     mul-signed
     shared-slice-copy-out-signed
+    cast-signed
     signed-requires
     add-i
     loop-less

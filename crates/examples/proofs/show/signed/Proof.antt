@@ -1,13 +1,17 @@
--- `examples::show::signed` is safe: the size of a negative count fits, as in `field::raise`.
-use mathlib.Core.Path.{_≡_, ap, subst⁻¹, _∙_}
-use lib.IntN.{pos, natAbs, _-ℤ_}
-use mir.Facts.{toZ-ofZ}
-use mir.Syntax.{w32, w64}
-use mir.Val.{SFits, toZ, ofZ}
+-- `examples::show::signed` is safe: one less than the size of a negative number fits, also for the least of all.
+use mathlib.Core.Path.{_≡_, ap, _∙_, subst⁻¹}
+use mathlib.Core.Bool.{true}
+use mathlib.Core.Logic.{⊎-elim}
+use Prim.Native.Nat.{_-_, _≤_}
 use native.Mathlib.Omega.{arith}
+use lib.IntN.{ℤ, pos, negsuc, natAbs, negℤ, _-ℤ_}
+use lib.Signed.{ltZ}
+use mir.Facts.{toZ-ofZ}
+use mir.Syntax.{w64}
+use mir.Val.{SFits, toZ, ofZ}
 use borrow.Author.Needs.{needs}
-use Rattle.field.proofs.Parts.{negative, not-negative, abs-of-sfits}
-use Rattle.field.proofs.Casts.{widened, widens, cast-asks}
+use Rattle.field.proofs.Parts.{int, up-down-add, up-neg, down-neg, abs-parts, one-part, abs-of-sfits, not-negative}
+use Rattle.field.proofs.Casts.{cast-asks}
 use Rattle.examples.proofs.show.signed.Statement.{statement}
 use Rattle.examples.proofs.show.signed.Tie as tie
 
@@ -17,31 +21,41 @@ slice-aggregate-text c = search needs
 text-requires : tie.Need-text-requires
 text-requires c κs = search needs
 
-cast-number : tie.Need-cast-number
-cast-number c = widens (c .before .before .before .fits .c)
+-- one less than the size of a negative number
+less-one : (z : ℤ) → ltZ z (pos 0) ≡ true → negsuc 0 -ℤ z ≡ pos (natAbs z - 1)
+less-one z h =
+    ⊎-elim
+    (λ e. omega (int, up-down-add (negsuc 0) (negℤ z), up-neg z, down-neg z, abs-parts z))
+    (λ e. omega (int, up-down-add (negsuc 0) (negℤ z), up-neg z, down-neg z, abs-parts z))
+    (one-part z)
 
--- the size of a negative count, and that it fits
-size : (c : tie.Then1) → pos 0 -ℤ toZ w64 (ofZ w64 (toZ w32 (ofZ w32 (c .before .args .c)))) ≡ pos (natAbs (c .before .args .c))
-size c = ap (λ z. pos 0 -ℤ z) (widened (c .before .fits .c)) ∙ negative (c .before .args .c) (rw (toZ-ofZ (c .before .fits .c)) at (c .if1 .taken))
+size : (c : tie.After-text) → negsuc 0 -ℤ toZ w64 (ofZ w64 (c .before .before .before .args .c)) ≡ pos (natAbs (c .before .before .before .args .c) - 1)
+size c =
+    let back = toZ-ofZ (c .before .before .before .fits .c) in
+    ap (λ z. negsuc 0 -ℤ z) back ∙ less-one (c .before .before .before .args .c) (rw back at (c .before .before .if1 .taken))
+
+small : (c : tie.After-text) → SFits w64 (negsuc 0 -ℤ toZ w64 (ofZ w64 (c .before .before .before .args .c)))
+small c = subst⁻¹ (SFits w64) (size c) (record { sfits = omega (arith, abs-of-sfits (c .before .before .before .fits .c)) })
+
+read : (c : tie.After-text) → toZ w64 (ofZ w64 (negsuc 0 -ℤ toZ w64 (ofZ w64 (c .before .before .before .args .c)))) ≡ pos (natAbs (c .before .before .before .args .c) - 1)
+read c = toZ-ofZ (small c) ∙ size c
 
 sub-number : tie.Need-sub-number
-sub-number c =
-    subst⁻¹ (SFits w64) (size (c .before .before)) (record { sfits = omega (arith, abs-of-sfits (c .before .before .before .fits .c)) })
+sub-number c = small c
 
-cast-number-2 : tie.Need-cast-number-2
-cast-number-2 c =
-    cast-asks
-    (toZ-ofZ (sub-number c) ∙ size (c .before .before))
-    (record { fits = omega (arith, abs-of-sfits (c .before .before .before .fits .c)) })
+cast-number : tie.Need-cast-number
+cast-number c = cast-asks (read c) (record { fits = omega (arith, abs-of-sfits (c .before .before .before .fits .c)) })
+
+add-number : tie.Need-add-number
+add-number c = rw (read c) (record { fits = omega (arith, abs-of-sfits (c .before .before .before .fits .c)) })
 
 number-requires : tie.Need-number-requires
 number-requires c κs = search needs
 
-cast-number-3 : tie.Need-cast-number-3
-cast-number-3 c =
-    cast-asks
-    (toZ-ofZ (c .before .fits .c) ∙ not-negative (c .before .args .c) (rw (toZ-ofZ (c .before .fits .c)) at (c .if1 .left)))
-    (record { fits = omega (arith, abs-of-sfits (c .before .fits .c)) })
+cast-number-2 : tie.Need-cast-number-2
+cast-number-2 c =
+    let back = toZ-ofZ (c .before .fits .c) in
+    cast-asks (back ∙ not-negative (c .before .args .c) (rw back at (c .if1 .left))) (record { fits = omega (arith, abs-of-sfits (c .before .fits .c)) })
 
 number-requires-2 : tie.Need-number-requires-2
 number-requires-2 c κs = search needs
@@ -58,11 +72,11 @@ signed-spec =
     (tie.spec
     slice-aggregate-text
     text-requires
-    cast-number
     sub-number
-    cast-number-2
+    cast-number
+    add-number
     number-requires
-    cast-number-3
+    cast-number-2
     number-requires-2
     returns
     returns-2)

@@ -1,15 +1,15 @@
--- `examples::show::buckets` is safe and ends.
-use Prim.Native.Nat.{_≤_, _-_}
-use borrow.Author.Needs.{needs}
+-- `examples::show::each_bucket` is safe and ends.
+use Prim.Native.Nat.{_-_, _≤_}
 use lib.ListN.{length}
-use Rattle.examples.proofs.show.buckets.Statement.{statement}
-use Rattle.examples.proofs.show.buckets.Tie as tie
+use borrow.Author.Needs.{needs}
+use Rattle.examples.proofs.show.each_bucket.Statement.{statement}
+use Rattle.examples.proofs.show.each_bucket.Tie as tie
 
 abbrev Inv-loop : tie.InvT-loop
-Inv-loop cs ss i₀ i = i ≤ length cs
+Inv-loop word cs ss i₀ i = i ≤ length cs
 
 abbrev μ-loop : tie.MeasureT-loop
-μ-loop cs ss i₀ i = length cs - i
+μ-loop word cs ss i₀ i = length cs - i
 
 loop-holds : tie.Need-loop-holds Inv-loop μ-loop
 loop-holds c = search needs
@@ -41,8 +41,8 @@ loop-again c = search needs
 returns : tie.Need-returns Inv-loop μ-loop
 returns c = search needs
 
-pub buckets-spec : {M : Type 1} → statement M
-buckets-spec =
+pub each-bucket-spec : {M : Type 1} → statement M
+each-bucket-spec =
     tie.close
     (tie.spec
     Inv-loop
