@@ -87,14 +87,7 @@ fn peel_into(
 fn peel(title: &[u8], counts: &mut [i32], idsums: &mut [u32], allowance: u32) {
     let mut flows: [u32; 10] = [9; 10];
     let mut numbers: [i32; 10] = [-9; 10];
-    peel_into(
-        title,
-        counts,
-        idsums,
-        &mut flows,
-        &mut numbers,
-        allowance,
-    );
+    peel_into(title, counts, idsums, &mut flows, &mut numbers, allowance);
 }
 
 // The sketch of a flow by 1, and one of 12 put in or taken out.
@@ -145,14 +138,7 @@ fn e10() {
     let mut counts: [i32; 10] = [0; 10];
     let mut idsums: [u32; 10] = [0; 10];
     calls::e1(&mut counts, &mut idsums);
-    peel_into(
-        b"E10\n",
-        &mut counts,
-        &mut idsums,
-        &mut [],
-        &mut [],
-        80,
-    );
+    peel_into(b"E10\n", &mut counts, &mut idsums, &mut [], &mut [], 80);
 }
 
 // A count below the limits at index 3, and an idsum of p at index 9: the lowest index is told.
@@ -163,7 +149,13 @@ fn damaged() {
     peel(b"idsum p at 9\n", &mut counts, &mut idsums, 80);
     counts[3] = -2147483647;
     peel(b"count -p at 3 too\n", &mut counts, &mut idsums, 80);
-    peel(b"one count short\n", &mut counts[..9], &mut idsums, 80);
+}
+
+// LENGTH comes before DAMAGE.
+fn one_count_short() {
+    let mut counts: [i32; 9] = [-2147483647; 9];
+    let mut idsums: [u32; 10] = [0; 10];
+    peel(b"one count short\n", &mut counts, &mut idsums, 80);
 }
 
 pub(crate) fn run() {
@@ -176,4 +168,5 @@ pub(crate) fn run() {
     e9();
     e10();
     damaged();
+    one_count_short();
 }

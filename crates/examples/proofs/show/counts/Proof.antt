@@ -1,7 +1,10 @@
 -- `examples::show::counts` is safe and ends.
 use Prim.Native.Nat.{_-_, _≤_}
-use lib.ListN.{length}
-use borrow.Author.Needs.{needs}
+use lib.IntN.{pos}
+use lib.ListN.{length, getD}
+use denote.Ref.{now}
+use borrow.Author.Needs.{needs, sfits-of}
+use Rattle.field.proofs.Casts.{widens}
 use Rattle.examples.proofs.show.counts.Statement.{statement}
 use Rattle.examples.proofs.show.counts.Tie as tie
 
@@ -36,7 +39,7 @@ shared-slice-copy-out-signed : tie.Need-shared-slice-copy-out-signed Inv-loop μ
 shared-slice-copy-out-signed c = search needs
 
 cast-signed : tie.Need-cast-signed Inv-loop μ-loop
-cast-signed c = search needs
+cast-signed c = widens {z = getD (now (c .before .before .before .before .before .before .before .before .before .args .cs)) (c .before .before .before .before .loop .i) (pos 0)} (sfits-of (c .signed-arg .given))
 
 signed-requires : tie.Need-signed-requires Inv-loop μ-loop
 signed-requires c κs = search needs

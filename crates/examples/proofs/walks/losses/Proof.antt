@@ -1,7 +1,11 @@
 -- `examples::walks::losses` is safe and ends.
 use Prim.Native.Nat.{_-_, _≤_}
-use lib.ListN.{length}
-use borrow.Author.Needs.{needs}
+use lib.IntN.{pos}
+use lib.ListN.{length, getD}
+use denote.Ref.{now}
+use native.Mathlib.Omega.{arith}
+use borrow.Author.Needs.{needs, sfits-of}
+use Rattle.field.proofs.Casts.{widens}
 use Rattle.examples.proofs.walks.losses.Statement.{statement}
 use Rattle.examples.proofs.walks.losses.Tie as tie
 
@@ -27,7 +31,7 @@ shared-slice-read-number : tie.Need-shared-slice-read-number Inv-loop μ-loop
 shared-slice-read-number c = search needs
 
 cast-number : tie.Need-cast-number Inv-loop μ-loop
-cast-number c = search needs
+cast-number c = omega (arith, c .shared-slice-known2 .given (c .before .before .before .before .before .before .loop .i))
 
 number-requires : tie.Need-number-requires Inv-loop μ-loop
 number-requires c κs = search needs
@@ -45,7 +49,7 @@ shared-slice-copy-out-signed : tie.Need-shared-slice-copy-out-signed Inv-loop μ
 shared-slice-copy-out-signed c = search needs
 
 cast-signed : tie.Need-cast-signed Inv-loop μ-loop
-cast-signed c = search needs
+cast-signed c = widens {z = getD (now (c .before .before .before .before .before .before .before .before .before .before .before .before .args .numbers)) (c .before .before .before .before .before .before .before .before .before .before .loop .i) (pos 0)} (sfits-of (c .signed-arg .given))
 
 signed-requires : tie.Need-signed-requires Inv-loop μ-loop
 signed-requires c κs = search needs
