@@ -15,5 +15,6 @@ pub mod Stuck
 pub mod Remainder
 pub mod TableFacts
 pub mod Purity
+pub mod Narrowed
 pub mod Promises
 pub mod Examples

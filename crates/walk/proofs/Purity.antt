@@ -1,4 +1,4 @@
--- The purity test is sound modulo every prime and for every placing of flows, and so is one that asks more; with a sketch's parameters, the bucket in which a flow is pure is one of the flow's.
+-- The purity test is sound modulo every prime and for every placing of flows; with a sketch's parameters, the bucket in which a flow is pure is one of the flow's.
 use mathlib.Core.Path.{_≡_, refl, subst}
 use mathlib.Core.Bool.{Bool, true, false, cond}
 use Prim.Native.Nat.{ℕ, _+_, _*_, _/_, _%_, _<_}
@@ -18,10 +18,9 @@ use Rattle.sketch.specs.declared.params.Params.{Params}
 use Rattle.sketch.specs.Params.{primeOf, size}
 use Rattle.sketch.specs.Places.{stand, standsIn, stands}
 use Rattle.sketch.proofs.Searches.{and-true}
-use Rattle.walk.specs.declared.Found.{Found}
 use Rattle.walk.specs.declared.Found.the-variants.{Undefined, Impure, Pure}
-use Rattle.walk.specs.Walk.{Rule, isZero}
-use Rattle.walk.specs.Purity.{testIn, pureTest, ruleOf, onlyIf, narrowed}
+use Rattle.walk.specs.Walk.{isZero}
+use Rattle.walk.specs.Purity.{testIn, pureTest, ruleOf}
 use Rattle.walk.proofs.Balance.{Sound}
 use Rattle.walk.proofs.Stuck.{Placed}
 
@@ -58,26 +57,6 @@ module _ (p : ℕ) (prime : Prime p) (arrays : ℕ) (index : ℕ → ℕ → ℕ
 pub sound : (P : Params) → Sound (ruleOf P)
 sound P = sound-in (primeOf P) prime-31 (P .d) (λ i f. i * P .m + stand P i f) (stands P)
 
--- a test that asks more is sound where the first is
-still : (ok : ℕ → Bool) (w : Found) (f : ℕ) → onlyIf ok w ≡ Pure f → w ≡ Pure f
-still ok Undefined f e = absurd (let z : _≡_ {A = ℕ} 0 1 = cc in omega arith)
-still ok Impure f e = absurd (let z : _≡_ {A = ℕ} 0 1 = cc in omega arith)
-still ok (Pure g) f e = go (ok g) e
-  where
-    go : (b : Bool) → cond b (Pure g) Impure ≡ Pure f → Pure g ≡ Pure f
-    go true x = x
-    go false x = absurd (let z : _≡_ {A = ℕ} 0 1 = cc in omega arith)
-
-pub sound-narrowed : (ok : ℕ → Bool) (R : Rule) → Sound R → Sound (narrowed ok R)
-sound-narrowed ok R h =
-    record {
-      positive = h .positive;
-      solves = λ k c s f l e. h .solves k c s f l (still ok (R .test k c s) f e);
-      a-flow = λ k c s f e. h .a-flow k c s f (still ok (R .test k c s) f e);
-      placed = λ k c s f e. h .placed k c s f (still ok (R .test k c s) f e);
-      empty = λ k s. rw (h .empty k s);
-    }
-
 -- the bucket in which a flow stands is its bucket in one of the arrays
 pub stands-at : (P : Params) (f k : ℕ) → stands P f k ≡ true → (k / P .m < P .d) × (k / P .m * P .m + stand P (k / P .m) f ≡ k)
 unfolding standsIn
@@ -85,12 +64,9 @@ stands-at P f k e =
     let w = and-true (ltb (k / P .m) (P .d)) (eqb (stand P (k / P .m) f) (k % P .m)) e in
     (ltb-true _ _ (w .0), omega (arith, eqb-true (stand P (k / P .m) f) (k % P .m) (w .1), mod-add-div' k (P .m)))
 
--- so the parameters' rule places flows by its arrays, and so does one with a test that asks more
+-- so the parameters' rule places flows by its arrays
 pub placed : (P : Params) → Placed (ruleOf P) (size P)
 placed P = record { array = λ k f l e. (k / P .m, stands-at P f k e .0, stands-at P f k e .1) }
-
-pub placed-narrowed : (ok : ℕ → Bool) (R : Rule) (size : ℕ) → Placed R size → Placed (narrowed ok R) size
-placed-narrowed ok R size h = record { array = h .array }
 
 -- and the bucket in which a flow is pure is one of the flow's
 pub pure-at : (P : Params) (k : ℕ) (c : ℤ) (s f : ℕ) → pureTest P k c s ≡ Pure f → (k / P .m < P .d) × (k / P .m * P .m + stand P (k / P .m) f ≡ k)
