@@ -8,6 +8,7 @@ pub mod Credits
 pub mod Entries
 pub mod Carried
 pub mod Clean
+pub mod NoInverse
 pub mod Pops
 pub mod Balance
 pub mod Rebuilt
