@@ -1,6 +1,6 @@
 -- What every walk over a sketch with parameters P keeps, by the definition of the walk alone: the promises of peeling.
-use mathlib.Core.Path.{_≡_, sym, ap, _∙_}
-use mathlib.Core.Bool.{true, false, not, true≢false}
+use mathlib.Core.Path.{_≡_, refl, sym, ap, _∙_}
+use mathlib.Core.Bool.{Bool, true, false, not, true≢false}
 use mathlib.Core.List.{List}
 use Prim.Native.Nat.{ℕ, _<_, _≤_}
 use native.Mathlib.Decide.{decLt}
@@ -8,16 +8,18 @@ use native.Mathlib.Nat.{le-trans}
 use native.Mathlib.Omega.{arith}
 use borrow.Author.Tests.{not-true}
 use lib.Dec.{ltb}
-use lib.IntN.{pos}
+use lib.IntN.{ℤ, pos, natAbs}
 use lib.ListN.{length, getD, List·getD-eq-default}
+use Rattle.field.specs.Flow.{flow}
 use Rattle.sketch.specs.declared.params.Params.{Params}
 use Rattle.sketch.specs.Params.{primeOf, size, isFlow}
+use Rattle.sketch.specs.Places.{stands}
 use Rattle.sketch.specs.Buckets.{inLimits}
 use Rattle.sketch.specs.Sketch.{Sketch, countIn, idsumIn, damagedAt, Entry, by, sketchOf}
 use Rattle.sketch.specs.Sums.{combined}
 use Rattle.sketch.proofs.Idsums.{prime-pos}
-use Rattle.sketch.proofs.Limits.{whole, whole-back}
-use Rattle.walk.specs.declared.Ending.the-variants.{Clean, Stuck, Spent}
+use Rattle.sketch.proofs.Limits.{limits-size, whole, whole-back}
+use Rattle.walk.specs.declared.Ending.the-variants.{Clean, Stuck, Spent, NoInverse}
 use Rattle.walk.specs.declared.Found.the-variants.{Pure}
 use Rattle.walk.specs.Endings.{endingNumber}
 use Rattle.walk.specs.Walk.{Outcome, isZero, nothingLeft, walk, close, net}
@@ -27,10 +29,11 @@ use Rattle.walk.proofs.Zeros.{is-zero}
 use Rattle.walk.proofs.Alls.{all-at, nothing-count, nothing-idsum, all-zero}
 use Rattle.walk.proofs.Balance.{Balanced, balanced, balanced-closed}
 use Rattle.walk.proofs.Rebuilt.{rebuilt, rebuilt-alone}
-use Rattle.walk.proofs.Purity.{sound, placed}
+use Rattle.walk.proofs.Purity.{sound, placed, has-inverse, flow-pure, some-residue}
 use Rattle.walk.proofs.Stuck.{stuck-only as none-passes}
 use Rattle.walk.proofs.Remainder.{within}
 use Rattle.walk.proofs.Clean.{cleanly}
+use Rattle.walk.proofs.NoInverse.{no-inverse-only}
 use Rattle.walk.proofs.Pops.{made}
 use Rattle.walk.proofs.Entries.{all-close, close-some, close-fewer, once-close, once-at}
 use Rattle.walk.proofs.Credits.{net-close as same-net}
@@ -50,6 +53,12 @@ idsum-below : (P : Params) (S : Sketch) → Whole P S → (k : ℕ) → Dec (k <
 idsum-below P S w k (yes l) = whole (countIn S k) (idsumIn S k) (w .undamaged k (omega (arith, w .idsums-long))) .1
 idsum-below P S w k (no l) = rw (List·getD-eq-default (S .idsums) 0 {n = k} (omega arith)) prime-pos
 
+count-below : (P : Params) (S : Sketch) → Whole P S → (k : ℕ) → Dec (k < length (S .counts)) → natAbs (countIn S k) < primeOf P
+count-below P S w k (yes l) =
+    let i = limits-size (countIn S k) (whole (countIn S k) (idsumIn S k) (w .undamaged k (omega (arith, w .counts-long))) .0) in
+    omega arith
+count-below P S w k (no l) = rw (List·getD-eq-default (S .counts) (pos 0) {n = k} (omega arith)) prime-pos
+
 module _ (P : Params) (slots allowance : ℕ) (S : Sketch) where
   -- the walk's outcome, and its table after the close
   abbrev pub outcome : Outcome
@@ -65,7 +74,7 @@ module _ (P : Params) (slots allowance : ℕ) (S : Sketch) where
   pub balance : Whole P S → combined false (outcome .left) (sketchOf P listed) ≡ S
   balance w = rebuilt P S (outcome .left) listed (w .counts-long) (w .idsums-long) (in-balance w)
 
-  -- what the ending's number tells
+  -- a clean end, by its number, leaves nothing
   clean-nothing : endingNumber (outcome .ending) ≡ 1 → nothingLeft (outcome .left) ≡ true
   clean-nothing e = cleanly (ruleOf P) slots allowance S .clean (ending-by-number (outcome .ending) Clean e)
 
@@ -86,8 +95,7 @@ module _ (P : Params) (slots allowance : ℕ) (S : Sketch) where
 
   -- clean exactly where nothing is left
   pub clean-only : endingNumber (outcome .ending) ≡ 1 → Nothing (outcome .left)
-  clean-only e =
-      λ k. (nothing-count (outcome .left) (clean-nothing e) k, nothing-idsum (outcome .left) (clean-nothing e) k)
+  clean-only e = λ k. (nothing-count (outcome .left) (clean-nothing e) k, nothing-idsum (outcome .left) (clean-nothing e) k)
 
   pub clean-if : Nothing (outcome .left) → endingNumber (outcome .ending) ≡ 1
   clean-if n = ap endingNumber (cleanly (ruleOf P) slots allowance S .nothing (all-zero (outcome .left) (λ k. n k .0) (λ k. n k .1)))
@@ -98,6 +106,30 @@ module _ (P : Params) (slots allowance : ℕ) (S : Sketch) where
 
   pub stuck-only : Whole P S → endingNumber (outcome .ending) ≡ 2 → (k f : ℕ) → k < size P → pureTest P k (countIn (outcome .left) k) (idsumIn (outcome .left) k) ≡ Pure f → ⊥
   stuck-only w e = none-passes (ruleOf P) (sound P) (size P) (placed P) slots allowance S (w .counts-long) (w .idsums-long) (ending-by-number (outcome .ending) Stuck e)
+
+  -- so where a count is left, the one flow of its bucket does not stand there
+  pub stuck-stands : Whole P S → endingNumber (outcome .ending) ≡ 2 → (k : ℕ) → k < size P → (countIn (outcome .left) k ≡ pos 0 → ⊥)
+      → stands P (flow (primeOf P) (countIn (outcome .left) k) (idsumIn (outcome .left) k)) k ≡ false
+  stuck-stands w e k l d = go _ refl
+    where
+      c : ℤ
+      c = countIn (outcome .left) k
+
+      s : ℕ
+      s = idsumIn (outcome .left) k
+
+      go : (b : Bool) → stands P (flow (primeOf P) c s) k ≡ b → b ≡ false
+      go true h =
+          let i = whole c s (left-whole w .undamaged k l) .0 in
+          absurd (stuck-only w e k (flow (primeOf P) c s) l (flow-pure (primeOf P) (stands P) k c s d (some-residue P c d i) h))
+      go false h = refl
+
+  -- the end is never no inverse: within the limits, every count other than 0 has one
+  pub no-inverse-never : Whole P S → endingNumber (outcome .ending) ≡ 4 → ⊥
+  no-inverse-never w e =
+      let n = no-inverse-only (ruleOf P) slots allowance S (ending-by-number (outcome .ending) NoInverse e) in
+      has-inverse (primeOf P) (stands P) (n .0) (countIn (outcome .left) (n .0)) (idsumIn (outcome .left) (n .0)) prime-pos
+      (count-below P (outcome .left) (left-whole w) (n .0) (decLt (n .0) (length (outcome .left .counts)))) (n .1)
 
   -- never more pops than allowed
   pub pops-within : outcome .pops ≤ allowance

@@ -42,7 +42,7 @@ module _ (p : ℕ) (on : ℕ → ℕ → Bool) (k : ℕ) (c : ℤ) (s f : ℕ) w
       let some : residue p c ≡ 0 → ⊥ = eqb-false _ _ (w .0) in
       (omega arith, subst (λ (g : ℕ). on g k ≡ true) (w .2) (w .1), w .2)
 
--- a count with no inverse is what it does not take
+-- and where it finds a count with no inverse
 lacked : (a b t : Bool) (g : ℕ) → cond a Impure (cond b Undefined (cond t (Pure g) Impure)) ≡ Undefined → (a ≡ false) × (b ≡ true)
 lacked true b t g e = absurd (let z : _≡_ {A = ℕ} 0 1 = cc in omega arith)
 lacked false true t g e = (refl, refl)
