@@ -15,10 +15,9 @@ use Rattle.sketch.specs.Places.{stand, position, standsIn}
 use Rattle.sketch.specs.Buckets.{inLimits}
 use Rattle.sketch.specs.Sketch.{Sketch, sketch, Entry, by, countAt, weightAt, sketchOf, damagedIn, leavesIn, standingAnswer, changedIn}
 use Rattle.sketch.specs.Packets.{packetAnswer, entryAnswer, stepAnswer, changed, moveAnswer}
-use Rattle.walk.specs.declared.Ending.{Ending}
-use Rattle.walk.specs.declared.Ending.the-variants.{Clean, Stuck, Spent, Full}
 use Rattle.walk.specs.declared.Found.{Found}
 use Rattle.walk.specs.declared.Found.the-variants.{Impure, Pure}
+use Rattle.walk.specs.Endings.{endingNumber}
 use Rattle.walk.specs.Walk.{State, Move, stops, goes, Outcome, queued, all, any, nothingLeft, less, has, entryOf, credited, waits, requeue, inRange, hasRoom, taken, takes, follows, popped, before, after, run, firstQueue, walk, close, net}
 use Rattle.walk.specs.Purity.{testIn, pureTest, ruleOf}
 
@@ -40,13 +39,13 @@ pub data Told : Type 0 where
   at : ℕ → Told
   holds : Sketch → Told
   finds : (flow : ℕ) → Found → Told
-  ends : Ending → (pops : ℕ) (net : ℤ) (table : List Entry) (left : Sketch) → Told
+  ends : (ending pops : ℕ) (net : ℤ) (table : List Entry) (left : Sketch) → Told
   waits-on : List ℕ → Told
   says : (number index : ℕ) → Sketch → Told
 
--- the table is that after the close
+-- the ending by its number, and the table after the close
 abbrev ended : Outcome → Told
-ended o = ends (o .ending) (o .pops) (net (close (o .table))) (close (o .table)) (o .left)
+ended o = ends (endingNumber (o .ending)) (o .pops) (net (close (o .table))) (close (o .table)) (o .left)
 
 -- the walk's own moves, pop by pop
 abbrev moved : Move → State → State
@@ -135,21 +134,21 @@ examples =
     ∷ (sketch-of (by 7 (pos 1) ∷ by 12 (pos 2) ∷ []) gives holds S1)
     -- E2
     ∷ (test-of 2 (pos 3) 31 gives finds 1431655775 Impure)
-    ∷ (peeling S1 10 80 gives ends Clean 3 (pos 3) (by 12 (pos 2) ∷ by 7 (pos 1) ∷ []) S0)
+    ∷ (peeling S1 10 80 gives ends 1 3 (pos 3) (by 12 (pos 2) ∷ by 7 (pos 1) ∷ []) S0)
     ∷ (queue-after 0 S1 gives waits-on (2 ∷ 6 ∷ 7 ∷ []))
     ∷ (queue-after 3 S1 gives waits-on (2 ∷ []))
     -- E3
     ∷ (sketch-of (by 2 (pos 1) ∷ by 12 (pos 1) ∷ []) gives holds S3)
     ∷ (test-of 2 (pos 2) 14 gives finds 7 (Pure 7))
-    ∷ (peeling S3 10 10 gives ends Spent 10 (pos 2) (by 7 (pos 2) ∷ []) left3)
+    ∷ (peeling S3 10 10 gives ends 3 10 (pos 2) (by 7 (pos 2) ∷ []) left3)
     -- E4
-    ∷ (peeling S3 10 9 gives ends Spent 9 (pos 0) [] S3)
+    ∷ (peeling S3 10 9 gives ends 3 9 (pos 0) [] S3)
     -- E5
     ∷ (sketch-of (by 2 (pos 1) ∷ by 12 (negsuc 0) ∷ []) gives holds S5)
-    ∷ (peeling S5 10 80 gives ends Stuck 0 (pos 0) [] S5)
+    ∷ (peeling S5 10 80 gives ends 2 0 (pos 0) [] S5)
     -- E6
     ∷ (sketch-of (by 7 (negsuc 3) ∷ []) gives holds S6)
-    ∷ (peeling S6 10 80 gives ends Clean 1 (negsuc 3) (by 7 (negsuc 3) ∷ []) S0)
+    ∷ (peeling S6 10 80 gives ends 1 1 (negsuc 3) (by 7 (negsuc 3) ∷ []) S0)
     -- E7
     ∷ (sketch-of (by 2147483646 (pos 2147483646) ∷ []) gives holds S7)
     ∷ (inserting S0 2147483646 2147483646 gives says 0 0 S7)
@@ -159,24 +158,24 @@ examples =
     ∷ (inserting S0 1 0 gives says 4 0 S0)
     ∷ (inserting S0 1 2147483647 gives says 4 0 S0)
     -- E9
-    ∷ (peeling S0 10 0 gives ends Clean 0 (pos 0) [] S0)
-    ∷ (peeling S1 10 0 gives ends Spent 0 (pos 0) [] S1)
+    ∷ (peeling S0 10 0 gives ends 1 0 (pos 0) [] S0)
+    ∷ (peeling S1 10 0 gives ends 3 0 (pos 0) [] S1)
     -- E10
-    ∷ (peeling S1 0 80 gives ends Full 2 (pos 0) [] S1)
+    ∷ (peeling S1 0 80 gives ends 6 2 (pos 0) [] S1)
     ∷ []
 
 -- every line of the table is right, and the walk of E3 goes on without end: it is spent whatever it is allowed
-pub all-right : (map (λ l. told (l .asked)) examples ≡ map (λ l. l .answer) examples) × ((n : ℕ) → walk (ruleOf K) 10 n S3 .ending ≡ Spent)
+pub all-right : (map (λ l. told (l .asked)) examples ≡ map (λ l. l .answer) examples) × ((n : ℕ) → endingNumber (walk (ruleOf K) 10 n S3 .ending) ≡ 3)
 unfolding residue inverseIn inverse flow below least mapFrom touched from refuseAt first kept pairAt twins goodSizes goodParams lengthsAnswer sizesAnswer stand standsIn inLimits countAt weightAt sketchOf damagedIn leavesIn standingAnswer changedIn packetAnswer entryAnswer stepAnswer changed moveAnswer all any nothingLeft less has entryOf credited waits requeue inRange hasRoom taken takes follows popped before after run firstQueue walk close net testIn pops
 all-right = (refl, without-end)
   where
     -- flow 7 goes in and comes out
-    in-and-out : (n i : ℕ) → (run (ruleOf K) 10 n i (record { held = S3; queue = 2 ∷ []; table = by 7 (pos 0) ∷ [] }) .ending ≡ Spent)
-        × (run (ruleOf K) 10 n i (record { held = left3; queue = 7 ∷ []; table = by 7 (pos 2) ∷ [] }) .ending ≡ Spent)
+    in-and-out : (n i : ℕ) → (endingNumber (run (ruleOf K) 10 n i (record { held = S3; queue = 2 ∷ []; table = by 7 (pos 0) ∷ [] }) .ending) ≡ 3)
+        × (endingNumber (run (ruleOf K) 10 n i (record { held = left3; queue = 7 ∷ []; table = by 7 (pos 2) ∷ [] }) .ending) ≡ 3)
     in-and-out zero i = (refl, refl)
     in-and-out (suc n) i = (in-and-out n (suc i) .1, in-and-out n (suc i) .0)
 
-    without-end : (n : ℕ) → walk (ruleOf K) 10 n S3 .ending ≡ Spent
+    without-end : (n : ℕ) → endingNumber (walk (ruleOf K) 10 n S3 .ending) ≡ 3
     without-end zero = refl
     without-end (suc zero) = refl
     without-end (suc (suc zero)) = refl

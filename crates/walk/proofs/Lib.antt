@@ -1,4 +1,5 @@
 -- The laws of the walk, which the proofs of this crate and of those above it cite.
+pub mod Numbers
 pub mod Zeros
 pub mod Alls
 pub mod Waiting
@@ -7,6 +8,7 @@ pub mod Credits
 pub mod Entries
 pub mod Carried
 pub mod Clean
+pub mod NoInverse
 pub mod Pops
 pub mod Balance
 pub mod Rebuilt
@@ -14,5 +16,6 @@ pub mod Stuck
 pub mod Remainder
 pub mod TableFacts
 pub mod Purity
+pub mod Narrowed
 pub mod Promises
 pub mod Examples

@@ -1,6 +1,6 @@
 -- What every walk over a sketch with parameters P keeps, by the definition of the walk alone: the promises of peeling.
-use mathlib.Core.Path.{_≡_, sym, _∙_}
-use mathlib.Core.Bool.{true, false, not, true≢false}
+use mathlib.Core.Path.{_≡_, refl, sym, ap, _∙_}
+use mathlib.Core.Bool.{Bool, true, false, not, true≢false}
 use mathlib.Core.List.{List}
 use Prim.Native.Nat.{ℕ, _<_, _≤_}
 use native.Mathlib.Decide.{decLt}
@@ -8,31 +8,36 @@ use native.Mathlib.Nat.{le-trans}
 use native.Mathlib.Omega.{arith}
 use borrow.Author.Tests.{not-true}
 use lib.Dec.{ltb}
-use lib.IntN.{pos}
+use lib.IntN.{ℤ, pos, natAbs}
 use lib.ListN.{length, getD, List·getD-eq-default}
+use Rattle.field.specs.Flow.{flow}
 use Rattle.sketch.specs.declared.params.Params.{Params}
 use Rattle.sketch.specs.Params.{primeOf, size, isFlow}
+use Rattle.sketch.specs.Places.{stands}
 use Rattle.sketch.specs.Buckets.{inLimits}
 use Rattle.sketch.specs.Sketch.{Sketch, countIn, idsumIn, damagedAt, Entry, by, sketchOf}
 use Rattle.sketch.specs.Sums.{combined}
 use Rattle.sketch.proofs.Idsums.{prime-pos}
-use Rattle.sketch.proofs.Limits.{whole, whole-back}
-use Rattle.walk.specs.declared.Ending.the-variants.{Clean, Stuck, Spent}
+use Rattle.sketch.proofs.Limits.{limits-size, whole, whole-back}
+use Rattle.walk.specs.declared.Ending.the-variants.{Clean, Stuck, Spent, NoInverse}
 use Rattle.walk.specs.declared.Found.the-variants.{Pure}
-use Rattle.walk.specs.Walk.{Outcome, isZero, walk, close, net}
+use Rattle.walk.specs.Endings.{endingNumber}
+use Rattle.walk.specs.Walk.{Outcome, isZero, nothingLeft, walk, close, net}
 use Rattle.walk.specs.Purity.{pureTest, ruleOf}
+use Rattle.walk.proofs.Numbers.{ending-by-number}
 use Rattle.walk.proofs.Zeros.{is-zero}
 use Rattle.walk.proofs.Alls.{all-at, nothing-count, nothing-idsum, all-zero}
 use Rattle.walk.proofs.Balance.{Balanced, balanced, balanced-closed}
 use Rattle.walk.proofs.Rebuilt.{rebuilt, rebuilt-alone}
-use Rattle.walk.proofs.Purity.{sound, placed}
+use Rattle.walk.proofs.Purity.{sound, placed, has-inverse, flow-pure, some-residue}
 use Rattle.walk.proofs.Stuck.{stuck-only as none-passes}
 use Rattle.walk.proofs.Remainder.{within}
 use Rattle.walk.proofs.Clean.{cleanly}
+use Rattle.walk.proofs.NoInverse.{no-inverse-only}
 use Rattle.walk.proofs.Pops.{made}
 use Rattle.walk.proofs.Entries.{all-close, close-some, close-fewer, once-close, once-at}
 use Rattle.walk.proofs.Credits.{net-close as same-net}
-use Rattle.walk.proofs.TableFacts.{listed}
+use Rattle.walk.proofs.TableFacts.{listed as table-facts}
 
 -- S has the size of P, and no bucket of it is outside its limits
 pub record Whole (P : Params) (S : Sketch) : Type 0 where
@@ -48,84 +53,116 @@ idsum-below : (P : Params) (S : Sketch) → Whole P S → (k : ℕ) → Dec (k <
 idsum-below P S w k (yes l) = whole (countIn S k) (idsumIn S k) (w .undamaged k (omega (arith, w .idsums-long))) .1
 idsum-below P S w k (no l) = rw (List·getD-eq-default (S .idsums) 0 {n = k} (omega arith)) prime-pos
 
+count-below : (P : Params) (S : Sketch) → Whole P S → (k : ℕ) → Dec (k < length (S .counts)) → natAbs (countIn S k) < primeOf P
+count-below P S w k (yes l) =
+    let i = limits-size (countIn S k) (whole (countIn S k) (idsumIn S k) (w .undamaged k (omega (arith, w .counts-long))) .0) in
+    omega arith
+count-below P S w k (no l) = rw (List·getD-eq-default (S .counts) (pos 0) {n = k} (omega arith)) prime-pos
+
 module _ (P : Params) (slots allowance : ℕ) (S : Sketch) where
   -- the walk's outcome, and its table after the close
-  abbrev pub o : Outcome
-  o = walk (ruleOf P) slots allowance S
+  abbrev pub outcome : Outcome
+  outcome = walk (ruleOf P) slots allowance S
 
-  abbrev pub t : List Entry
-  t = close (o .table)
+  abbrev pub listed : List Entry
+  listed = close (outcome .table)
 
-  in-balance : Whole P S → Balanced (ruleOf P) S (o .left) t
+  in-balance : Whole P S → Balanced (ruleOf P) S (outcome .left) listed
   in-balance w = balanced-closed (balanced (ruleOf P) (sound P) S slots allowance (λ k. idsum-below P S w k (decLt k (length (S .idsums)))))
 
   -- the table's sketch, added to what is left, is the input
-  pub balance : Whole P S → combined false (o .left) (sketchOf P t) ≡ S
-  balance w = rebuilt P S (o .left) t (w .counts-long) (w .idsums-long) (in-balance w)
+  pub balance : Whole P S → combined false (outcome .left) (sketchOf P listed) ≡ S
+  balance w = rebuilt P S (outcome .left) listed (w .counts-long) (w .idsums-long) (in-balance w)
+
+  -- a clean end, by its number, leaves nothing
+  clean-nothing : endingNumber (outcome .ending) ≡ 1 → nothingLeft (outcome .left) ≡ true
+  clean-nothing e = cleanly (ruleOf P) slots allowance S .clean (ending-by-number (outcome .ending) Clean e)
 
   -- after a clean end, the table's sketch is the input
-  pub clean-table : Whole P S → o .ending ≡ Clean → sketchOf P t ≡ S
-  clean-table w e = rebuilt-alone P S (o .left) t (w .counts-long) (w .idsums-long) (in-balance w) (cleanly (ruleOf P) slots allowance S .clean e)
+  pub clean-table : Whole P S → endingNumber (outcome .ending) ≡ 1 → sketchOf P listed ≡ S
+  clean-table w e = rebuilt-alone P S (outcome .left) listed (w .counts-long) (w .idsums-long) (in-balance w) (clean-nothing e)
 
   -- what is left has the size of P, and is within the limits
-  pub left-whole : Whole P S → Whole P (o .left)
+  pub left-whole : Whole P S → Whole P (outcome .left)
   left-whole w =
       let b = in-balance w in
       let c = within (ruleOf P) (size P) (placed P) slots allowance S (record { long = w .counts-long; limits = λ k l. whole (countIn S k) (idsumIn S k) (w .undamaged k l) .0 }) in
       record {
         counts-long = c .long;
         idsums-long = b .idsums-long ∙ w .idsums-long;
-        undamaged = λ k l. whole-back (countIn (o .left) k) (idsumIn (o .left) k) (c .limits k l) (b .below k);
+        undamaged = λ k l. whole-back (countIn (outcome .left) k) (idsumIn (outcome .left) k) (c .limits k l) (b .below k);
       }
 
   -- clean exactly where nothing is left
-  pub clean-only : o .ending ≡ Clean → Nothing (o .left)
-  clean-only e =
-      let n = cleanly (ruleOf P) slots allowance S .clean e in
-      λ k. (nothing-count (o .left) n k, nothing-idsum (o .left) n k)
+  pub clean-only : endingNumber (outcome .ending) ≡ 1 → Nothing (outcome .left)
+  clean-only e = λ k. (nothing-count (outcome .left) (clean-nothing e) k, nothing-idsum (outcome .left) (clean-nothing e) k)
 
-  pub clean-if : Nothing (o .left) → o .ending ≡ Clean
-  clean-if n = cleanly (ruleOf P) slots allowance S .nothing (all-zero (o .left) (λ k. n k .0) (λ k. n k .1))
+  pub clean-if : Nothing (outcome .left) → endingNumber (outcome .ending) ≡ 1
+  clean-if n = ap endingNumber (cleanly (ruleOf P) slots allowance S .nothing (all-zero (outcome .left) (λ k. n k .0) (λ k. n k .1)))
 
   -- stuck only where something is left, and no bucket of it passes the purity test
-  pub stuck-left : o .ending ≡ Stuck → Nothing (o .left) → ⊥
-  stuck-left e n = let c = clean-if n in let z : _≡_ {A = ℕ} 0 1 = cc in omega arith
+  pub stuck-left : endingNumber (outcome .ending) ≡ 2 → Nothing (outcome .left) → ⊥
+  stuck-left e n = omega (arith, clean-if n)
 
-  pub stuck-only : Whole P S → o .ending ≡ Stuck → (k f : ℕ) → k < size P → pureTest P k (countIn (o .left) k) (idsumIn (o .left) k) ≡ Pure f → ⊥
-  stuck-only w = none-passes (ruleOf P) (sound P) (size P) (placed P) slots allowance S (w .counts-long) (w .idsums-long)
+  pub stuck-only : Whole P S → endingNumber (outcome .ending) ≡ 2 → (k f : ℕ) → k < size P → pureTest P k (countIn (outcome .left) k) (idsumIn (outcome .left) k) ≡ Pure f → ⊥
+  stuck-only w e = none-passes (ruleOf P) (sound P) (size P) (placed P) slots allowance S (w .counts-long) (w .idsums-long) (ending-by-number (outcome .ending) Stuck e)
+
+  -- so where a count is left, the one flow of its bucket does not stand there
+  pub stuck-stands : Whole P S → endingNumber (outcome .ending) ≡ 2 → (k : ℕ) → k < size P → (countIn (outcome .left) k ≡ pos 0 → ⊥)
+      → stands P (flow (primeOf P) (countIn (outcome .left) k) (idsumIn (outcome .left) k)) k ≡ false
+  stuck-stands w e k l d = go _ refl
+    where
+      c : ℤ
+      c = countIn (outcome .left) k
+
+      s : ℕ
+      s = idsumIn (outcome .left) k
+
+      go : (b : Bool) → stands P (flow (primeOf P) c s) k ≡ b → b ≡ false
+      go true h =
+          let i = whole c s (left-whole w .undamaged k l) .0 in
+          absurd (stuck-only w e k (flow (primeOf P) c s) l (flow-pure (primeOf P) (stands P) k c s d (some-residue P c d i) h))
+      go false h = refl
+
+  -- the end is never no inverse: within the limits, every count other than 0 has one
+  pub no-inverse-never : Whole P S → endingNumber (outcome .ending) ≡ 4 → ⊥
+  no-inverse-never w e =
+      let n = no-inverse-only (ruleOf P) slots allowance S (ending-by-number (outcome .ending) NoInverse e) in
+      has-inverse (primeOf P) (stands P) (n .0) (countIn (outcome .left) (n .0)) (idsumIn (outcome .left) (n .0)) prime-pos
+      (count-below P (outcome .left) (left-whole w) (n .0) (decLt (n .0) (length (outcome .left .counts)))) (n .1)
 
   -- never more pops than allowed
-  pub pops-within : o .pops ≤ allowance
+  pub pops-within : outcome .pops ≤ allowance
   pops-within = made (ruleOf P) slots allowance S .within
 
   -- and all of them where the end is spent
-  pub spent-only : o .ending ≡ Spent → o .pops ≡ allowance
-  spent-only = made (ruleOf P) slots allowance S .spent
+  pub spent-only : endingNumber (outcome .ending) ≡ 3 → outcome .pops ≡ allowance
+  spent-only e = made (ruleOf P) slots allowance S .spent (ending-by-number (outcome .ending) Spent e)
 
   -- entry i of the table
   abbrev pub entry : ℕ → Entry
-  entry i = getD t i (by 0 (pos 0))
+  entry i = getD listed i (by 0 (pos 0))
 
-  pub listed-not-zero : (i : ℕ) → i < length t → entry i .number ≡ pos 0 → ⊥
+  pub listed-not-zero : (i : ℕ) → i < length listed → entry i .number ≡ pos 0 → ⊥
   listed-not-zero i l e =
       let z : isZero (entry i .number) ≡ true = is-zero (entry i .number) e in
-      let n = all-at (λ e. not (isZero (e .number))) t i (by 0 (pos 0)) (close-some (o .table)) l in
+      let n = all-at (λ e. not (isZero (e .number))) listed i (by 0 (pos 0)) (close-some (outcome .table)) l in
       true≢false (sym z ∙ not-true _ n)
 
-  pub listed-are-flows : (i : ℕ) → i < length t → isFlow P (entry i .flow) ≡ true
+  pub listed-are-flows : (i : ℕ) → i < length listed → isFlow P (entry i .flow) ≡ true
   listed-are-flows i l =
-      all-at (λ e. ltb (e .flow) (primeOf P)) t i (by 0 (pos 0)) (all-close _ (o .table) (listed (ruleOf P) (sound P) slots allowance S .flows)) l
+      all-at (λ e. ltb (e .flow) (primeOf P)) listed i (by 0 (pos 0)) (all-close _ (outcome .table) (table-facts (ruleOf P) (sound P) slots allowance S .flows)) l
 
-  pub listed-once : (i j : ℕ) → i < j → j < length t → entry i .flow ≡ entry j .flow → ⊥
-  listed-once i j h l = once-at t i j (by 0 (pos 0)) (once-close (o .table) (listed (ruleOf P) (sound P) slots allowance S .apart)) h l
+  pub listed-once : (i j : ℕ) → i < j → j < length listed → entry i .flow ≡ entry j .flow → ⊥
+  listed-once i j h l = once-at listed i j (by 0 (pos 0)) (once-close (outcome .table) (table-facts (ruleOf P) (sound P) slots allowance S .apart)) h l
 
-  pub listed-within : (i : ℕ) → i < length t → inLimits (entry i .number) ≡ true
+  pub listed-within : (i : ℕ) → i < length listed → inLimits (entry i .number) ≡ true
   listed-within i l =
-      all-at (λ e. inLimits (e .number)) t i (by 0 (pos 0)) (all-close _ (o .table) (listed (ruleOf P) (sound P) slots allowance S .limits)) l
+      all-at (λ e. inLimits (e .number)) listed i (by 0 (pos 0)) (all-close _ (outcome .table) (table-facts (ruleOf P) (sound P) slots allowance S .limits)) l
 
-  pub listed-few : length t ≤ slots
-  listed-few = le-trans (close-fewer (o .table)) (listed (ruleOf P) (sound P) slots allowance S .few)
+  pub listed-few : length listed ≤ slots
+  listed-few = le-trans (close-fewer (outcome .table)) (table-facts (ruleOf P) (sound P) slots allowance S .few)
 
   -- entries with count 0 make no difference to the net figure
-  pub net-closed : net t ≡ net (o .table)
-  net-closed = same-net (o .table)
+  pub net-closed : net listed ≡ net (outcome .table)
+  net-closed = same-net (outcome .table)

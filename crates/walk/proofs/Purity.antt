@@ -1,27 +1,29 @@
--- The purity test is sound modulo every prime and for every placing of flows, and so is one that asks more; with a sketch's parameters, the bucket in which a flow is pure is one of the flow's.
-use mathlib.Core.Path.{_≡_, refl, subst}
+-- The purity test is sound modulo every prime and for every placing of flows; with a sketch's parameters it passes exactly where the one flow stands, and that bucket is one of the flow's.
+use mathlib.Core.Path.{_≡_, refl, ap, subst, subst⁻¹, _∙_}
 use mathlib.Core.Bool.{Bool, true, false, cond}
 use Prim.Native.Nat.{ℕ, _+_, _*_, _/_, _%_, _<_}
 use native.Mathlib.Nat.{mod-add-div'}
 use native.Mathlib.Omega.{arith}
-use borrow.Author.Tests.{eqb-true, eqb-false, ltb-true}
+use borrow.Author.Tests.{eqb-true, eqb-false, ne-eqb, ltb-true}
 use lib.Dec.{eqb, ltb}
-use lib.IntN.{ℤ, pos, _*ℤ_}
+use lib.IntN.{ℤ, pos, natAbs, _*ℤ_}
 use Rattle.field.specs.Prime.{Prime}
 use Rattle.field.specs.Residue.{residue}
 use Rattle.field.specs.Flow.{flow}
 use Rattle.field.proofs.Primes.{prime-31}
 use Rattle.field.proofs.Inverses.{prime-pos}
-use Rattle.field.proofs.Residues.{residue-below}
+use Rattle.field.proofs.Residues.{residue-below, residue-nonzero}
 use Rattle.field.proofs.OneFlow.{the-flow}
 use Rattle.sketch.specs.declared.params.Params.{Params}
 use Rattle.sketch.specs.Params.{primeOf, size}
 use Rattle.sketch.specs.Places.{stand, standsIn, stands}
+use Rattle.sketch.specs.Buckets.{inLimits}
 use Rattle.sketch.proofs.Searches.{and-true}
-use Rattle.walk.specs.declared.Found.{Found}
+use Rattle.sketch.proofs.Limits.{limits-size}
 use Rattle.walk.specs.declared.Found.the-variants.{Undefined, Impure, Pure}
-use Rattle.walk.specs.Walk.{Rule, isZero}
-use Rattle.walk.specs.Purity.{testIn, pureTest, ruleOf, onlyIf, narrowed}
+use Rattle.walk.specs.Walk.{isZero}
+use Rattle.walk.specs.Purity.{testIn, pureTest, ruleOf}
+use Rattle.walk.proofs.Zeros.{not-zero}
 use Rattle.walk.proofs.Balance.{Sound}
 use Rattle.walk.proofs.Stuck.{Placed}
 
@@ -39,6 +41,27 @@ module _ (p : ℕ) (on : ℕ → ℕ → Bool) (k : ℕ) (c : ℤ) (s f : ℕ) w
       let w = passed (isZero c) (eqb (residue p c) 0) (on (flow p c s) k) (flow p c s) f e in
       let some : residue p c ≡ 0 → ⊥ = eqb-false _ _ (w .0) in
       (omega arith, subst (λ (g : ℕ). on g k ≡ true) (w .2) (w .1), w .2)
+
+-- and where it finds a count with no inverse
+lacked : (a b t : Bool) (g : ℕ) → cond a Impure (cond b Undefined (cond t (Pure g) Impure)) ≡ Undefined → (a ≡ false) × (b ≡ true)
+lacked true b t g e = absurd (let z : _≡_ {A = ℕ} 0 1 = cc in omega arith)
+lacked false true t g e = (refl, refl)
+lacked false false true g e = absurd (let z : _≡_ {A = ℕ} 0 1 = cc in omega arith)
+lacked false false false g e = absurd (let z : _≡_ {A = ℕ} 0 1 = cc in omega arith)
+
+module _ (p : ℕ) (on : ℕ → ℕ → Bool) (k : ℕ) (c : ℤ) (s : ℕ) where
+  -- a count other than 0 whose size is below the prime has an inverse
+  pub has-inverse : 0 < p → natAbs c < p → testIn p on k c s ≡ Undefined → ⊥
+  unfolding testIn
+  has-inverse h l e =
+      let w = lacked (isZero c) (eqb (residue p c) 0) (on (flow p c s) k) (flow p c s) e in
+      let some : natAbs c ≡ 0 → ⊥ = eqb-false (natAbs c) 0 (w .0) in
+      omega (arith, residue-nonzero p h c (omega arith) l, eqb-true (residue p c) 0 (w .1))
+
+  -- the test passes where the flow stands
+  pub flow-pure : (c ≡ pos 0 → ⊥) → 0 < residue p c → on (flow p c s) k ≡ true → testIn p on k c s ≡ Pure (flow p c s)
+  unfolding testIn
+  flow-pure d r e = rw (not-zero c d, ne-eqb (residue p c) 0 (λ z. omega arith), e)
 
 -- the rule of any prime and any placing
 module _ (p : ℕ) (prime : Prime p) (arrays : ℕ) (index : ℕ → ℕ → ℕ) (on : ℕ → ℕ → Bool) where
@@ -58,26 +81,6 @@ module _ (p : ℕ) (prime : Prime p) (arrays : ℕ) (index : ℕ → ℕ → ℕ
 pub sound : (P : Params) → Sound (ruleOf P)
 sound P = sound-in (primeOf P) prime-31 (P .d) (λ i f. i * P .m + stand P i f) (stands P)
 
--- a test that asks more is sound where the first is
-still : (ok : ℕ → Bool) (w : Found) (f : ℕ) → onlyIf ok w ≡ Pure f → w ≡ Pure f
-still ok Undefined f e = absurd (let z : _≡_ {A = ℕ} 0 1 = cc in omega arith)
-still ok Impure f e = absurd (let z : _≡_ {A = ℕ} 0 1 = cc in omega arith)
-still ok (Pure g) f e = go (ok g) e
-  where
-    go : (b : Bool) → cond b (Pure g) Impure ≡ Pure f → Pure g ≡ Pure f
-    go true x = x
-    go false x = absurd (let z : _≡_ {A = ℕ} 0 1 = cc in omega arith)
-
-pub sound-narrowed : (ok : ℕ → Bool) (R : Rule) → Sound R → Sound (narrowed ok R)
-sound-narrowed ok R h =
-    record {
-      positive = h .positive;
-      solves = λ k c s f l e. h .solves k c s f l (still ok (R .test k c s) f e);
-      a-flow = λ k c s f e. h .a-flow k c s f (still ok (R .test k c s) f e);
-      placed = λ k c s f e. h .placed k c s f (still ok (R .test k c s) f e);
-      empty = λ k s. rw (h .empty k s);
-    }
-
 -- the bucket in which a flow stands is its bucket in one of the arrays
 pub stands-at : (P : Params) (f k : ℕ) → stands P f k ≡ true → (k / P .m < P .d) × (k / P .m * P .m + stand P (k / P .m) f ≡ k)
 unfolding standsIn
@@ -85,13 +88,43 @@ stands-at P f k e =
     let w = and-true (ltb (k / P .m) (P .d)) (eqb (stand P (k / P .m) f) (k % P .m)) e in
     (ltb-true _ _ (w .0), omega (arith, eqb-true (stand P (k / P .m) f) (k % P .m) (w .1), mod-add-div' k (P .m)))
 
--- so the parameters' rule places flows by its arrays, and so does one with a test that asks more
+-- so the parameters' rule places flows by its arrays
 pub placed : (P : Params) → Placed (ruleOf P) (size P)
 placed P = record { array = λ k f l e. (k / P .m, stands-at P f k e .0, stands-at P f k e .1) }
-
-pub placed-narrowed : (ok : ℕ → Bool) (R : Rule) (size : ℕ) → Placed R size → Placed (narrowed ok R) size
-placed-narrowed ok R size h = record { array = h .array }
 
 -- and the bucket in which a flow is pure is one of the flow's
 pub pure-at : (P : Params) (k : ℕ) (c : ℤ) (s f : ℕ) → pureTest P k c s ≡ Pure f → (k / P .m < P .d) × (k / P .m * P .m + stand P (k / P .m) f ≡ k)
 pure-at P k c s f e = stands-at P f k (sound P .placed k c s f e)
+
+-- a count other than 0 within the limits has a residue other than 0
+pub some-residue : (P : Params) (c : ℤ) → (c ≡ pos 0 → ⊥) → inLimits c ≡ true → 0 < residue (primeOf P) c
+some-residue P c d l =
+    let some : natAbs c ≡ 0 → ⊥ = eqb-false (natAbs c) 0 (not-zero c d) in
+    residue-nonzero (primeOf P) (omega arith) c (omega arith) (omega (arith, limits-size c l))
+
+-- the bucket k with count c and idsum s is pure with flow f: c is not 0, and f is a flow with c * f congruent to s, and stands there
+pub record PureWith (P : Params) (k : ℕ) (c : ℤ) (s f : ℕ) : Type 0 where
+  pub some : c ≡ pos 0 → ⊥
+  pub a-flow : f < primeOf P
+  pub solves : residue (primeOf P) (c *ℤ pos f) ≡ s
+  pub there : stands P f k ≡ true
+
+module _ (P : Params) (k : ℕ) (c : ℤ) (s f : ℕ) where
+  pub pure-only : s < primeOf P → pureTest P k c s ≡ Pure f → PureWith P k c s f
+  pure-only l e =
+      record {
+        some = λ z. let i : pureTest P k c s ≡ Impure = ap (λ (c : ℤ). pureTest P k c s) z ∙ sound P .empty k s in let n : _≡_ {A = ℕ} 0 1 = cc in omega arith;
+        a-flow = sound P .a-flow k c s f e;
+        solves = sound P .solves k c s f l e;
+        there = sound P .placed k c s f e;
+      }
+
+  pub pure-if : inLimits c ≡ true → s < primeOf P → PureWith P k c s f → pureTest P k c s ≡ Pure f
+  pure-if i l h =
+      let r = some-residue P c (h .some) i in
+      let one : f ≡ flow (primeOf P) c s = the-flow (primeOf P) prime-31 c r s l .only f (h .a-flow) (h .solves) in
+      subst⁻¹ (λ (g : ℕ). pureTest P k c s ≡ Pure g) one (flow-pure (primeOf P) (stands P) k c s (h .some) r (subst (λ (g : ℕ). stands P g k ≡ true) one (h .there)))
+
+  -- in a bucket within its limits, the test passes exactly where that is so
+  pub pure-exactly : inLimits c ≡ true → s < primeOf P → (pureTest P k c s ≡ Pure f → PureWith P k c s f) × (PureWith P k c s f → pureTest P k c s ≡ Pure f)
+  pure-exactly i l = (pure-only l, pure-if i l)

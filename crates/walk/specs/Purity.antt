@@ -37,19 +37,3 @@ ruleOf P =
       stands = stands P;
       test = pureTest P;
     }
-
--- a rule whose test asks more: only a flow that passes `ok` is pure
-abbrev pub onlyIf : (ℕ → Bool) → Found → Found
-onlyIf ok Undefined = Undefined
-onlyIf ok Impure = Impure
-onlyIf ok (Pure f) = cond (ok f) (Pure f) Impure
-
-abbrev pub narrowed : (ℕ → Bool) → Rule → Rule
-narrowed ok R =
-    record {
-      prime = R .prime;
-      arrays = R .arrays;
-      index = R .index;
-      stands = R .stands;
-      test = λ k c s. onlyIf ok (R .test k c s);
-    }

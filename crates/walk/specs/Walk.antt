@@ -1,4 +1,4 @@
--- The walk, over any prime, any placing of flows and any test of a popped bucket.
+-- The walk, over any prime for idsums, any placing of flows and any test of a popped bucket; the limits of counts are those of a sketch.
 use mathlib.Core.Bool.{Bool, true, false, cond, not, _&&_, _||_}
 use mathlib.Core.List.{List, [], _∷_, _++_}
 use Prim.Native.Nat.{ℕ, zero, suc}

@@ -22,7 +22,8 @@ pub enum Found {
     Pure(u32),
 }
 
-// The purity test of bucket k with count c and idsum s. Where the sizes break a rule, nothing is pure.
+// The purity test of bucket k with count c and idsum s. Where the sizes break a rule, nothing is pure. The arrays and pairs are not
+// judged beyond the sizes, and any count and idsum is taken.
 pub fn test(p: Params, k: usize, c: i32, s: u32) -> Found
     ensures { λ r. ⌜ r ≡ sizedTest p k c s ⌝ }
 {
