@@ -16,3 +16,4 @@ pub mod Taken
 pub mod Turns
 pub mod Begins
 pub mod Peeled
+pub mod Promised
