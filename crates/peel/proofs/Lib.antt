@@ -17,3 +17,4 @@ pub mod Turns
 pub mod Begins
 pub mod Peeled
 pub mod Promised
+pub mod InOrder
