@@ -98,7 +98,6 @@ module _ {P : Params} {a : ℕ} {S : Sketch} {fs : List ℕ} {ns : List ℤ} {q 
   listed = tableOf fs' ns' (peeledEntries r)
 
   -- the answer's number and index are what was judged
-
   pub number-is : peeledNumber r ≡ numberIn told
   number-is = ap peeledNumber (h .answer) ∙ peeled-number told o
 
