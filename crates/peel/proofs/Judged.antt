@@ -15,12 +15,13 @@ use Rattle.sketch.specs.declared.answers.Answer.{Answer}
 use Rattle.sketch.specs.declared.answers.Answer.the-variants.{Done, Refused}
 use Rattle.sketch.specs.Lists.{least}
 use Rattle.sketch.specs.Answers.{refuseAt}
-use Rattle.sketch.specs.Params.{prime, size, shapeAnswer}
+use Rattle.sketch.specs.Params.{prime, size, Sized, shapeAnswer}
 use Rattle.sketch.specs.Buckets.{inLimits}
 use Rattle.sketch.specs.Sketch.{Sketch, sketch, damagedAt}
 use Rattle.sketch.proofs.Judging.{Refusal, first-refused, first-passed, first-done, refuse-done, refuse-at-done, refuse-found, refuse-past}
 use Rattle.sketch.proofs.Rules.{shape-done}
 use Rattle.sketch.proofs.Searches.{and-true}
+use Rattle.walk.proofs.Promises.{Whole}
 use Rattle.peel.specs.Rep.{Sound}
 use Rattle.peel.specs.Peel.{peelAnswer}
 
@@ -100,22 +101,33 @@ module _ (n : ℕ) (cs : List ℤ) (ss : List ℕ) (long : length cs ≡ n) (lon
   idsum-within (no h) = rw (List·getD-eq-default ss 0 {n = k} (omega arith)) (omega arith)
 
 -- where nothing is refused
+passed : (P : Params) (S : Sketch) (flows numbers queue marks : ℕ) → peelAnswer P S flows numbers queue marks ≡ Done → Sized P × Whole P S × Lent P flows numbers queue marks
+unfolding peelAnswer
+passed P S flows numbers queue marks e =
+    let h = first-done (shapeAnswer P (length (S .counts)) (length (S .idsums))) _ e in
+    let k = shape-done P (length (S .counts)) (length (S .idsums)) (h .0) in
+    let t = refuse-done (not (lent P flows numbers queue marks)) Length 0 _ (h .1) in (
+      k .0,
+      record { counts-long = k .1; idsums-long = k .2; undamaged = refuse-at-done (size P) (damagedAt S) Damage Done (t .1) .0 },
+      lent-is P flows numbers queue marks (not-false _ (t .0)),
+    )
+
+pub judged-whole : (P : Params) (S : Sketch) (flows numbers queue marks : ℕ) → peelAnswer P S flows numbers queue marks ≡ Done → Whole P S
+judged-whole P S flows numbers queue marks e = passed P S flows numbers queue marks e .1
+
 pub judged-sound : (P : Params) (cs : List ℤ) (ss fs : List ℕ) (ns : List ℤ) (q ms : List ℕ)
     → peelAnswer P (sketch cs ss) (length fs) (length ns) (length q) (length ms) ≡ Done → Sound P cs ss fs ns q ms
-unfolding peelAnswer
 judged-sound P cs ss fs ns q ms e =
-    let h = first-done (shapeAnswer P (length cs) (length ss)) _ e in
-    let k = shape-done P (length cs) (length ss) (h .0) in
-    let t = refuse-done (not (lent P (length fs) (length ns) (length q) (length ms))) Length 0 _ (h .1) in
-    let l = lent-is P (length fs) (length ns) (length q) (length ms) (not-false _ (t .0)) in
-    let d = refuse-at-done (size P) (damagedAt (sketch cs ss)) Damage Done (t .1) .0 in
+    let h = passed P (sketch cs ss) (length fs) (length ns) (length q) (length ms) e in
+    let w = h .1 in
+    let l = h .2 in
     record {
-      sized = k .0;
+      sized = h .0;
       sane = record {
-        long = k .1;
-        long-ids = k .2;
-        counts = λ i. count-within (size P) cs ss (k .1) (k .2) d i (decLt i (size P));
-        idsums = λ i. idsum-within (size P) cs ss (k .1) (k .2) d i (decLt i (size P));
+        long = w .counts-long;
+        long-ids = w .idsums-long;
+        counts = λ i. count-within (size P) cs ss (w .counts-long) (w .idsums-long) (w .undamaged) i (decLt i (size P));
+        idsums = λ i. idsum-within (size P) cs ss (w .counts-long) (w .idsums-long) (w .undamaged) i (decLt i (size P));
       };
       slots = sym (l .same);
       few-slots = l .few;

@@ -16,3 +16,5 @@ pub mod Taken
 pub mod Turns
 pub mod Begins
 pub mod Peeled
+pub mod Promised
+pub mod InOrder

@@ -1,16 +1,17 @@
--- A slice that is 0 from a place on, as a list filled up with zeros, and the slices of a table that end so.
+-- A slice that is 0 from a place on, as a list filled up with zeros, and the slices of a table that end so; and back.
 use mathlib.Core.Path.{_≡_, refl, sym, ap, ap₂, _∙_}
 use mathlib.Core.List.{List, [], _∷_, _++_}
 use Prim.Native.Nat.{ℕ, zero, suc, _+_, _-_, _<_, _≤_}
 use native.Mathlib.Omega.{arith}
 use lib.IntN.{ℤ, pos}
 use lib.ListN.{length, getD, take, drop, replicate, length-drop, take-append-drop}
-use lib.Seq.{length-take-le, getD-take, getD-drop, ext-getD}
+use lib.Seq.{length-take-le, getD-take, getD-drop, getD-append-add, ext-getD}
 use Rattle.sketch.specs.Lists.{from}
 use Rattle.sketch.specs.Sketch.{Entry}
 use Rattle.sketch.proofs.Tables.{length-from, getD-from}
 use Rattle.peel.specs.Table.{row, tableOf}
 use Rattle.peel.specs.Peel.{flowsOf, numbersOf, padded}
+use Rattle.peel.proofs.Froms.{from-first}
 
 module _ {A : Type 0} (z : A) where
   -- z everywhere
@@ -59,3 +60,39 @@ module _ (fs : List ℕ) (ns : List ℤ) (n : ℕ) (T : List Entry) (t : tableOf
   padded-numbers L e u h =
       zeros-padded (pos 0) ns n (omega arith) h
       ∙ ap₂ (λ (m : ℕ) (l : List ℤ). padded m (pos 0) l) e (sym (numbers-from 0 n (row fs ns)) ∙ ap numbersOf t)
+
+-- what is past a list that is filled up
+pub padded-past : {A : Type 0} (n : ℕ) (z : A) (xs : List A) (k : ℕ) → length xs ≤ k → getD (padded n z xs) k z ≡ z
+unfolding padded
+padded-past n z xs k l =
+    let e : length xs + (k - length xs) ≡ k = omega arith in
+    ap (λ (i : ℕ). getD (xs ++ replicate (n - length xs) z) i z) (sym e)
+    ∙ getD-append-add xs (replicate (n - length xs) z) (k - length xs) z
+    ∙ zeros-at (n - length xs) (k - length xs)
+  where
+    zeros-at : (m i : ℕ) → getD (replicate m z) i z ≡ z
+    zeros-at zero i = refl
+    zeros-at (suc m) zero = refl
+    zeros-at (suc m) (suc i) = zeros-at m i
+
+pub flows-many : (T : List Entry) → length (flowsOf T) ≡ length T
+unfolding flowsOf
+flows-many [] = refl
+flows-many (e ∷ es) = ap suc (flows-many es)
+
+pub numbers-many : (T : List Entry) → length (numbersOf T) ≡ length T
+unfolding numbersOf
+numbers-many [] = refl
+numbers-many (e ∷ es) = ap suc (numbers-many es)
+
+-- the table read off its slices, whatever is past it
+table-back : (T : List Entry) (xs : List ℕ) (ys : List ℤ) → tableOf (flowsOf T ++ xs) (numbersOf T ++ ys) (length T) ≡ T
+unfolding tableOf flowsOf numbersOf from
+table-back [] xs ys = refl
+table-back (e ∷ es) xs ys =
+    from-first (length es) (row (flowsOf (e ∷ es) ++ xs) (numbersOf (e ∷ es) ++ ys))
+    ∙ ap (λ (t : List Entry). e ∷ t) (table-back es xs ys)
+
+pub table-padded : (T : List Entry) (n m : ℕ) → tableOf (padded n 0 (flowsOf T)) (padded m (pos 0) (numbersOf T)) (length T) ≡ T
+unfolding padded
+table-padded T n m = table-back T (replicate (n - length (flowsOf T)) 0) (replicate (m - length (numbersOf T)) (pos 0))

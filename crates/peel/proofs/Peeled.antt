@@ -1,4 +1,4 @@
--- What peeling promises, where it is refused and where it is done.
+-- The record `Peels` put together from its parts, where peeling is refused and where it is done.
 use mathlib.Core.Path.{_≡_, refl, sym, ap, _∙_}
 use mathlib.Core.List.{List}
 use Prim.Native.Nat.{ℕ, _≤_}

@@ -1,4 +1,5 @@
--- What peeling answers and leaves, and how the slices of the walk stand for the state of its definition.
+-- What peeling answers and leaves, which a caller reads in Peel. The other files serve the contracts of private functions: how
+-- the slices of the walk stand for the state of its definition.
 pub mod Ring
 pub mod Table
 pub mod Dirt

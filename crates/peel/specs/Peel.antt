@@ -7,13 +7,13 @@ use lib.IntN.{ℤ, pos}
 use lib.Dec.{eqb, leb}
 use lib.ListN.{length, replicate}
 use Rattle.sketch.specs.declared.params.Params.{Params}
-use Rattle.sketch.specs.declared.answers.Why.{Why}
 use Rattle.sketch.specs.declared.answers.Why.the-variants.{Length, Damage}
 use Rattle.sketch.specs.declared.answers.Answer.{Answer}
 use Rattle.sketch.specs.declared.answers.Answer.the-variants.{Done, Refused}
-use Rattle.sketch.specs.Answers.{refuseIf, refuseAt, first, kept}
+use Rattle.sketch.specs.Answers.{numberOf, refuseIf, refuseAt, first, kept}
 use Rattle.sketch.specs.Params.{size, shapeAnswer}
 use Rattle.sketch.specs.Sketch.{Sketch, Entry, damagedAt}
+use Rattle.walk.specs.Endings.{endingNumber}
 use Rattle.walk.specs.Walk.{Outcome, walk, close, net}
 use Rattle.walk.specs.Purity.{ruleOf}
 use Rattle.peel.specs.declared.peeling.Figures.{Figures}
@@ -37,6 +37,32 @@ abbrev pub peeledOf : Answer → Outcome → Peeled
 peeledOf Done o = Ended (figuresOf o)
 peeledOf (Refused w k) o = NotPeeled w k
 
+-- the caller's number and values: 0 where peeling ended, else the refusal's number and index; the ending's number, the pops, the
+-- net figure and the table's entries, all 0 where it is refused
+abbrev pub peeledNumber : Peeled → ℕ
+peeledNumber (Ended g) = 0
+peeledNumber (NotPeeled w k) = numberOf w
+
+abbrev pub peeledIndex : Peeled → ℕ
+peeledIndex (Ended g) = 0
+peeledIndex (NotPeeled w k) = k
+
+abbrev pub peeledEnding : Peeled → ℕ
+peeledEnding (Ended g) = endingNumber (g .ending)
+peeledEnding (NotPeeled w k) = 0
+
+abbrev pub peeledPops : Peeled → ℕ
+peeledPops (Ended g) = g .pops
+peeledPops (NotPeeled w k) = 0
+
+abbrev pub peeledNet : Peeled → ℤ
+peeledNet (Ended g) = g .net
+peeledNet (NotPeeled w k) = pos 0
+
+abbrev pub peeledEntries : Peeled → ℕ
+peeledEntries (Ended g) = g .entries
+peeledEntries (NotPeeled w k) = 0
+
 -- a table's flows and its numbers
 unfoldable pub flowsOf : List Entry → List ℕ
 flowsOf [] = []
@@ -50,7 +76,7 @@ numbersOf (e ∷ es) = e .number ∷ numbersOf es
 unfoldable pub padded : {A : Type 0} → ℕ → A → List A → List A
 padded n z xs = xs ++ replicate (n - length xs) z
 
--- S, fs, ns, q and ms are the sketch, the table's slices, the queue and the marks before; with a prime, after
+-- S, fs, ns, q and ms are the sketch, the table's slices, the queue and the marks before; with a tick, after
 module _ (P : Params) (allowance : ℕ) (S : Sketch) (fs : List ℕ) (ns : List ℤ) (q ms : List ℕ) where
   abbrev pub judged : Answer
   judged = peelAnswer P S (length fs) (length ns) (length q) (length ms)

@@ -1,4 +1,4 @@
-// The ring of waiting buckets: w indexes from place h on, and a mark for each bucket that waits.
+// The ring of waiting buckets: `waiting` indexes from place `head` on, and a mark for each bucket that waits.
 ghost use mathlib.Core.Path.{_≡_};
 ghost use Prim.Native.Nat.{ℕ, _+_, _*_, _<_, _≤_};
 ghost use lib.ListN.{length, getD};

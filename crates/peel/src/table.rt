@@ -32,7 +32,7 @@ pub(crate) fn find(flows: &[u32], n: usize, f: u32) -> usize
     i
 }
 
-// c more for f, whose place is at: the number of entries then.
+// c more for f, whose place is `at`: the number of entries then.
 pub(crate) fn credit(
     flows: &mut [u32],
     numbers: &mut [i32],

@@ -1,4 +1,4 @@
-// The walk: a loop that yields its ending, out of the nested take over the arrays too.
+// The walk: a loop that yields its ending, out of the nested range test over the arrays too.
 ghost use mathlib.Core.Path.{_≡_};
 ghost use Prim.Native.Nat.{ℕ, _+_, _<_, _≤_};
 ghost use lib.ListN.{length};

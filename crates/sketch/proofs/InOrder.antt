@@ -77,22 +77,22 @@ found-some n t false e =
     sym (ap not (all-below n (λ k. not (t k)) (λ k l. ap not (none-found n t e k l))))
 
 -- the number of an answer, fault by fault
-refuse-number : (b : Bool) (w : Why) (k : ℕ) (next : Answer) → numberIn (refuseIf b w k next) ≡ cond b (numberOf w) (numberIn next)
+pub refuse-number : (b : Bool) (w : Why) (k : ℕ) (next : Answer) → numberIn (refuseIf b w k next) ≡ cond b (numberOf w) (numberIn next)
 refuse-number true w k next = refl
 refuse-number false w k next = refl
 
-refuse-at-number : (n : ℕ) (t : ℕ → Bool) (w : Why) (next : Answer) → numberIn (refuseAt n t w next) ≡ cond (some n t) (numberOf w) (numberIn next)
+pub refuse-at-number : (n : ℕ) (t : ℕ → Bool) (w : Why) (next : Answer) → numberIn (refuseAt n t w next) ≡ cond (some n t) (numberOf w) (numberIn next)
 unfolding refuseAt
 refuse-at-number n t w next =
     refuse-number (ltb (least 0 n t) n) w (least 0 n t) next ∙ ap (λ (b : Bool). cond b (numberOf w) (numberIn next)) (found-some n t _ refl)
 
-first-refuse : (b : Bool) (w : Why) (k : ℕ) (r next : Answer) → first (refuseIf b w k r) next ≡ refuseIf b w k (first r next)
+pub first-refuse : (b : Bool) (w : Why) (k : ℕ) (r next : Answer) → first (refuseIf b w k r) next ≡ refuseIf b w k (first r next)
 unfolding first
 first-refuse true w k r next = refl
 first-refuse false w k r next = refl
 
 -- two tests with the same number
-cond-either : (s t : Bool) (n k : ℕ) → cond s n (cond t n k) ≡ cond (s || t) n k
+pub cond-either : (s t : Bool) (n k : ℕ) → cond s n (cond t n k) ≡ cond (s || t) n k
 cond-either true t n k = refl
 cond-either false t n k = refl
 

@@ -1,0 +1,236 @@
+-- What a caller of `peel` may rely on: the promises of peeling, at the answer it gets and the slices it lent.
+use mathlib.Core.Path.{_≡_, refl, sym, ap, subst, _∙_}
+use mathlib.Core.Bool.{true, false, cond}
+use mathlib.Core.List.{List}
+use Prim.Native.Nat.{ℕ, _<_, _≤_}
+use native.Mathlib.Nat.{zero-add}
+use native.Mathlib.Omega.{arith}
+use lib.Dec.{eqb}
+use lib.IntN.{ℤ, pos}
+use lib.ListN.{length, getD, replicate}
+use Rattle.sketch.specs.declared.params.Params.{Params}
+use Rattle.sketch.specs.declared.answers.Why.{Why}
+use Rattle.sketch.specs.declared.answers.Why.the-variants.{Param, Length, Flow, Count, Damage, Range as OutOfRange, Mismatch, Form}
+use Rattle.sketch.specs.declared.answers.Answer.{Answer}
+use Rattle.sketch.specs.declared.answers.Answer.the-variants.{Done, Refused}
+use Rattle.sketch.specs.Answers.{numberOf, numberIn, indexIn, kept}
+use Rattle.sketch.specs.Params.{size, isFlow}
+use Rattle.sketch.specs.Buckets.{inLimits}
+use Rattle.sketch.specs.Sketch.{Sketch, Entry, by, countIn, idsumIn, sketchOf}
+use Rattle.sketch.specs.Sums.{combined}
+use Rattle.sketch.proofs.Tables.{getD-from}
+use Rattle.walk.specs.declared.Ending.{Ending}
+use Rattle.walk.specs.declared.Ending.the-variants.{Clean, Stuck, Spent, NoInverse, Range, Full}
+use Rattle.walk.specs.declared.Found.the-variants.{Pure}
+use Rattle.walk.specs.Endings.{endingNumber}
+use Rattle.walk.specs.Walk.{Outcome, close, net}
+use Rattle.walk.specs.Purity.{pureTest}
+use Rattle.walk.proofs.Promises as walks
+use Rattle.walk.proofs.Promises.{Whole, Nothing}
+use Rattle.peel.specs.declared.peeling.Peeled.{Peeled}
+use Rattle.peel.specs.Table.{row, tableOf}
+use Rattle.peel.specs.Peel.{peeledOf, peeledNumber, peeledIndex, peeledEnding, peeledPops, peeledNet, peeledEntries, flowsOf, numbersOf, padded, judged, walked, Peels}
+use Rattle.peel.proofs.Padding.{padded-past, flows-many, numbers-many, table-padded}
+use Rattle.peel.proofs.Judged.{judged-whole}
+
+-- a refusal has a number
+number-some : (w : Why) → numberOf w ≡ 0 → ⊥
+number-some Param e = omega arith
+number-some Length e = omega arith
+number-some Flow e = omega arith
+number-some Count e = omega arith
+number-some Damage e = omega arith
+number-some OutOfRange e = omega arith
+number-some Mismatch e = omega arith
+number-some Form e = omega arith
+
+-- an ending is known by its number
+ofNumber : ℕ → Ending
+ofNumber n = cond (eqb n 1) Clean (cond (eqb n 2) Stuck (cond (eqb n 3) Spent (cond (eqb n 4) NoInverse (cond (eqb n 5) Range Full))))
+
+numbered : (x : Ending) → ofNumber (endingNumber x) ≡ x
+unfolding ofNumber
+numbered Clean = refl
+numbered Stuck = refl
+numbered Spent = refl
+numbered NoInverse = refl
+numbered Range = refl
+numbered Full = refl
+
+same-ending : (x y : Ending) → endingNumber x ≡ endingNumber y → x ≡ y
+same-ending x y e = sym (numbered x) ∙ ap ofNumber e ∙ numbered y
+
+answer-done : (x : Answer) → numberIn x ≡ 0 → x ≡ Done
+answer-done Done e = refl
+answer-done (Refused w k) e = absurd (number-some w e)
+
+peeled-number : (x : Answer) (o : Outcome) → peeledNumber (peeledOf x o) ≡ numberIn x
+peeled-number Done o = refl
+peeled-number (Refused w k) o = refl
+
+peeled-index : (x : Answer) (o : Outcome) → peeledIndex (peeledOf x o) ≡ indexIn x
+peeled-index Done o = refl
+peeled-index (Refused w k) o = refl
+
+refusal-keeps : {A : Type 0} (x : Answer) (old new : A) → (numberIn x ≡ 0 → ⊥) → kept x old new ≡ old
+unfolding kept
+refusal-keeps Done old new n = absurd (n refl)
+refusal-keeps (Refused w k) old new n = refl
+
+done-alters : {A : Type 0} (x : Answer) (old new : A) → x ≡ Done → kept x old new ≡ new
+unfolding kept
+done-alters x old new e = rw e
+
+-- h is what the contract of `peel` gives; with a tick, after
+module _ {P : Params} {a : ℕ} {S : Sketch} {fs : List ℕ} {ns : List ℤ} {q ms : List ℕ} {r : Peeled} {S' : Sketch} {fs' : List ℕ} {ns' : List ℤ} {q' ms' : List ℕ}
+    (h : Peels P a S fs ns q ms r S' fs' ns' q' ms') where
+  abbrev o : Outcome
+  o = walked P a S fs ns q ms
+
+  abbrev told : Answer
+  told = judged P a S fs ns q ms
+
+  -- the walk's table after the close, and the table as the caller reads it
+  abbrev closed : List Entry
+  closed = close (o .table)
+
+  abbrev pub listed : List Entry
+  listed = tableOf fs' ns' (peeledEntries r)
+
+  -- the answer's number and index are what was judged
+  pub number-is : peeledNumber r ≡ numberIn told
+  number-is = ap peeledNumber (h .answer) ∙ peeled-number told o
+
+  pub index-is : peeledIndex r ≡ indexIn told
+  index-is = ap peeledIndex (h .answer) ∙ peeled-index told o
+
+  -- a refusal alters nothing
+  module _ (refused : peeledNumber r ≡ 0 → ⊥) where
+    not-done : numberIn told ≡ 0 → ⊥
+    not-done e = refused (number-is ∙ e)
+
+    pub refused-keeps : (S' ≡ S) × (fs' ≡ fs) × (ns' ≡ ns) × (q' ≡ q) × (ms' ≡ ms)
+    refused-keeps = (
+      h .left ∙ refusal-keeps told _ _ not-done,
+      h .flows ∙ refusal-keeps told _ _ not-done,
+      h .numbers ∙ refusal-keeps told _ _ not-done,
+      h .queue ∙ refusal-keeps told _ _ not-done,
+      h .marks ∙ refusal-keeps told _ _ not-done,
+    )
+
+  -- from here on peeling ended
+  module _ (ended : peeledNumber r ≡ 0) where
+    done : told ≡ Done
+    done = answer-done told (sym number-is ∙ ended)
+
+    answer-is : r ≡ peeledOf Done o
+    answer-is = h .answer ∙ ap (λ (x : Answer). peeledOf x o) done
+
+    left-is : S' ≡ o .left
+    left-is = h .left ∙ done-alters told _ _ done
+
+    flows-are : fs' ≡ padded (length fs) 0 (flowsOf closed)
+    flows-are = h .flows ∙ done-alters told _ _ done
+
+    numbers-are : ns' ≡ padded (length ns) (pos 0) (numbersOf closed)
+    numbers-are = h .numbers ∙ done-alters told _ _ done
+
+    entries-are : peeledEntries r ≡ length closed
+    entries-are = ap peeledEntries answer-is
+
+    ending-is : peeledEnding r ≡ endingNumber (o .ending)
+    ending-is = ap peeledEnding answer-is
+
+    pub listed-is : listed ≡ closed
+    listed-is = rw (flows-are, numbers-are, entries-are) (table-padded closed (length fs) (length ns))
+
+    -- what was lent is a whole sketch
+    pub sound-input : Whole P S
+    sound-input = judged-whole P S (length fs) (length ns) (length q) (length ms) done
+
+    -- the table's sketch, added to what is left, is the input
+    pub balance : combined false S' (sketchOf P listed) ≡ S
+    balance = rw (left-is, listed-is) (walks.balance P (length fs) a S sound-input)
+
+    -- what is left is whole too
+    pub left-whole : Whole P S'
+    left-whole = subst (Whole P) (sym left-is) (walks.left-whole P (length fs) a S sound-input)
+
+    -- clean exactly where nothing is left, and the table's sketch is the input then
+    clean-is : peeledEnding r ≡ 1 → o .ending ≡ Clean
+    clean-is e = same-ending (o .ending) Clean (sym ending-is ∙ e)
+
+    pub clean-exactly : (peeledEnding r ≡ 1 → Nothing S') × (Nothing S' → peeledEnding r ≡ 1)
+    clean-exactly = (
+      λ e. subst (λ (T : Sketch). Nothing T) (sym left-is) (walks.clean-only P (length fs) a S (clean-is e)),
+      λ n. ending-is ∙ ap endingNumber (walks.clean-if P (length fs) a S (subst (λ (T : Sketch). Nothing T) left-is n)),
+    )
+
+    pub clean-table : peeledEnding r ≡ 1 → sketchOf P listed ≡ S
+    clean-table e = ap (sketchOf P) listed-is ∙ walks.clean-table P (length fs) a S sound-input (clean-is e)
+
+    -- stuck only where something is left, and no bucket of it passes the purity test
+    stuck-is : peeledEnding r ≡ 2 → o .ending ≡ Stuck
+    stuck-is e = same-ending (o .ending) Stuck (sym ending-is ∙ e)
+
+    pub stuck-left : peeledEnding r ≡ 2 → Nothing S' → ⊥
+    stuck-left e n = walks.stuck-left P (length fs) a S (stuck-is e) (subst (λ (T : Sketch). Nothing T) left-is n)
+
+    pub stuck-only : peeledEnding r ≡ 2 → (k f : ℕ) → k < size P → pureTest P k (countIn S' k) (idsumIn S' k) ≡ Pure f → ⊥
+    stuck-only e k f l t =
+        walks.stuck-only P (length fs) a S sound-input (stuck-is e) k f l
+        (subst (λ (T : Sketch). pureTest P k (countIn T k) (idsumIn T k) ≡ Pure f) left-is t)
+
+    -- never more pops than allowed, and all of them where the end is spent
+    pops-are : peeledPops r ≡ o .pops
+    pops-are = ap peeledPops answer-is
+
+    pub pops-within : peeledPops r ≤ a
+    pops-within = omega (arith, pops-are, walks.pops-within P (length fs) a S)
+
+    pub spent-only : peeledEnding r ≡ 3 → peeledPops r ≡ a
+    spent-only e = pops-are ∙ walks.spent-only P (length fs) a S (same-ending (o .ending) Spent (sym ending-is ∙ e))
+
+    -- the net figure is that of the table
+    pub net-is : peeledNet r ≡ net listed
+    net-is = ap peeledNet answer-is ∙ ap net (sym listed-is)
+
+    -- slot i of the table, below its entries
+    slot-is : (i : ℕ) → i < peeledEntries r → getD closed i (by 0 (pos 0)) ≡ row fs' ns' i
+    unfolding tableOf
+    slot-is i l =
+        ap (λ (t : List Entry). getD t i (by 0 (pos 0))) (sym listed-is)
+        ∙ getD-from 0 (peeledEntries r) (row fs' ns') i (by 0 (pos 0)) l
+        ∙ ap (row fs' ns') (zero-add i)
+
+    pub listed-not-zero : (i : ℕ) → i < peeledEntries r → getD ns' i (pos 0) ≡ pos 0 → ⊥
+    listed-not-zero i l z = walks.listed-not-zero P (length fs) a S i (omega (arith, entries-are)) (ap (λ (e : Entry). e .number) (slot-is i l) ∙ z)
+
+    pub listed-within : (i : ℕ) → i < peeledEntries r → inLimits (getD ns' i (pos 0)) ≡ true
+    listed-within i l =
+        ap (λ (e : Entry). inLimits (e .number)) (sym (slot-is i l)) ∙ walks.listed-within P (length fs) a S i (omega (arith, entries-are))
+
+    pub listed-are-flows : (i : ℕ) → i < peeledEntries r → isFlow P (getD fs' i 0) ≡ true
+    listed-are-flows i l =
+        ap (λ (e : Entry). isFlow P (e .flow)) (sym (slot-is i l)) ∙ walks.listed-are-flows P (length fs) a S i (omega (arith, entries-are))
+
+    pub listed-once : (i j : ℕ) → i < j → j < peeledEntries r → getD fs' i 0 ≡ getD fs' j 0 → ⊥
+    listed-once i j b l e =
+        walks.listed-once P (length fs) a S i j b (omega (arith, entries-are))
+        (ap (λ (x : Entry). x .flow) (slot-is i (omega arith)) ∙ e ∙ sym (ap (λ (x : Entry). x .flow) (slot-is j l)))
+
+    pub listed-few : peeledEntries r ≤ length fs
+    listed-few = omega (arith, entries-are, walks.listed-few P (length fs) a S)
+
+    -- table slots past the entries, the queue and the marks are all 0
+    pub cleared-flows : (k : ℕ) → peeledEntries r ≤ k → getD fs' k 0 ≡ 0
+    cleared-flows k l = rw flows-are (padded-past (length fs) 0 (flowsOf closed) k (omega (arith, entries-are, flows-many closed)))
+
+    pub cleared-numbers : (k : ℕ) → peeledEntries r ≤ k → getD ns' k (pos 0) ≡ pos 0
+    cleared-numbers k l = rw numbers-are (padded-past (length ns) (pos 0) (numbersOf closed) k (omega (arith, entries-are, numbers-many closed)))
+
+    pub cleared-queue : q' ≡ replicate (size P) 0
+    cleared-queue = h .queue ∙ done-alters told _ _ done
+
+    pub cleared-marks : ms' ≡ replicate (size P) 0
+    cleared-marks = h .marks ∙ done-alters told _ _ done
