@@ -1,11 +1,10 @@
 -- What a caller of `peel` may rely on: the promises of peeling, at the answer it gets and the slices it lent.
 use mathlib.Core.Path.{_≡_, refl, sym, ap, subst, _∙_}
-use mathlib.Core.Bool.{true, false, cond}
+use mathlib.Core.Bool.{true}
 use mathlib.Core.List.{List}
 use Prim.Native.Nat.{ℕ, _<_, _≤_}
 use native.Mathlib.Nat.{zero-add}
 use native.Mathlib.Omega.{arith}
-use lib.Dec.{eqb}
 use lib.IntN.{ℤ, pos}
 use lib.ListN.{length, getD, replicate}
 use Rattle.sketch.specs.declared.params.Params.{Params}
@@ -19,8 +18,6 @@ use Rattle.sketch.specs.Buckets.{inLimits}
 use Rattle.sketch.specs.Sketch.{Sketch, Entry, by, countIn, idsumIn, sketchOf}
 use Rattle.sketch.specs.Sums.{combined}
 use Rattle.sketch.proofs.Tables.{getD-from}
-use Rattle.walk.specs.declared.Ending.{Ending}
-use Rattle.walk.specs.declared.Ending.the-variants.{Clean, Stuck, Spent, NoInverse, Range, Full}
 use Rattle.walk.specs.declared.Found.the-variants.{Pure}
 use Rattle.walk.specs.Endings.{endingNumber}
 use Rattle.walk.specs.Walk.{Outcome, close, net}
@@ -43,22 +40,6 @@ number-some Damage e = omega arith
 number-some OutOfRange e = omega arith
 number-some Mismatch e = omega arith
 number-some Form e = omega arith
-
--- an ending is known by its number
-ofNumber : ℕ → Ending
-ofNumber n = cond (eqb n 1) Clean (cond (eqb n 2) Stuck (cond (eqb n 3) Spent (cond (eqb n 4) NoInverse (cond (eqb n 5) Range Full))))
-
-numbered : (x : Ending) → ofNumber (endingNumber x) ≡ x
-unfolding ofNumber
-numbered Clean = refl
-numbered Stuck = refl
-numbered Spent = refl
-numbered NoInverse = refl
-numbered Range = refl
-numbered Full = refl
-
-same-ending : (x y : Ending) → endingNumber x ≡ endingNumber y → x ≡ y
-same-ending x y e = sym (numbered x) ∙ ap ofNumber e ∙ numbered y
 
 answer-done : (x : Answer) → numberIn x ≡ 0 → x ≡ Done
 answer-done Done e = refl
@@ -157,28 +138,22 @@ module _ {P : Params} {a : ℕ} {S : Sketch} {fs : List ℕ} {ns : List ℤ} {q 
     left-whole = subst (Whole P) (sym left-is) (walks.left-whole P (length fs) a S sound-input)
 
     -- clean exactly where nothing is left, and the table's sketch is the input then
-    clean-is : peeledEnding r ≡ 1 → o .ending ≡ Clean
-    clean-is e = same-ending (o .ending) Clean (sym ending-is ∙ e)
-
     pub clean-exactly : (peeledEnding r ≡ 1 → Nothing S') × (Nothing S' → peeledEnding r ≡ 1)
     clean-exactly = (
-      λ e. subst (λ (T : Sketch). Nothing T) (sym left-is) (walks.clean-only P (length fs) a S (clean-is e)),
-      λ n. ending-is ∙ ap endingNumber (walks.clean-if P (length fs) a S (subst (λ (T : Sketch). Nothing T) left-is n)),
+      λ e. subst (λ (T : Sketch). Nothing T) (sym left-is) (walks.clean-only P (length fs) a S (sym ending-is ∙ e)),
+      λ n. ending-is ∙ walks.clean-if P (length fs) a S (subst (λ (T : Sketch). Nothing T) left-is n),
     )
 
     pub clean-table : peeledEnding r ≡ 1 → sketchOf P listed ≡ S
-    clean-table e = ap (sketchOf P) listed-is ∙ walks.clean-table P (length fs) a S sound-input (clean-is e)
+    clean-table e = ap (sketchOf P) listed-is ∙ walks.clean-table P (length fs) a S sound-input (sym ending-is ∙ e)
 
     -- stuck only where something is left, and no bucket of it passes the purity test
-    stuck-is : peeledEnding r ≡ 2 → o .ending ≡ Stuck
-    stuck-is e = same-ending (o .ending) Stuck (sym ending-is ∙ e)
-
     pub stuck-left : peeledEnding r ≡ 2 → Nothing S' → ⊥
-    stuck-left e n = walks.stuck-left P (length fs) a S (stuck-is e) (subst (λ (T : Sketch). Nothing T) left-is n)
+    stuck-left e n = walks.stuck-left P (length fs) a S (sym ending-is ∙ e) (subst (λ (T : Sketch). Nothing T) left-is n)
 
     pub stuck-only : peeledEnding r ≡ 2 → (k f : ℕ) → k < size P → pureTest P k (countIn S' k) (idsumIn S' k) ≡ Pure f → ⊥
     stuck-only e k f l t =
-        walks.stuck-only P (length fs) a S sound-input (stuck-is e) k f l
+        walks.stuck-only P (length fs) a S sound-input (sym ending-is ∙ e) k f l
         (subst (λ (T : Sketch). pureTest P k (countIn T k) (idsumIn T k) ≡ Pure f) left-is t)
 
     -- never more pops than allowed, and all of them where the end is spent
@@ -189,7 +164,7 @@ module _ {P : Params} {a : ℕ} {S : Sketch} {fs : List ℕ} {ns : List ℤ} {q 
     pops-within = omega (arith, pops-are, walks.pops-within P (length fs) a S)
 
     pub spent-only : peeledEnding r ≡ 3 → peeledPops r ≡ a
-    spent-only e = pops-are ∙ walks.spent-only P (length fs) a S (same-ending (o .ending) Spent (sym ending-is ∙ e))
+    spent-only e = pops-are ∙ walks.spent-only P (length fs) a S (sym ending-is ∙ e)
 
     -- the net figure is that of the table
     pub net-is : peeledNet r ≡ net listed
