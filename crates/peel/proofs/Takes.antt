@@ -2,25 +2,27 @@
 use mathlib.Core.Path.{_≡_, sym, ap, _∙_}
 use mathlib.Core.Bool.{Bool, true, false, cond, _&&_}
 use mathlib.Core.List.{List}
-use Prim.Native.Nat.{ℕ, _+_, _*_, _≤_, _<_}
+use Prim.Native.Nat.{ℕ, _+_, _-_, _*_, _≤_, _<_}
 use native.Mathlib.Decide.{decLt}
 use native.Mathlib.Omega.{arith}
-use borrow.Author.Tests.{lt-ltb, le-leb}
-use lib.Dec.{ltb}
+use borrow.Author.Tests.{le-leb}
+use lib.Dec.{leb}
 use lib.ListN.{length, getD, set, length-set}
 use lib.Seq.{getD-set-other}
 use Rattle.sketch.specs.declared.params.Params.{Params}
 use Rattle.sketch.specs.Lists.{touched}
 use Rattle.sketch.specs.Params.{Sized, goodSizes}
-use Rattle.sketch.specs.Places.{stand, standsIn}
+use Rattle.sketch.specs.Places.{position, standsIn}
 use Rattle.sketch.proofs.Changes.{untouched, touch-next}
 use Rattle.sketch.proofs.Rules.{Begun, next-placed, sizes-good}
 use Rattle.sketch.proofs.Standing.{standing-past, standing-next}
 
 -- one place more, as `stand` tells it; where there is no such array, it matters to none
-module _ {P : Params} {f : ℕ} {ks : List ℕ} (z : Sized P) (n : ℕ) {k : ℕ} (b : Begun P f n ks) (h : n < 4) (e : k ≡ cond (goodSizes P && ltb n (P .d)) (stand P n f) 0) where
+module _ {P : Params} {f : ℕ} {ks : List ℕ} (z : Sized P) (n : ℕ) {k : ℕ} (b : Begun P f n ks) (h : n < 4) (e : k ≡ cond (goodSizes P && (leb 1 (n + 1) && leb (n + 1) (P .d))) (position P (n + 1) f) 0) where
   told : Dec (n < P .d) → Begun P f (n + 1) (set ks n k)
-  told (yes l) = next-placed n b h (e ∙ rw (sizes-good z, lt-ltb n (P .d) l))
+  told (yes l) =
+      let back : n + 1 - 1 ≡ n = omega arith in
+      next-placed n b h (e ∙ rw (sizes-good z, le-leb 1 (n + 1) (omega arith), le-leb (n + 1) (P .d) (omega arith), back))
   told (no l) = record {
     long = length-set ks n k ∙ b .long;
     at = λ i m u. getD-set-other ks n i k 0 (omega arith) ∙ b .at i (omega arith) u;

@@ -18,10 +18,10 @@ pub(crate) fn places(p: Params, f: u32, ks: &mut [usize; 4])
     requires { ⌜ Sized p × (length (now ks) ≡ 4) ⌝ }
     ensures { λ r. ⌜ Placed p f (now (ks .exit)) × (length (now (ks .exit)) ≡ 4) ⌝ }
 {
-    ks[0] = p.stand(0, f);
-    ks[1] = p.stand(1, f);
-    ks[2] = p.stand(2, f);
-    ks[3] = p.stand(3, f);
+    ks[0] = p.stand(1, f);
+    ks[1] = p.stand(2, f);
+    ks[2] = p.stand(3, f);
+    ks[3] = p.stand(4, f);
 }
 
 // x more c, or x less c, keeps within the limits.

@@ -3,7 +3,7 @@ use mathlib.Core.Path.{_≡_, refl, sym, ap, ap₂, _∙_, fun-ext}
 use mathlib.Core.Bool.{Bool, true, false, cond}
 use mathlib.Core.List.{List, [], _∷_, _++_, append-nil, append-assoc}
 use Prim.Native.Nat.{ℕ, _*_}
-use lib.IntN.{ℤ, pos, negℤ, _+ℤ_, _*ℤ_, +ℤ-idr}
+use lib.IntN.{ℤ, pos, _+ℤ_, _-ℤ_, _*ℤ_, +ℤ-idr}
 use Rattle.field.specs.Residue.{residue}
 use Rattle.field.proofs.Residues.{residue-zero}
 use Rattle.sketch.specs.declared.params.Params.{Params}
@@ -16,7 +16,7 @@ use Rattle.sketch.specs.Buckets.{plusMinus, weight}
 use Rattle.sketch.specs.Sketch.{Sketch, sketch, Entry, by, countAt, weightAt, sketchOf, zeros, changedIn}
 use Rattle.sketch.specs.Packets.{changed, after, entriesOf}
 use Rattle.sketch.specs.Sums.{combineAnswer, combined, Combined}
-use Rattle.sketch.specs.History.{History, freshly, inserting, inserting-all, withdrawing, adding, subtracting, net}
+use Rattle.sketch.specs.History.{History, freshly, inserting, stepping, inserting-all, withdrawing, adding, subtracting, negated, signed, net}
 use Rattle.sketch.proofs.Judging.{first-done}
 use Rattle.sketch.proofs.TwoSketches.{shapes-done}
 use Rattle.sketch.proofs.Tables.{replicate-from, touched-from}
@@ -24,7 +24,7 @@ use Rattle.sketch.proofs.Idsums.{wound-both}
 use Rattle.sketch.proofs.SameParams.{size-same, stands-same}
 use Rattle.sketch.proofs.Weighted.{weighted, times-neg, count-weighted, weight-weighted, sketch-same}
 use Rattle.sketch.proofs.Linear.{count-append, weight-append, joined, joined-less}
-use Rattle.sketch.proofs.NetCounts.{net-decides}
+use Rattle.sketch.proofs.NetCounts.{net-decides, net-less}
 
 -- zeros are the sketch of no entries
 pub zeros-are : (P : Params) → zeros P ≡ sketchOf P []
@@ -33,10 +33,6 @@ zeros-are P =
     ap₂ sketch (replicate-from 0 (size P) (pos 0)) (replicate-from 0 (size P) 0 ∙ ap (λ (n : ℕ). from 0 (size P) (λ k. n)) (sym (residue-zero prime)))
 
 -- a packet that goes in or comes out is one entry more
-abbrev pub signed : Bool → ℤ → ℤ
-signed false z = z
-signed true z = negℤ z
-
 sum-signed : (minus : Bool) (x z : ℤ) → x +ℤ signed minus z ≡ plusMinus minus x z
 sum-signed false x z = refl
 sum-signed true x z = refl
@@ -107,6 +103,7 @@ pub history : {P : Params} {es : List Entry} {S : Sketch} → History P es S →
 unfolding kept
 history (freshly h) = h .after ∙ zeros-are _
 history (inserting h i) = i .after ∙ ap (changed _ false _ _) (history h) ∙ changed-entry _ false _ _ _
+history (stepping g h i) = i .after ∙ ap (changed _ _ _ _) (history h) ∙ changed-entry _ _ _ _ _
 history (inserting-all h i) = i .after-all ∙ ap (after _ _ _) (history h) ∙ after-entries _ _ _ _
 history (withdrawing h i) = i .after ∙ ap (changed _ true _ _) (history h) ∙ changed-entry _ true _ _ _
 history (adding h g i) = combined-shared false _ _ (history h) (history g) i ∙ sym (joined _ _ _)
@@ -115,3 +112,13 @@ history (subtracting h g i) = combined-shared true _ _ (history h) (history g) i
 -- how packets are split over calls and sketches does not matter, nor does their order
 pub split-free : {P : Params} {es gs : List Entry} {S T : Sketch} → History P es S → History P gs T → ((f : ℕ) → net es f ≡ net gs f) → S ≡ T
 split-free h g e = history h ∙ net-decides _ _ _ e ∙ sym (history g)
+
+-- so the difference of two sketches goes by the differences of the net counts
+pub difference-by-nets : {P : Params} {es gs es' gs' : List Entry} {S T S' T' : Sketch} → History P es S → History P gs T → History P es' S' → History P gs' T'
+    → ((f : ℕ) → net es f -ℤ net gs f ≡ net es' f -ℤ net gs' f) → combined true S T ≡ combined true S' T'
+difference-by-nets {P} {es} {gs} {es'} {gs'} h g h' g' e =
+    ap₂ (combined true) (history h) (history g)
+    ∙ sym (joined-less P es gs)
+    ∙ net-decides P (es ++ negated gs) (es' ++ negated gs') (λ f. net-less es gs f ∙ e f ∙ sym (net-less es' gs' f))
+    ∙ joined-less P es' gs'
+    ∙ sym (ap₂ (combined true) (history h') (history g'))

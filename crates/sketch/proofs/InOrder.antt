@@ -14,10 +14,12 @@ use Rattle.sketch.specs.declared.answers.Why.{Why}
 use Rattle.sketch.specs.declared.answers.Why.the-variants.{Param, Length, Flow, Count, Damage, Range, Mismatch, Form}
 use Rattle.sketch.specs.declared.answers.Answer.{Answer}
 use Rattle.sketch.specs.declared.answers.Answer.the-variants.{Done, Refused}
+use Rattle.sketch.specs.declared.answers.Spot.{Spot}
 use Rattle.sketch.specs.Lists.{below, least}
-use Rattle.sketch.specs.Answers.{numberOf, numberIn, indexIn, refuseIf, refuseAt, first}
+use Rattle.sketch.specs.Answers.{numberOf, numberIn, indexIn, refuseIf, refuseAt, first, spotOf, spotNumber, spotIndex, spotPlace}
 use Rattle.sketch.specs.Params.{prime, isFlow, size, goodSizes, goodParams, sameParams, lengthsAnswer, sizesAnswer, shapeAnswer}
-use Rattle.sketch.specs.Places.{stands}
+use Rattle.sketch.specs.Places.{stands, standAnswer}
+use Rattle.sketch.specs.Arrays.{arrayAnswer}
 use Rattle.sketch.specs.Sketch.{Sketch, damagedIn, leavesIn, standingAnswer}
 use Rattle.sketch.specs.Packets.{packetAnswer, entryAnswer, stepAnswer, moveAnswer, packetsAnswer, allAnswer, changed}
 use Rattle.sketch.specs.Sums.{shapesAnswer, eitherDamaged, leaves, bucketsAnswer, combineAnswer}
@@ -139,6 +141,49 @@ pub combine-number : (minus : Bool) (P Q : Params) (S T : Sketch) → numberIn (
 unfolding combineAnswer shapesAnswer lengthsAnswer bucketsAnswer first
 combine-number minus P Q S T = simp (first-refuse, refuse-number, refuse-at-number, cond-either)
 
+-- where no more than the parameters, a length and a flow are judged
+abbrev early : (param length flow : Bool) → Why → Bool
+early p l f Param = p
+early p l f Length = l
+early p l f Flow = f
+early p l f Count = false
+early p l f Damage = false
+early p l f Range = false
+early p l f Mismatch = false
+early p l f Form = false
+
+abbrev pub shapeFault : Params → ℕ → ℕ → Why → Bool
+shapeFault P c s = early (not (goodParams P)) (not (eqb c (size P) && eqb s (size P))) false
+
+abbrev pub arrayFault : Params → ℕ → ℕ → Why → Bool
+arrayFault P i n = early (not (goodParams P && (leb 1 i && leb i (P .d)))) (not (eqb n (size P))) false
+
+abbrev pub standFault : Params → ℕ → ℕ → Why → Bool
+standFault P i f = early (not (goodParams P && (leb 1 i && leb i (P .d)))) false (not (isFlow P f))
+
+pub shape-number : (P : Params) (c s : ℕ) → numberIn (shapeAnswer P c s) ≡ firstOf order (shapeFault P c s)
+unfolding shapeAnswer lengthsAnswer
+shape-number P c s = simp refuse-number
+
+pub array-number : (P : Params) (i n : ℕ) → numberIn (arrayAnswer P i n) ≡ firstOf order (arrayFault P i n)
+unfolding arrayAnswer
+array-number P i n = simp refuse-number
+
+-- a position or an index, k, is told, or 0 with the number of the first fault; the index at fault is always 0
+pub record SpotTold (P : Params) (i f k : ℕ) (r : Spot) : Type 0 where
+  pub number : spotNumber r ≡ firstOf order (standFault P i f)
+  pub index : spotIndex r ≡ 0
+  pub place : spotPlace r ≡ cond (eqb (spotNumber r) 0) k 0
+
+pub spot-told : (P : Params) (i f k : ℕ) → SpotTold P i f k (spotOf (standAnswer P i f) k)
+unfolding standAnswer
+spot-told P i f k = by-tests (not (goodParams P && (leb 1 i && leb i (P .d)))) (not (isFlow P f)) refl refl
+  where
+    by-tests : (s t : Bool) → s ≡ not (goodParams P && (leb 1 i && leb i (P .d))) → t ≡ not (isFlow P f) → SpotTold P i f k (spotOf (refuseIf s Param 0 (refuseIf t Flow 0 Done)) k)
+    by-tests true t e h = record { number = rw (← e); index = refl; place = refl }
+    by-tests false true e h = record { number = rw (← e, ← h); index = refl; place = refl }
+    by-tests false false e h = record { number = rw (← e, ← h); index = refl; place = refl }
+
 -- with any number but those of Damage and Range the index is 0
 pub record IndexZero (r : Answer) : Type 0 where
   pub zero-else : (numberIn r ≡ 5 → ⊥) → (numberIn r ≡ 6 → ⊥) → indexIn r ≡ 0
@@ -171,6 +216,11 @@ lengths-index P c s = refuse-index (not (eqb c (size P) && eqb s (size P))) Leng
 pub shape-index : (P : Params) (c s : ℕ) → IndexZero (shapeAnswer P c s)
 unfolding shapeAnswer
 shape-index P c s = refuse-index (not (goodParams P)) Param _ (lengths-index P c s)
+
+pub array-index : (P : Params) (i n : ℕ) → IndexZero (arrayAnswer P i n)
+unfolding arrayAnswer
+array-index P i n =
+    refuse-index (not (goodParams P && (leb 1 i && leb i (P .d)))) Param _ (refuse-index (not (eqb n (size P))) Length Done done-index)
 
 step-index : (P : Params) (minus : Bool) (f n : ℕ) (S : Sketch) → IndexZero (stepAnswer P minus f n S)
 unfolding stepAnswer entryAnswer sizesAnswer packetAnswer standingAnswer

@@ -7,12 +7,12 @@ use native.Mathlib.Decide.{ℕ-discrete}
 use native.Mathlib.Omega.{arith}
 use borrow.Author.Tests.{eq-eqb, ne-eqb}
 use lib.Dec.{eqb}
-use lib.IntN.{ℤ, pos, _+ℤ_, _*ℤ_, +ℤ-idl, +ℤ-idr, +ℤ-assoc, +ℤ-comm, zero-*ℤ}
+use lib.IntN.{ℤ, pos, _+ℤ_, _-ℤ_, _*ℤ_, +ℤ-idl, +ℤ-idr, +ℤ-assoc, +ℤ-comm, zero-*ℤ}
 use Rattle.field.proofs.Parts.{int, up, down, up-down-add, up-mul, down-mul}
 use Rattle.sketch.specs.declared.params.Params.{Params}
 use Rattle.sketch.specs.Sketch.{Entry, sketchOf}
-use Rattle.sketch.specs.History.{net}
-use Rattle.sketch.proofs.Weighted.{weighted, count-weighted, weight-weighted, net-weighted, weighted-append, sketch-same}
+use Rattle.sketch.specs.History.{negated, net}
+use Rattle.sketch.proofs.Weighted.{weighted, count-weighted, weight-weighted, net-weighted, weighted-append, weighted-negated, sketch-same}
 
 -- t 0 + t 1 + .. + t (n - 1)
 unfoldable total : ℕ → (ℕ → ℤ) → ℤ
@@ -93,10 +93,14 @@ net-decides P es gs e =
     (λ k. count-weighted P es k ∙ weighted-same _ es gs e ∙ sym (count-weighted P gs k))
     (λ k. weight-weighted P es k ∙ weighted-same _ es gs e ∙ sym (weight-weighted P gs k))
 
--- the order of entries does not matter
+-- net counts of two lists together, and of one less another
 net-append : (es gs : List Entry) (f : ℕ) → net (es ++ gs) f ≡ net es f +ℤ net gs f
 net-append es gs f = simp net-weighted (weighted-append _ es gs)
 
+pub net-less : (es gs : List Entry) (f : ℕ) → net (es ++ negated gs) f ≡ net es f -ℤ net gs f
+net-less es gs f = net-append es (negated gs) f ∙ ap (_+ℤ_ (net es f)) (simp net-weighted (weighted-negated _ gs))
+
+-- the order of entries does not matter
 pub order-free : (P : Params) (es gs : List Entry) → sketchOf P (es ++ gs) ≡ sketchOf P (gs ++ es)
 order-free P es gs =
     net-decides P (es ++ gs) (gs ++ es) (λ f. net-append es gs f ∙ +ℤ-comm (net es f) (net gs f) ∙ sym (net-append gs es f))

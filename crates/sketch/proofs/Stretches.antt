@@ -13,7 +13,7 @@ use Rattle.sketch.specs.declared.answers.Answer.{Answer}
 use Rattle.sketch.specs.declared.answers.Answer.the-variants.{Done, Refused}
 use Rattle.sketch.specs.Answers.{kept}
 use Rattle.sketch.specs.Params.{size, goodParams}
-use Rattle.sketch.specs.Arrays.{arrayAnswer, stretch}
+use Rattle.sketch.specs.Arrays.{arrayAnswer, stretch, stretchStart, Lent}
 use Rattle.sketch.proofs.Judging.{Refusal, kept-old, refuse-done}
 use Rattle.sketch.proofs.Rules.{Asked, asked}
 
@@ -24,17 +24,27 @@ array-done P i n e =
     (asked P i (h .0), eqb-true _ _ (not-false _ (refuse-done (not (eqb n (size P))) Length 0 _ (h .1) .0)))
 
 -- what is lent where the answer is a refusal, and where it is not
-no-stretch : {A : Type 0} (r : Answer) (P : Params) (i : ℕ) (xs : List A) → Refusal r → [] ≡ stretch r P i xs
-unfolding stretch kept
-no-stretch Done P i xs h = kept-old Done [] _ h
-no-stretch (Refused w k) P i xs h = refl
+no-stretch : {A : Type 0} (r : Answer) (P : Params) (i : ℕ) (xs : List A) → Refusal r → ([] ≡ stretch r P i xs) × (stretchStart r P i ≡ 0)
+unfolding stretch stretchStart kept
+no-stretch Done P i xs h = absurd (omega (arith, kept-old {A = ℕ} Done 0 1 h))
+no-stretch (Refused w k) P i xs h = (refl, refl)
 
-module _ {A : Type 0} (P : Params) (i : ℕ) (xs : List A) (r : Answer) (judged : r ≡ arrayAnswer P i (length xs)) where
-  pub refused-stretch : Refusal r → [] ≡ stretch (arrayAnswer P i (length xs)) P i xs
-  refused-stretch h = rw (← judged) (no-stretch r P i xs h)
+module _ {A : Type 0} {P : Params} {i : ℕ} {whole : ℕ × ℕ} {xs : List A} {r : Answer} (judged : r ≡ arrayAnswer P i (length xs)) where
+  pub refused-stretch : Refusal r → Lent P i whole xs whole []
+  refused-stretch h =
+      let none = no-stretch r P i xs h in
+      record {
+        content = rw (← judged) (none .0);
+        block = refl;
+        offset = rw (← judged, none .1) (omega arith);
+      }
 
-  pub done-stretch : r ≡ Done → take ((i - 1) * P .m + P .m - (i - 1) * P .m) (drop ((i - 1) * P .m) xs) ≡ stretch (arrayAnswer P i (length xs)) P i xs
-  unfolding stretch
+  pub done-stretch : r ≡ Done → Lent P i whole xs (whole .0, (i - 1) * P .m * 4 + whole .1) (take ((i - 1) * P .m + P .m - (i - 1) * P .m) (drop ((i - 1) * P .m) xs))
+  unfolding stretch stretchStart
   done-stretch d =
       let e : (i - 1) * P .m + P .m - (i - 1) * P .m ≡ P .m = omega arith in
-      rw (← judged, d, e)
+      record {
+        content = rw (← judged, d, e);
+        block = refl;
+        offset = rw (← judged, d) (omega arith);
+      }

@@ -53,3 +53,16 @@ kept (Refused w k) old new = old
 abbrev pub spotOf : Answer → ℕ → Spot
 spotOf Done k = At k
 spotOf (Refused w j) k = NoSpot w j
+
+-- the number, the index and the place that a caller is told, each 0 where there is none
+abbrev pub spotNumber : Spot → ℕ
+spotNumber (At k) = 0
+spotNumber (NoSpot w j) = numberOf w
+
+abbrev pub spotIndex : Spot → ℕ
+spotIndex (At k) = 0
+spotIndex (NoSpot w j) = j
+
+abbrev pub spotPlace : Spot → ℕ
+spotPlace (At k) = k
+spotPlace (NoSpot w j) = 0

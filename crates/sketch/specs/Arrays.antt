@@ -1,9 +1,10 @@
 -- An array's own stretch of the counts or of the idsums.
+use mathlib.Core.Path.{_≡_}
 use mathlib.Core.Bool.{not, _&&_}
 use mathlib.Core.List.{List, []}
-use Prim.Native.Nat.{ℕ, _-_, _*_}
+use Prim.Native.Nat.{ℕ, _+_, _-_, _*_}
 use lib.Dec.{leb, eqb}
-use lib.ListN.{take, drop}
+use lib.ListN.{length, take, drop}
 use Rattle.sketch.specs.declared.params.Params.{Params}
 use Rattle.sketch.specs.declared.answers.Why.the-variants.{Param, Length}
 use Rattle.sketch.specs.declared.answers.Answer.{Answer}
@@ -22,3 +23,15 @@ arrayAnswer P i n =
 unfoldable pub stretch : {A : Type 0} → Answer → Params → ℕ → List A → List A
 stretch Done P i xs = take (P .m) (drop ((i - 1) * P .m) xs)
 stretch (Refused w k) P i xs = []
+
+-- how many numbers of the slice stand before it
+unfoldable pub stretchStart : Answer → Params → ℕ → ℕ
+stretchStart Done P i = (i - 1) * P .m
+stretchStart (Refused w k) P i = 0
+
+-- array i of a slice of 4-byte numbers, which is at `whole` and has the content xs, is lent on: the stretch is at `part` and has the
+-- content ys. A place in memory is a block and an offset in it.
+pub record Lent {A : Type 0} (P : Params) (i : ℕ) (whole : ℕ × ℕ) (xs : List A) (part : ℕ × ℕ) (ys : List A) : Type 0 where
+  pub content : ys ≡ stretch (arrayAnswer P i (length xs)) P i xs
+  pub block : part .0 ≡ whole .0
+  pub offset : part .1 ≡ whole .1 + 4 * stretchStart (arrayAnswer P i (length xs)) P i

@@ -15,6 +15,7 @@ use Rattle.sketch.specs.Answers.{refuseIf}
 abbrev pub prime : ℕ
 prime = 2147483647
 
+-- the prime of a sketch with these parameters, one for all: a definition that is given the parameters names its prime through them
 abbrev pub primeOf : Params → ℕ
 primeOf P = prime
 

@@ -1,7 +1,6 @@
 // An array's own stretch of a sketch, lent on to be worked on by itself.
 ghost use mathlib.Core.Path.{_≡_};
-ghost use lib.ListN.{length};
-ghost use Rattle.sketch.specs.Arrays.{arrayAnswer, stretch};
+ghost use Rattle.sketch.specs.Arrays.{arrayAnswer, Lent};
 use crate::answers::Answer;
 use crate::answers::Why;
 use crate::params::Params;
@@ -27,7 +26,7 @@ pub fn array(p: Params, i: usize, len: usize) -> Answer
 
 // The counts of array i, or an empty stretch where `array` refuses.
 pub fn array_counts<'a>(p: Params, i: usize, counts: &'a mut [i32]) -> &'a mut [i32]
-    ensures { λ r. ⌜ now r ≡ stretch (arrayAnswer p i (length (now (counts .entry)))) p i (now (counts .entry)) ⌝ }
+    ensures { λ r. ⌜ Lent p i (counts .entry .ptr) (now (counts .entry)) (r .ptr) (now r) ⌝ }
 {
     let r = array(p, i, counts.len());
     let Answer::Done = r else {
@@ -41,7 +40,7 @@ pub fn array_counts<'a>(p: Params, i: usize, counts: &'a mut [i32]) -> &'a mut [
 
 // The idsums of array i, or an empty stretch where `array` refuses.
 pub fn array_idsums<'a>(p: Params, i: usize, idsums: &'a mut [u32]) -> &'a mut [u32]
-    ensures { λ r. ⌜ now r ≡ stretch (arrayAnswer p i (length (now (idsums .entry)))) p i (now (idsums .entry)) ⌝ }
+    ensures { λ r. ⌜ Lent p i (idsums .entry .ptr) (now (idsums .entry)) (r .ptr) (now r) ⌝ }
 {
     let r = array(p, i, idsums.len());
     let Answer::Done = r else {

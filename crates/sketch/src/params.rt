@@ -2,7 +2,7 @@
 ghost use mathlib.Core.Path.{_≡_};
 ghost use mathlib.Core.Bool.{_&&_, not, cond};
 ghost use Prim.Native.Nat.{ℕ, _+_, _-_, _*_, _%_, _<_, _≤_};
-ghost use lib.Dec.{eqb, ltb};
+ghost use lib.Dec.{eqb, leb};
 ghost use lib.ListN.{getD, length};
 ghost use Rattle.sketch.specs.Lists.{below};
 ghost use Rattle.sketch.specs.Params.{prime, size as «size-of», Sized, pairOk, pairAt, twins, goodSizes, goodParams, sameParams};
@@ -45,7 +45,8 @@ fn pair_ok(used: bool, a: u32, b: u32) -> bool
     }
 }
 
-// The checks over pairs are written out, with no loop, so that they are done once where a caller's loop inserts packets.
+// The checks over pairs are written out, with no loop, so that the optimiser can lift them out of a caller's loop that inserts
+// packets.
 fn pairs_ok(d: usize, a: [u32; 4], b: [u32; 4]) -> bool
     ensures { λ r. ⌜ r ≡ below 4 (pairAt d a b) ⌝ }
 {
@@ -251,7 +252,7 @@ impl Params {
         }
     }
 
-    // Where a flow stands in the array that i others stand before.
+    // Where a flow stands in the array that i others stand before: here, for the code's own use, arrays count from 0.
     fn spot(self, i: usize, f: u32) -> usize
         requires { ⌜ Sized self × (i < self .d) ⌝ }
         ensures { λ r. ⌜ (r ≡ «stand-of» self i f) × (r < self .m) ⌝ }
@@ -261,17 +262,21 @@ impl Params {
         place(a[i], b[i], self.m, f)
     }
 
-    // The same, told without a refusal: 0 where the sizes break a rule or there is no such array.
+    // The position of a flow in array i, told without a refusal: 0 where the sizes break a rule or there is no such array. Any
+    // number is taken as a flow, and the pairs are not judged.
     pub fn stand(self, i: usize, f: u32) -> usize
-        ensures { λ r. ⌜ r ≡ cond (goodSizes self && ltb i (self .d)) («stand-of» self i f) 0 ⌝ }
+        ensures { λ r. ⌜ r ≡ cond (goodSizes self && (leb 1 i && leb i (self .d))) («position-of» self i f) 0 ⌝ }
     {
         if !self.sized() {
             return 0;
         }
-        if self.d <= i {
+        if i < 1 {
             return 0;
         }
-        self.spot(i, f)
+        if self.d < i {
+            return 0;
+        }
+        self.spot(i - 1, f)
     }
 
     // Whether a flow stands in bucket k; in no bucket where the sizes break a rule.

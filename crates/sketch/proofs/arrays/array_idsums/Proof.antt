@@ -23,7 +23,7 @@ slice-aggregate-result : tie.Need-slice-aggregate-result
 slice-aggregate-result c = search needs
 
 returns : tie.Need-returns
-returns c = refused-stretch _ _ (now (c .before .before .before .before .before .args .idsums)) _ (c .before .before .before .array .ensures) (c .before .before .match .keys2)
+returns c = refused-stretch (c .before .before .before .array .ensures) (c .before .before .match .keys2)
 
 -- what `array` tells of the stretch
 within : (c : tie.After-enum-told) → let a = c .before .before .before .before .args in Asked (a .p) (a .i) × (length (now (a .idsums)) ≡ size (a .p))
@@ -51,7 +51,7 @@ part-idsums-end : tie.Need-part-idsums-end
 part-idsums-end c = omega (arith, within c)
 
 returns-2 : tie.Need-returns-2
-returns-2 c = done-stretch _ _ _ _ (c .before .before .before .array .ensures) (c .before .enum-told .given .1)
+returns-2 c = done-stretch (c .before .before .before .array .ensures) (c .before .enum-told .given .1)
 
 pub array-idsums-spec : {M : Type 1} → statement M
 array-idsums-spec =

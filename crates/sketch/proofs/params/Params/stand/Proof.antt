@@ -1,8 +1,9 @@
 -- `sketch::params::Params::stand` meets its contract.
 use mathlib.Core.Path.{_≡_, sym, _∙_}
 use mathlib.Core.Bool.{true}
+use native.Mathlib.Omega.{arith}
 use borrow.Author.Needs.{needs}
-use borrow.Author.Tests.{not-true, not-false, lt-ltb, le-ltb}
+use borrow.Author.Tests.{not-true, not-false, le-leb, lt-leb}
 use Rattle.sketch.specs.Params.{Sized, goodSizes}
 use Rattle.sketch.proofs.Rules.{sized}
 use Rattle.sketch.proofs.params.Params.stand.Statement.{statement}
@@ -21,13 +22,16 @@ fits : (c : tie.Else1) → Sized (c .before .before .args .self)
 fits c = sized _ (passed c)
 
 returns-2 : tie.Need-returns-2
-returns-2 c = rw (passed (c .before .before), le-ltb _ _ (c .if2 .taken))
-
-spot-requires : tie.Need-spot-requires
-spot-requires c κs = (fits (c .before .before), c .if2 .left)
+returns-2 c = rw (passed (c .before), lt-leb 1 _ (c .if2 .taken))
 
 returns-3 : tie.Need-returns-3
-returns-3 c = rw (passed (c .before .before .before), lt-ltb _ _ (c .before .if2 .left)) (c .spot .ensures .0)
+returns-3 c = rw (passed (c .before .before .before), le-leb 1 _ (c .before .before .if2 .left), lt-leb _ _ (c .if3 .taken))
+
+spot-requires : tie.Need-spot-requires
+spot-requires c κs = (fits (c .before .before .before), omega arith)
+
+returns-4 : tie.Need-returns-4
+returns-4 c = rw (passed (c .before .before .before .before), le-leb 1 _ (c .before .before .before .if2 .left), le-leb _ _ (c .before .if3 .left)) (c .spot .ensures .0)
 
 pub stand-spec : {M : Type 1} → statement M
-stand-spec = tie.close (tie.spec sized-requires returns returns-2 spot-requires returns-3)
+stand-spec = tie.close (tie.spec sized-requires returns returns-2 returns-3 spot-requires returns-4)
