@@ -1,0 +1,55 @@
+-- What stands at an offset: a whole record by its parts, and what holds where there is none.
+use mathlib.Core.Path.{_≡_, refl, sym, ap, _∙_}
+use mathlib.Core.Bool.{Bool, true, false, cond}
+use mathlib.Core.List.{List, [], _∷_}
+use Prim.Native.Nat.{ℕ, _+_, _-_, _≤_, _<_}
+use native.Mathlib.Omega.{arith}
+use borrow.Author.Tests.{leb-false}
+use types.Run.{OneOf, miss}
+use denote.Enum.Declared.{tagOf}
+use lib.Dec.{eqb, leb}
+use lib.ListN.{getD, length}
+use Rattle.files.specs.declared.records.Record.{Record}
+use Rattle.files.specs.declared.records.Record.the-variants.{Whole, Cut, Unknown, Missing}
+use Rattle.files.specs.Records.{bodyLength, recordAt, bodyOf, bodyStart}
+use Rattle.files.specs.Heads.{isHead}
+use Rattle.files.proofs.records.Record.{the-type}
+
+-- a whole record: its kind, and that it ends within the file
+pub record Stands (bs : List ℕ) (at k next : ℕ) : Type 0 where
+  pub inside : at < length bs
+  pub kind : k ≡ getD bs at 0
+  pub ends : next ≡ at + 1 + bodyLength k
+  pub within : next ≤ length bs
+
+pub stands-whole : (bs : List ℕ) (at k next : ℕ) → recordAt bs at ≡ Whole k next → Stands bs at k next
+unfolding recordAt
+stands-whole bs at k next = go (leb (length bs) at) (eqb (bodyLength (getD bs at 0)) 0) (leb (length bs - at) (bodyLength (getD bs at 0))) refl refl
+  where
+    go : (x y z : Bool) → leb (length bs) at ≡ x → leb (length bs - at) (bodyLength (getD bs at 0)) ≡ z
+        → cond x Missing (cond y Unknown (cond z Cut (Whole (getD bs at 0) (at + 1 + bodyLength (getD bs at 0))))) ≡ Whole k next → Stands bs at k next
+    go true y z e f q = absurd (let w : _≡_ {A = ℕ} 0 1 = cc in omega arith)
+    go false true z e f q = absurd (let w : _≡_ {A = ℕ} 0 1 = cc in omega arith)
+    go false false true e f q = absurd (let w : _≡_ {A = ℕ} 0 1 = cc in omega arith)
+    go false false false e f q =
+        let kind-is : k ≡ getD bs at 0 = cc in
+        let ends-is : next ≡ at + 1 + bodyLength (getD bs at 0) = cc in
+        let inside-is = leb-false (length bs) at e in
+        let room = leb-false (length bs - at) (bodyLength (getD bs at 0)) f in
+        record {
+          inside = inside-is;
+          kind = kind-is;
+          ends = ends-is ∙ ap (λ (j : ℕ). at + 1 + bodyLength j) (sym kind-is);
+          within = omega arith;
+        }
+
+-- any record but a whole one, as a `let .. else` has it
+abbrev pub NotWhole : Record → Type 0
+NotWhole r = OneOf (1 ∷ 2 ∷ 3 ∷ []) (tagOf the-type r)
+
+pub not-whole : (r : Record) (at : ℕ) (bs : List ℕ) → NotWhole r → (isHead r ≡ false) × (bodyOf r at bs ≡ []) × (bodyStart r at ≡ 0)
+unfolding bodyOf bodyStart
+not-whole (Whole k next) at bs h = absurd (miss (1 ∷ 2 ∷ 3 ∷ []) 0 tt h)
+not-whole Cut at bs h = (refl, refl, refl)
+not-whole Unknown at bs h = (refl, refl, refl)
+not-whole Missing at bs h = (refl, refl, refl)

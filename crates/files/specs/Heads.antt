@@ -1,0 +1,46 @@
+-- The head of a file: d (1 byte), m (4), then four pairs of a multiplier (4) and an offset (4).
+use mathlib.Core.Bool.{Bool, true, false, not}
+use mathlib.Core.List.{List, [], _∷_}
+use Prim.Native.Nat.{ℕ}
+use lib.Dec.{eqb}
+use lib.ListN.{getD}
+use Rattle.sketch.specs.declared.params.Params.{Params}
+use Rattle.sketch.specs.declared.answers.Why.the-variants.{Param, Form}
+use Rattle.sketch.specs.declared.answers.Answer.{Answer}
+use Rattle.sketch.specs.declared.answers.Answer.the-variants.{Done, Refused}
+use Rattle.sketch.specs.Answers.{refuseIf, kept}
+use Rattle.sketch.specs.Params.{goodParams}
+use Rattle.files.specs.declared.records.Record.{Record}
+use Rattle.files.specs.declared.records.Record.the-variants.{Whole, Cut, Unknown, Missing}
+use Rattle.files.specs.declared.heads.Headed.{Headed}
+use Rattle.files.specs.Bytes.{word}
+use Rattle.files.specs.Records.{recordAt}
+
+-- the parameters in a head that stands at the start of the file
+unfoldable pub paramsIn : List ℕ → Params
+paramsIn bs =
+    record {
+      d = getD bs 1 0;
+      m = word bs 2;
+      a = word bs 6 ∷ word bs 14 ∷ word bs 22 ∷ word bs 30 ∷ [];
+      b = word bs 10 ∷ word bs 18 ∷ word bs 26 ∷ word bs 34 ∷ [];
+    }
+
+abbrev pub isHead : Record → Bool
+isHead (Whole k next) = eqb k 1
+isHead Cut = false
+isHead Unknown = false
+isHead Missing = false
+
+-- a whole head stands there, and its parameters keep the rules
+unfoldable pub headAnswer : List ℕ → Answer
+headAnswer bs =
+    refuseIf (not (isHead (recordAt bs 0))) Form 0
+    (refuseIf (not (goodParams (paramsIn bs))) Param 0
+    Done)
+
+abbrev pub noParams : Params
+noParams = record { d = 0; m = 0; a = 0 ∷ 0 ∷ 0 ∷ 0 ∷ []; b = 0 ∷ 0 ∷ 0 ∷ 0 ∷ [] }
+
+abbrev pub headOf : List ℕ → Headed
+headOf bs = record { answer = headAnswer bs; params = kept (headAnswer bs) noParams (paramsIn bs) }

@@ -1,0 +1,4 @@
+-- What a reader must believe of files, in the words of the scope.
+pub mod Bytes
+pub mod Records
+pub mod Heads

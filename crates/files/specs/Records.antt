@@ -1,0 +1,40 @@
+-- Records: one byte of kind, then a body whose length the kind fixes.
+use mathlib.Core.Bool.{Bool, true, false, cond}
+use mathlib.Core.Path.{_≡_}
+use mathlib.Core.List.{List, []}
+use Prim.Native.Nat.{ℕ, _+_, _-_}
+use lib.Dec.{eqb, leb}
+use lib.ListN.{getD, length, take, drop}
+use Rattle.files.specs.declared.records.Record.{Record}
+use Rattle.files.specs.declared.records.Record.the-variants.{Whole, Cut, Unknown, Missing}
+
+-- head, packets, bucket and end; 0 for a kind that is not known
+unfoldable pub bodyLength : ℕ → ℕ
+bodyLength k = cond (eqb k 1) 37 (cond (eqb k 2) 8 (cond (eqb k 3) 12 (cond (eqb k 4) 4 0)))
+
+-- what stands at an offset of the file
+unfoldable pub recordAt : List ℕ → ℕ → Record
+recordAt bs at =
+    cond (leb (length bs) at) Missing
+    (cond (eqb (bodyLength (getD bs at 0)) 0) Unknown
+    (cond (leb (length bs - at) (bodyLength (getD bs at 0))) Cut
+    (Whole (getD bs at 0) (at + 1 + bodyLength (getD bs at 0)))))
+
+-- the body of a record that stands at an offset, empty where it is not whole, and how many bytes of the file stand before it
+unfoldable pub bodyOf : Record → ℕ → List ℕ → List ℕ
+bodyOf (Whole k next) at bs = take (next - (at + 1)) (drop (at + 1) bs)
+bodyOf Cut at bs = []
+bodyOf Unknown at bs = []
+bodyOf Missing at bs = []
+
+unfoldable pub bodyStart : Record → ℕ → ℕ
+bodyStart (Whole k next) at = at + 1
+bodyStart Cut at = 0
+bodyStart Unknown at = 0
+bodyStart Missing at = 0
+
+-- the file is at `whole` and has the bytes bs; the body is at `part` and has the bytes xs. A place in memory is a block and an offset in it.
+pub record Body (at : ℕ) (whole : ℕ × ℕ) (bs : List ℕ) (part : ℕ × ℕ) (xs : List ℕ) : Type 0 where
+  pub content : xs ≡ bodyOf (recordAt bs at) at bs
+  pub block : part .0 ≡ whole .0
+  pub offset : part .1 ≡ whole .1 + bodyStart (recordAt bs at) at

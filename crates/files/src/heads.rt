@@ -1,0 +1,79 @@
+// The head of a file: its parameters, so that a caller can lend slices of the right lengths.
+ghost use mathlib.Core.Path.{_≡_};
+ghost use Prim.Native.Nat.{ℕ, _≤_};
+ghost use lib.ListN.{length};
+ghost use Rattle.files.specs.Heads.{paramsIn, noParams, headOf};
+use crate::records::Record;
+use crate::records::record_at;
+use crate::records::word;
+use sketch::Answer;
+use sketch::Params;
+use sketch::Why;
+
+// What a head says, or why it says nothing: the parameters are all 0 then.
+pub struct Headed {
+    pub answer: Answer,
+    pub params: Params,
+}
+
+// The parameters in the body that starts at byte 1.
+fn params(bytes: &[u8]) -> Params
+    requires { ⌜ 38 ≤ length (now bytes) ⌝ }
+    ensures { λ r. ⌜ r ≡ paramsIn (now (bytes .entry)) ⌝ }
+{
+    let m = word(bytes, 2) as usize;
+    let a = [
+        word(bytes, 6),
+        word(bytes, 14),
+        word(bytes, 22),
+        word(bytes, 30),
+    ];
+    let b = [
+        word(bytes, 10),
+        word(bytes, 18),
+        word(bytes, 26),
+        word(bytes, 34),
+    ];
+    Params {
+        d: bytes[1] as usize,
+        m,
+        a,
+        b,
+    }
+}
+
+fn refused(why: Why) -> Headed
+    ensures { λ r. ⌜ r ≡ record { answer = Answer.Refused why 0; params = noParams } ⌝ }
+{
+    let none = [0u32; 4];
+    Headed {
+        answer: Answer::Refused(why, 0),
+        params: Params {
+            d: 0,
+            m: 0,
+            a: none,
+            b: none,
+        },
+    }
+}
+
+// Judges the head of a file and reads its parameters.
+pub fn head(bytes: &[u8]) -> Headed
+    ensures { λ r. ⌜ r ≡ headOf (now (bytes .entry)) ⌝ }
+{
+    let found = record_at(bytes, 0);
+    let Record::Whole(kind, _) = found else {
+        return refused(Why::Form);
+    };
+    if kind != 1 {
+        return refused(Why::Form);
+    }
+    let p = params(bytes);
+    if !p.check() {
+        return refused(Why::Param);
+    }
+    Headed {
+        answer: Answer::Done,
+        params: p,
+    }
+}

@@ -1,0 +1,73 @@
+// Records: one byte of kind, then a body whose length the kind fixes.
+ghost use mathlib.Core.Path.{_≡_};
+ghost use Prim.Native.Nat.{ℕ, _+_, _≤_};
+ghost use lib.ListN.{length};
+ghost use Rattle.files.specs.Bytes.{word as «word-of»};
+ghost use Rattle.files.specs.Records.{bodyLength, recordAt, Body};
+
+// What stands at an offset: a whole record of its kind, and where the next begins; one that is cut; one of no known kind; or
+// nothing.
+pub enum Record {
+    Whole(u8, usize),
+    Cut,
+    Unknown,
+    Missing,
+}
+
+// How many bytes a body of this kind has; 0 for a kind that is not known.
+fn body_length(kind: u8) -> usize
+    ensures { λ r. ⌜ r ≡ bodyLength kind ⌝ }
+{
+    if kind == 1 {
+        return 37;
+    }
+    if kind == 2 {
+        return 8;
+    }
+    if kind == 3 {
+        return 12;
+    }
+    if kind == 4 {
+        return 4;
+    }
+    0
+}
+
+pub fn record_at(bytes: &[u8], at: usize) -> Record
+    ensures { λ r. ⌜ r ≡ recordAt (now (bytes .entry)) at ⌝ }
+{
+    if bytes.len() <= at {
+        return Record::Missing;
+    }
+    let kind = bytes[at];
+    let long = body_length(kind);
+    if long == 0 {
+        return Record::Unknown;
+    }
+    if bytes.len() - at <= long {
+        return Record::Cut;
+    }
+    Record::Whole(kind, at + 1 + long)
+}
+
+// The body of the record at an offset, a part of the lent bytes; an empty part at their start where no whole record stands there.
+pub fn body(bytes: &[u8], at: usize) -> &[u8]
+    ensures { λ r. ⌜ Body at (bytes .entry .ptr) (now (bytes .entry)) (r .ptr) (now r) ⌝ }
+{
+    let found = record_at(bytes, at);
+    let Record::Whole(_, next) = found else {
+        return &bytes[..0];
+    };
+    let start = at + 1;
+    &bytes[start..next]
+}
+
+// Four bytes as a number, the highest first.
+pub(crate) fn word(bytes: &[u8], at: usize) -> u32
+    requires { ⌜ at + 4 ≤ length (now bytes) ⌝ }
+    ensures { λ r. ⌜ r ≡ «word-of» (now (bytes .entry)) at ⌝ }
+{
+    let high = bytes[at] as u32 * 256 + bytes[at + 1] as u32;
+    let low = bytes[at + 2] as u32 * 256 + bytes[at + 3] as u32;
+    high * 65536 + low
+}
