@@ -32,7 +32,7 @@ e11 =
 abbrev K : Params
 K = record { d = 2; m = 5; a = 1 ∷ 1073741824 ∷ 0 ∷ 0 ∷ []; b = 0 ∷ 0 ∷ 0 ∷ 0 ∷ [] }
 
--- what stands at each record's offset, past the end, at a byte that is no kind, and at the last end's own count
+-- what stands at each record's offset, at the file's end, at the first byte of a flow, which is no kind, and at the last byte, a 2, which is a kind without its body
 pub e11-records :
     map (recordAt e11) (0 ∷ 38 ∷ 47 ∷ 56 ∷ 65 ∷ 70 ∷ 108 ∷ 117 ∷ 126 ∷ 131 ∷ 39 ∷ 130 ∷ [])
     ≡ (Whole 1 38 ∷ Whole 2 47 ∷ Whole 2 56 ∷ Whole 2 65 ∷ Whole 4 70 ∷ Whole 1 108 ∷ Whole 2 117 ∷ Whole 2 126 ∷ Whole 4 131 ∷ Missing ∷ Unknown ∷ Cut ∷ [])

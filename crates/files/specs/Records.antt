@@ -5,6 +5,8 @@ use mathlib.Core.List.{List, []}
 use Prim.Native.Nat.{ℕ, _+_, _-_}
 use lib.Dec.{eqb, leb}
 use lib.ListN.{getD, length, take, drop}
+use Rattle.sketch.specs.declared.answers.Why.the-variants.{Form}
+use Rattle.sketch.specs.Answers.{numberOf}
 use Rattle.files.specs.declared.records.Record.{Record}
 use Rattle.files.specs.declared.records.Record.the-variants.{Whole, Cut, Unknown, Missing}
 
@@ -19,6 +21,19 @@ recordAt bs at =
     (cond (eqb (bodyLength (getD bs at 0)) 0) Unknown
     (cond (leb (length bs - at) (bodyLength (getD bs at 0))) Cut
     (Whole (getD bs at 0) (at + 1 + bodyLength (getD bs at 0)))))
+
+-- the caller's number: FORM for all but a whole record; and the place told with it: its kind byte, or the file's length where nothing stands
+abbrev pub recordNumber : Record → ℕ
+recordNumber (Whole k next) = 0
+recordNumber Cut = numberOf Form
+recordNumber Unknown = numberOf Form
+recordNumber Missing = numberOf Form
+
+abbrev pub recordPlace : Record → ℕ → List ℕ → ℕ
+recordPlace (Whole k next) at bs = 0
+recordPlace Cut at bs = at
+recordPlace Unknown at bs = at
+recordPlace Missing at bs = length bs
 
 -- the body of a record that stands at an offset, empty where it is not whole, and how many bytes of the file stand before it
 unfoldable pub bodyOf : Record → ℕ → List ℕ → List ℕ
