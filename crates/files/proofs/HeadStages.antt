@@ -1,18 +1,21 @@
--- The stages of a head: no head, parameters that break a rule, and a head that says something.
-use mathlib.Core.Path.{_≡_, refl, sym, _∙_}
-use mathlib.Core.Bool.{true, false}
+-- The stages of a head: no head, parameters that break a rule, and a head that says something; and of what is judged with it.
+use mathlib.Core.Path.{_≡_, refl, sym, ap, _∙_}
+use mathlib.Core.Bool.{Bool, true, false, not, _&&_}
 use mathlib.Core.List.{List}
 use Prim.Native.Nat.{ℕ, _≤_}
 use native.Mathlib.Omega.{arith}
 use lib.ListN.{length}
-use Rattle.sketch.specs.declared.answers.Why.the-variants.{Param, Form}
+use Rattle.sketch.specs.declared.answers.Why.the-variants.{Param, Mismatch, Form}
+use Rattle.sketch.specs.declared.params.Params.{Params}
+use Rattle.sketch.specs.declared.answers.Answer.{Answer}
 use Rattle.sketch.specs.declared.answers.Answer.the-variants.{Done, Refused}
-use Rattle.sketch.specs.Answers.{kept}
-use Rattle.sketch.specs.Params.{goodParams}
+use Rattle.sketch.specs.Answers.{refuseIf, first, kept}
+use Rattle.sketch.specs.Params.{goodParams, sameParams, lengthsAnswer}
+use Rattle.sketch.proofs.Judging.{Refusal, first-refused, first-passed}
 use Rattle.files.specs.declared.heads.Headed.{Headed}
 use Rattle.files.specs.declared.records.Record.the-variants.{Whole}
 use Rattle.files.specs.Records.{bodyLength, recordAt}
-use Rattle.files.specs.Heads.{paramsIn, isHead, headAnswer, noParams, headOf}
+use Rattle.files.specs.Heads.{paramsIn, isHead, headAnswer, noParams, headOf, openingAnswer}
 use Rattle.files.proofs.Standing.{Stands, stands-whole}
 
 module _ (bs : List ℕ) where
@@ -32,3 +35,38 @@ module _ (bs : List ℕ) where
   pub head-long : (next : ℕ) → recordAt bs 0 ≡ Whole 1 next → 38 ≤ length bs
   unfolding bodyLength
   head-long next e = let s = stands-whole bs 0 1 next e in omega (arith, s .ends, s .within)
+
+-- what is judged before the records is the head, then what is given
+module _ (P : Params) (bs : List ℕ) (c s : ℕ) where
+  abbrev pub givenAnswer : Answer
+  givenAnswer =
+      refuseIf (not (goodParams P)) Param 0
+      (refuseIf (not (sameParams P (paramsIn bs))) Mismatch 0
+      (lengthsAnswer P c s))
+
+  pub head-then-given : openingAnswer P bs c s ≡ first (headAnswer bs) givenAnswer
+  unfolding openingAnswer headAnswer first
+  head-then-given = go (isHead (recordAt bs 0)) (goodParams (paramsIn bs))
+    where
+      go : (h g : Bool)
+          → refuseIf (not h) Form 0 (refuseIf (not (g && goodParams P)) Param 0 (refuseIf (not (sameParams P (paramsIn bs))) Mismatch 0 (lengthsAnswer P c s)))
+          ≡ first (refuseIf (not h) Form 0 (refuseIf (not g) Param 0 Done)) givenAnswer
+      go true true = refl
+      go true false = refl
+      go false g = refl
+
+  pub opening-headless : (r : Answer) → r ≡ headAnswer bs → Refusal r → r ≡ openingAnswer P bs c s
+  opening-headless r e h = first-refused r (headAnswer bs) givenAnswer e h ∙ sym head-then-given
+
+  module _ (headed : headAnswer bs ≡ Done) where
+    past : givenAnswer ≡ openingAnswer P bs c s
+    past = sym (head-then-given ∙ first-passed _ _ headed)
+
+    pub opening-bad : goodParams P ≡ false → Refused Param 0 ≡ openingAnswer P bs c s
+    opening-bad g = rw (← past, g)
+
+    pub opening-other : goodParams P ≡ true → sameParams P (paramsIn bs) ≡ false → Refused Mismatch 0 ≡ openingAnswer P bs c s
+    opening-other g e = rw (← past, g, e)
+
+    pub opening-lengths : goodParams P ≡ true → sameParams P (paramsIn bs) ≡ true → lengthsAnswer P c s ≡ openingAnswer P bs c s
+    opening-lengths g e = rw (← past, g, e)

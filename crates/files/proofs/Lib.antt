@@ -1,4 +1,8 @@
--- The laws of records and heads, which the proofs of this crate and of those above it cite.
+-- The laws of records, heads, counts and ends, read and written, which the proofs of this crate and of those above it cite.
 pub mod Standing
 pub mod HeadStages
+pub mod Counts
+pub mod EndStages
+pub mod Turning
+pub mod Overwriting
 pub mod Examples

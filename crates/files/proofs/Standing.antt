@@ -4,15 +4,14 @@ use mathlib.Core.Bool.{Bool, true, false, cond}
 use mathlib.Core.List.{List, [], _∷_}
 use Prim.Native.Nat.{ℕ, _+_, _-_, _≤_, _<_}
 use native.Mathlib.Omega.{arith}
-use borrow.Author.Tests.{leb-false}
+use borrow.Author.Tests.{leb-false, eqb-true, le-leb}
 use types.Run.{OneOf, miss}
 use denote.Enum.Declared.{tagOf}
 use lib.Dec.{eqb, leb}
 use lib.ListN.{getD, length}
 use Rattle.files.specs.declared.records.Record.{Record}
 use Rattle.files.specs.declared.records.Record.the-variants.{Whole, Cut, Unknown, Missing}
-use Rattle.files.specs.Records.{bodyLength, recordAt, bodyOf, bodyStart}
-use Rattle.files.specs.Heads.{isHead}
+use Rattle.files.specs.Records.{bodyLength, recordAt, isKind, bodyOf, bodyStart}
 use Rattle.files.proofs.records.Record.{the-type}
 
 -- a whole record: its kind, and that it ends within the file
@@ -47,9 +46,29 @@ stands-whole bs at k next = go (leb (length bs) at) (eqb (bodyLength (getD bs at
 abbrev pub NotWhole : Record → Type 0
 NotWhole r = OneOf (1 ∷ 2 ∷ 3 ∷ []) (tagOf the-type r)
 
-pub not-whole : (r : Record) (at : ℕ) (bs : List ℕ) → NotWhole r → (isHead r ≡ false) × (bodyOf r at bs ≡ []) × (bodyStart r at ≡ 0)
+pub not-whole : (r : Record) (at : ℕ) (bs : List ℕ) → NotWhole r → ((k : ℕ) → isKind k r ≡ false) × (bodyOf r at bs ≡ []) × (bodyStart r at ≡ 0)
 unfolding bodyOf bodyStart
 not-whole (Whole k next) at bs h = absurd (miss (1 ∷ 2 ∷ 3 ∷ []) 0 tt h)
-not-whole Cut at bs h = (refl, refl, refl)
-not-whole Unknown at bs h = (refl, refl, refl)
-not-whole Missing at bs h = (refl, refl, refl)
+not-whole Cut at bs h = ((λ k. refl), refl, refl)
+not-whole Unknown at bs h = ((λ k. refl), refl, refl)
+not-whole Missing at bs h = ((λ k. refl), refl, refl)
+
+-- a whole record of a kind, as its readers find it
+pub kind-whole : (bs : List ℕ) (at k j next : ℕ) → recordAt bs at ≡ Whole j next → isKind k (recordAt bs at) ≡ eqb j k
+kind-whole bs at k j next e = ap (isKind k) e
+
+pub kind-ends : (k : ℕ) (bs : List ℕ) (at : ℕ) → isKind k (recordAt bs at) ≡ true → at + 1 + bodyLength k ≤ length bs
+kind-ends k bs at e = go (recordAt bs at) refl e
+  where
+    go : (r : Record) → recordAt bs at ≡ r → isKind k r ≡ true → at + 1 + bodyLength k ≤ length bs
+    go (Whole j next) q h =
+        let s = stands-whole bs at j next q in
+        let same : j ≡ k = eqb-true j k h in
+        rw (← same) (omega (arith, s .ends, s .within))
+    go Cut q h = absurd (let w : _≡_ {A = ℕ} 0 1 = cc in omega arith)
+    go Unknown q h = absurd (let w : _≡_ {A = ℕ} 0 1 = cc in omega arith)
+    go Missing q h = absurd (let w : _≡_ {A = ℕ} 0 1 = cc in omega arith)
+
+pub nothing-stands : (bs : List ℕ) (at : ℕ) → length bs ≤ at → recordAt bs at ≡ Missing
+unfolding recordAt
+nothing-stands bs at h = rw (le-leb (length bs) at h)

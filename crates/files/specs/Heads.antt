@@ -1,20 +1,18 @@
--- The head of a file: d (1 byte), m (4), then four pairs of a multiplier (4) and an offset (4).
-use mathlib.Core.Bool.{Bool, true, false, not}
+-- The head of a file: d (1 byte), m (4), then four pairs of a multiplier (4) and an offset (4); and what is judged with it.
+use mathlib.Core.Bool.{Bool, not, _&&_}
 use mathlib.Core.List.{List, [], _∷_}
 use Prim.Native.Nat.{ℕ}
-use lib.Dec.{eqb}
 use lib.ListN.{getD}
 use Rattle.sketch.specs.declared.params.Params.{Params}
-use Rattle.sketch.specs.declared.answers.Why.the-variants.{Param, Form}
+use Rattle.sketch.specs.declared.answers.Why.the-variants.{Param, Mismatch, Form}
 use Rattle.sketch.specs.declared.answers.Answer.{Answer}
 use Rattle.sketch.specs.declared.answers.Answer.the-variants.{Done, Refused}
 use Rattle.sketch.specs.Answers.{refuseIf, kept}
-use Rattle.sketch.specs.Params.{goodParams}
+use Rattle.sketch.specs.Params.{goodParams, sameParams, lengthsAnswer}
 use Rattle.files.specs.declared.records.Record.{Record}
-use Rattle.files.specs.declared.records.Record.the-variants.{Whole, Cut, Unknown, Missing}
 use Rattle.files.specs.declared.heads.Headed.{Headed}
 use Rattle.files.specs.Bytes.{word}
-use Rattle.files.specs.Records.{recordAt}
+use Rattle.files.specs.Records.{recordAt, isKind}
 
 -- the parameters in a head that stands at the start of the file
 unfoldable pub paramsIn : List ℕ → Params
@@ -27,10 +25,7 @@ paramsIn bs =
     }
 
 abbrev pub isHead : Record → Bool
-isHead (Whole k next) = eqb k 1
-isHead Cut = false
-isHead Unknown = false
-isHead Missing = false
+isHead r = isKind 1 r
 
 -- a whole head stands there, and its parameters keep the rules
 unfoldable pub headAnswer : List ℕ → Answer
@@ -44,3 +39,12 @@ noParams = record { d = 0; m = 0; a = 0 ∷ 0 ∷ 0 ∷ 0 ∷ []; b = 0 ∷ 0 �
 
 abbrev pub headOf : List ℕ → Headed
 headOf bs = record { answer = headAnswer bs; params = kept (headAnswer bs) noParams (paramsIn bs) }
+
+-- what is judged before the records: the head, the parameters in it and those that are given, whether they are the same, and the
+-- lengths of the lent counts and idsums
+unfoldable pub openingAnswer : Params → List ℕ → ℕ → ℕ → Answer
+openingAnswer P bs c s =
+    refuseIf (not (isHead (recordAt bs 0))) Form 0
+    (refuseIf (not (goodParams (paramsIn bs) && goodParams P)) Param 0
+    (refuseIf (not (sameParams P (paramsIn bs))) Mismatch 0
+    (lengthsAnswer P c s)))

@@ -2,3 +2,6 @@
 pub mod Bytes
 pub mod Records
 pub mod Heads
+pub mod Layout
+pub mod Turns
+pub mod Writing

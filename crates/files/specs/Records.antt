@@ -22,6 +22,17 @@ recordAt bs at =
     (cond (leb (length bs - at) (bodyLength (getD bs at 0))) Cut
     (Whole (getD bs at 0) (at + 1 + bodyLength (getD bs at 0)))))
 
+-- a whole record of a kind stands there
+abbrev pub isKind : ℕ → Record → Bool
+isKind k (Whole j next) = eqb j k
+isKind k Cut = false
+isKind k Unknown = false
+isKind k Missing = false
+
+-- the place that is told with a fault of a record: its kind byte, or the file's length where it is due and missing
+abbrev pub placeOf : List ℕ → ℕ → ℕ
+placeOf bs at = cond (leb (length bs) at) (length bs) at
+
 -- the caller's number: FORM for all but a whole record; and the place told with it: its kind byte, or the file's length where nothing stands
 abbrev pub recordNumber : Record → ℕ
 recordNumber (Whole k next) = 0

@@ -2,7 +2,7 @@
 ghost use mathlib.Core.Path.{_≡_};
 ghost use Prim.Native.Nat.{ℕ, _≤_};
 ghost use lib.ListN.{length};
-ghost use Rattle.files.specs.Heads.{paramsIn, noParams, headOf};
+ghost use Rattle.files.specs.Heads.{paramsIn, noParams, headOf, openingAnswer};
 use crate::records::Record;
 use crate::records::record_at;
 use crate::records::word;
@@ -76,4 +76,23 @@ pub fn head(bytes: &[u8]) -> Headed
         answer: Answer::Done,
         params: p,
     }
+}
+
+// What is judged before the records: the head, the parameters in it and the given ones, and the lengths of the lent slices.
+pub fn opening(p: Params, bytes: &[u8], counts: usize, idsums: usize) -> Answer
+    ensures { λ r. ⌜ r ≡ openingAnswer p (now (bytes .entry)) counts idsums ⌝ }
+{
+    let h = head(bytes);
+    let judged = h.answer;
+    let Answer::Done = judged else {
+        return judged;
+    };
+    if !p.check() {
+        return Answer::Refused(Why::Param, 0);
+    }
+    let q = h.params;
+    if !p.same(q) {
+        return Answer::Refused(Why::Mismatch, 0);
+    }
+    p.shape(counts, idsums)
 }

@@ -3,7 +3,7 @@ ghost use mathlib.Core.Path.{_≡_};
 ghost use Prim.Native.Nat.{ℕ, _+_, _≤_};
 ghost use lib.ListN.{length};
 ghost use Rattle.files.specs.Bytes.{word as «word-of»};
-ghost use Rattle.files.specs.Records.{bodyLength, recordAt, Body};
+ghost use Rattle.files.specs.Records.{bodyLength, recordAt, isKind, Body};
 
 // What stands at an offset: a whole record of its kind, and where the next begins; one that is cut; one of no known kind; or
 // nothing.
@@ -48,6 +48,17 @@ pub fn record_at(bytes: &[u8], at: usize) -> Record
         return Record::Cut;
     }
     Record::Whole(kind, at + 1 + long)
+}
+
+// Whether a whole record of a kind stands there.
+pub fn is_kind(bytes: &[u8], at: usize, kind: u8) -> bool
+    ensures { λ r. ⌜ r ≡ isKind kind (recordAt (now (bytes .entry)) at) ⌝ }
+{
+    let found = record_at(bytes, at);
+    let Record::Whole(k, _) = found else {
+        return false;
+    };
+    k == kind
 }
 
 // The body of the record at an offset, a part of the lent bytes; an empty part at their start where no whole record stands there.

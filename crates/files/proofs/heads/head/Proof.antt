@@ -33,7 +33,7 @@ refused-requires : tie.Need-refused-requires
 refused-requires c κs = search needs
 
 returns : tie.Need-returns
-returns c = c .refused .ensures ∙ not-a-head _ (ap isHead (sym (c .before .before .record-at .ensures)) ∙ not-whole (c .before .before .record-at .result) 0 [] (c .before .match .keys2) .0)
+returns c = c .refused .ensures ∙ not-a-head _ (ap isHead (sym (c .before .before .record-at .ensures)) ∙ not-whole (c .before .before .record-at .result) 0 [] (c .before .match .keys2) .0 1)
 
 refused-requires-2 : tie.Need-refused-requires-2
 refused-requires-2 c κs = search needs

@@ -1,0 +1,34 @@
+-- The stages of an end: nothing there, no end, a wrong number, a byte after it, and an end as it is due.
+use mathlib.Core.Path.{_≡_}
+use mathlib.Core.Bool.{true, false}
+use mathlib.Core.List.{List}
+use Prim.Native.Nat.{ℕ, _+_, _≤_, _<_}
+use borrow.Author.Tests.{eq-eqb, ne-eqb, le-leb, lt-leb, lt-ltb, le-ltb}
+use lib.ListN.{length}
+use Rattle.sketch.specs.declared.answers.Why.the-variants.{Form}
+use Rattle.sketch.specs.declared.answers.Answer.the-variants.{Done, Refused}
+use Rattle.files.specs.Bytes.{word}
+use Rattle.files.specs.Records.{recordAt, isKind}
+use Rattle.files.specs.Turns.{endAnswer}
+use Rattle.files.proofs.Standing.{nothing-stands}
+
+module _ (bs : List ℕ) (at n : ℕ) where
+  pub end-missing : length bs ≤ at → Refused Form (length bs) ≡ endAnswer bs at n
+  unfolding endAnswer
+  end-missing h = rw (nothing-stands bs at h, le-leb (length bs) at h)
+
+  pub not-an-end : at < length bs → isKind 4 (recordAt bs at) ≡ false → Refused Form at ≡ endAnswer bs at n
+  unfolding endAnswer
+  not-an-end h e = rw (e, lt-leb (length bs) at h)
+
+  pub wrong-number : isKind 4 (recordAt bs at) ≡ true → (word bs (at + 1) ≡ n → ⊥) → Refused Form at ≡ endAnswer bs at n
+  unfolding endAnswer
+  wrong-number e q = rw (e, ne-eqb (word bs (at + 1)) n q)
+
+  pub byte-after : isKind 4 (recordAt bs at) ≡ true → word bs (at + 1) ≡ n → at + 5 < length bs → Refused Form (at + 5) ≡ endAnswer bs at n
+  unfolding endAnswer
+  byte-after e q l = rw (e, eq-eqb (word bs (at + 1)) n q, lt-ltb (at + 5) (length bs) l)
+
+  pub ended : isKind 4 (recordAt bs at) ≡ true → word bs (at + 1) ≡ n → length bs ≤ at + 5 → Done ≡ endAnswer bs at n
+  unfolding endAnswer
+  ended e q l = rw (e, eq-eqb (word bs (at + 1)) n q, le-ltb (at + 5) (length bs) l)

@@ -1,0 +1,100 @@
+-- Bytes written over others: one store, bytes after bytes, what stays as long as it was, and where there is room for a record.
+use mathlib.Core.Path.{_≡_, refl, sym, ap, ap₂, _∙_}
+use mathlib.Core.Bool.{Bool, true, false}
+use mathlib.Core.List.{List, [], _∷_, _++_, append-assoc}
+use Prim.Native.Nat.{ℕ, _+_, _≤_, _<_}
+use native.Mathlib.Omega.{arith}
+use borrow.Author.Tests.{le-leb, lt-leb, leb-true, leb-false}
+use lib.Dec.{leb}
+use lib.IntN.{ℤ}
+use lib.ListN.{length, take, drop, set, length-append, length-drop}
+use lib.Seq.{sets, sets-eq, length-take-le, take-at, drop-append-add, drop-drop}
+use Rattle.sketch.specs.declared.params.Params.{Params}
+use Rattle.files.specs.Bytes.{wordBytes, over}
+use Rattle.files.specs.Layout.{headBytes, packetBytes, bucketBytes, endBytes}
+use Rattle.files.specs.Writing.{written}
+
+-- how long each record is
+pub length-wordBytes : (n : ℕ) → length (wordBytes n) ≡ 4
+unfolding wordBytes
+length-wordBytes n = refl
+
+pub length-headBytes : (P : Params) → length (headBytes P) ≡ 38
+unfolding headBytes wordBytes
+length-headBytes P = refl
+
+pub length-packetBytes : (f n : ℕ) → length (packetBytes f n) ≡ 9
+unfolding packetBytes wordBytes
+length-packetBytes f n = refl
+
+pub length-bucketBytes : (k : ℕ) (c : ℤ) (s : ℕ) → length (bucketBytes k c s) ≡ 13
+unfolding bucketBytes wordBytes
+length-bucketBytes k c s = refl
+
+pub length-endBytes : (n : ℕ) → length (endBytes n) ≡ 5
+unfolding endBytes wordBytes
+length-endBytes n = refl
+
+-- nothing is written yet
+pub over-none : (xs : List ℕ) → xs ≡ over xs 0 []
+unfolding over
+over-none xs = refl
+
+-- bytes are stored one by one, or just one
+pub over-stores : (xs ys : List ℕ) (at : ℕ) → at + length ys ≤ length xs → sets xs at ys ≡ over xs at ys
+unfolding over
+over-stores xs ys at h = sets-eq ys xs at h ∙ append-assoc (take at xs) ys (drop (at + length ys) xs)
+
+pub over-store : (xs : List ℕ) (at b : ℕ) → at < length xs → set xs at b ≡ over xs at (b ∷ [])
+over-store xs at b h = over-stores xs (b ∷ []) at (omega arith)
+
+-- what lies before, and what is written, are as long as the offset where they end
+length-up-to : (xs ys : List ℕ) (at : ℕ) → at ≤ length xs → length (take at xs ++ ys) ≡ at + length ys
+length-up-to xs ys at h = rw (length-append, length-take-le)
+
+-- what is written right after what was written
+pub over-then : (xs ys zs : List ℕ) (at next : ℕ) → at ≤ length xs → next ≡ at + length ys → over (over xs at ys) next zs ≡ over xs at (ys ++ zs)
+unfolding over
+over-then xs ys zs at next h e =
+    let before : List ℕ = take at xs ++ ys in
+    let after : List ℕ = drop (at + length ys) xs in
+    let long : length before ≡ next = length-up-to xs ys at h ∙ sym e in
+    let end : at + length ys + length zs ≡ at + length (ys ++ zs) = omega (arith, length-append ys zs) in
+    let left = ap (λ n. drop (n + length zs) (before ++ after)) (sym long) ∙ drop-append-add before after (length zs) ∙ drop-drop (length zs) (at + length ys) xs ∙ ap (λ n. drop n xs) end in
+    ap (λ l. take next l ++ (zs ++ drop (next + length zs) l)) (sym (append-assoc (take at xs) ys after))
+    ∙ ap₂ (λ l r. l ++ (zs ++ r)) (take-at before after next long) left
+    ∙ simp append-assoc
+
+-- the same, where what is held before and after are known by equations
+pub over-next : (xs ys zs : List ℕ) (at next : ℕ) {now last : List ℕ} → now ≡ over xs at ys → last ≡ over now next zs → at ≤ length xs → next ≡ at + length ys → last ≡ over xs at (ys ++ zs)
+over-next xs ys zs at next e f h l = f ∙ ap (λ n. over n next zs) e ∙ over-then xs ys zs at next h l
+
+-- the output stays as long as it was
+pub length-over : (xs ys : List ℕ) (at : ℕ) → at + length ys ≤ length xs → length (over xs at ys) ≡ length xs
+unfolding over
+length-over xs ys at h =
+    let before : at ≤ length xs = omega arith in
+    simp (length-append, length-take-le, length-drop) (omega arith)
+
+-- a record for which there is room, and one for which there is none
+pub written-over : (xs ys : List ℕ) (at : ℕ) → at + length ys ≤ length xs → written xs at ys ≡ over xs at ys
+unfolding written
+written-over xs ys at h = rw (le-leb (at + length ys) (length xs) h)
+
+pub written-not : (xs ys : List ℕ) (at : ℕ) → length xs < at + length ys → written xs at ys ≡ xs
+unfolding written
+written-not xs ys at h = rw (lt-leb (at + length ys) (length xs) h)
+
+pub length-written : (xs ys : List ℕ) (at : ℕ) → length (written xs at ys) ≡ length xs
+length-written xs ys at = go (leb (at + length ys) (length xs)) refl
+  where
+    go : (t : Bool) → leb (at + length ys) (length xs) ≡ t → length (written xs at ys) ≡ length xs
+    go true e = let h = leb-true _ _ e in ap length (written-over xs ys at h) ∙ length-over xs ys at h
+    go false e = ap length (written-not xs ys at (leb-false _ _ e))
+
+-- a turn of a loop that writes record after record from the start on: `now` is what the output holds once `sofar` is written
+pub written-next : (xs now sofar ys : List ℕ) (at : ℕ) → now ≡ over xs 0 sofar → at ≡ length sofar → length sofar + length ys ≤ length xs
+    → written now at ys ≡ over xs 0 (sofar ++ ys)
+written-next xs now sofar ys at e l h =
+    let kept : length now ≡ length xs = ap length e ∙ length-over xs sofar 0 (omega arith) in
+    over-next xs sofar ys 0 at e (written-over now ys at (omega arith)) (omega arith) (omega arith)

@@ -1,0 +1,42 @@
+-- The bytes of each record, and what the fields of a whole one say.
+use mathlib.Core.Bool.{cond}
+use mathlib.Core.List.{List, [], _∷_, _++_}
+use Prim.Native.Nat.{ℕ, _+_}
+use lib.IntN.{ℤ}
+use lib.ListN.{getD}
+use Rattle.sketch.specs.declared.params.Params.{Params}
+use Rattle.files.specs.declared.fields.Packets.{Packets}
+use Rattle.files.specs.declared.fields.Packets.the-variants.{Of as PacketsOf, No as NoPackets}
+use Rattle.files.specs.declared.fields.Bucket.{Bucket}
+use Rattle.files.specs.declared.fields.Bucket.the-variants.{Of as BucketOf, No as NoBucket}
+use Rattle.files.specs.Bytes.{word, wordBytes, countWord, countOf}
+use Rattle.files.specs.Records.{recordAt, isKind}
+
+-- pair i of a head, counted from 0
+abbrev pub pairBytes : Params → ℕ → List ℕ
+pairBytes P i = wordBytes (getD (P .a) i 0) ++ wordBytes (getD (P .b) i 0)
+
+unfoldable pub headBytes : Params → List ℕ
+headBytes P =
+    (1 ∷ P .d ∷ wordBytes (P .m)) ++ (pairBytes P 0 ++ (pairBytes P 1 ++ (pairBytes P 2 ++ pairBytes P 3)))
+
+-- n packets of flow f
+unfoldable pub packetBytes : ℕ → ℕ → List ℕ
+packetBytes f n = 2 ∷ wordBytes f ++ wordBytes n
+
+-- bucket k with its count and its idsum
+unfoldable pub bucketBytes : ℕ → ℤ → ℕ → List ℕ
+bucketBytes k c s = 3 ∷ wordBytes k ++ (wordBytes (countWord c) ++ wordBytes s)
+
+-- the end, after n records
+unfoldable pub endBytes : ℕ → List ℕ
+endBytes n = 4 ∷ wordBytes n
+
+-- the flow and the number of a whole record of packets at an offset
+unfoldable pub packetsAt : List ℕ → ℕ → Packets
+packetsAt bs at = cond (isKind 2 (recordAt bs at)) (PacketsOf (word bs (at + 1)) (word bs (at + 5))) NoPackets
+
+-- the index, the count and the idsum of a whole bucket record at an offset
+unfoldable pub bucketAt : List ℕ → ℕ → Bucket
+bucketAt bs at =
+    cond (isKind 3 (recordAt bs at)) (BucketOf (word bs (at + 1)) (countOf (word bs (at + 5))) (word bs (at + 9))) NoBucket

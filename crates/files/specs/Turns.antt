@@ -1,0 +1,42 @@
+-- Records one after the other: the earliest at fault decides, then the end.
+use mathlib.Core.Bool.{not}
+use mathlib.Core.List.{List}
+use Prim.Native.Nat.{ℕ, zero, suc, _+_, _*_}
+use lib.Dec.{eqb, ltb}
+use lib.ListN.{length}
+use Rattle.sketch.specs.declared.answers.Why.the-variants.{Form}
+use Rattle.sketch.specs.declared.answers.Answer.{Answer}
+use Rattle.sketch.specs.declared.answers.Answer.the-variants.{Done, Refused}
+use Rattle.sketch.specs.Lists.{least}
+use Rattle.sketch.specs.Answers.{refuseIf, first}
+use Rattle.files.specs.Bytes.{word}
+use Rattle.files.specs.Records.{recordAt, isKind, placeOf}
+
+-- a refusal with an offset in place of its index
+unfoldable pub toldAt : ℕ → Answer → Answer
+toldAt at Done = Done
+toldAt at (Refused w k) = Refused w at
+
+-- the answers for records k, k + 1, .., n of them: the first that refuses decides
+unfoldable pub inTurn : ℕ → ℕ → (ℕ → Answer) → Answer
+inTurn k zero judge = Done
+inTurn k (suc n) judge = first (judge k) (inTurn (suc k) n judge)
+
+-- where the k-th record after the head stands, counted from 0, in a stream and in a sketch file
+abbrev pub packetPlace : ℕ → ℕ
+packetPlace k = 38 + 9 * k
+
+abbrev pub bucketPlace : ℕ → ℕ
+bucketPlace k = 38 + 13 * k
+
+-- how many whole records of a kind stand one after the other at these places
+unfoldable pub recordsOf : ℕ → (ℕ → ℕ) → List ℕ → ℕ
+recordsOf kind place bs = least 0 (length bs) (λ k. not (isKind kind (recordAt bs (place k))))
+
+-- what is due after n records: a whole end that says their number, and no byte after it
+unfoldable pub endAnswer : List ℕ → ℕ → ℕ → Answer
+endAnswer bs at n =
+    refuseIf (not (isKind 4 (recordAt bs at))) Form (placeOf bs at)
+    (refuseIf (not (eqb (word bs (at + 1)) n)) Form at
+    (refuseIf (ltb (at + 5) (length bs)) Form (at + 5)
+    Done))

@@ -1,0 +1,26 @@
+// The end of a file: what is due after its records.
+ghost use mathlib.Core.Path.{_≡_};
+ghost use Rattle.files.specs.Turns.{endAnswer};
+use crate::records::is_kind;
+use crate::records::word;
+use sketch::Answer;
+use sketch::Why;
+
+// A whole end that says how many records there were, and no byte after it.
+pub fn end(bytes: &[u8], at: usize, n: usize) -> Answer
+    ensures { λ r. ⌜ r ≡ endAnswer (now (bytes .entry)) at n ⌝ }
+{
+    if bytes.len() <= at {
+        return Answer::Refused(Why::Form, bytes.len());
+    }
+    if !is_kind(bytes, at, 4) {
+        return Answer::Refused(Why::Form, at);
+    }
+    if word(bytes, at + 1) as usize != n {
+        return Answer::Refused(Why::Form, at);
+    }
+    if at + 5 < bytes.len() {
+        return Answer::Refused(Why::Form, at + 5);
+    }
+    Answer::Done
+}
