@@ -92,8 +92,8 @@ module _ (kind : ℕ) (place : ℕ → ℕ) (bs : List ℕ) where
   pub come-next : (i : ℕ) → i < length bs → isKind kind (recordAt bs (place i)) ≡ true → Come i → Come (i + 1)
   come-next i l e q = scan-next (length bs) i _ other l (ap not e) q
 
-  pub come-end : (i : ℕ) → i ≤ length bs → isKind kind (recordAt bs (place i)) ≡ false → Come i → i ≡ recordsOf kind place bs
-  come-end i l e q = at (ltb i (length bs)) refl
+  pub come-end : (i : ℕ) → isKind kind (recordAt bs (place i)) ≡ false → Come i → i ≡ recordsOf kind place bs
+  come-end i e q = at (ltb i (length bs)) refl
     where
       at : (b : Bool) → ltb i (length bs) ≡ b → i ≡ recordsOf kind place bs
       at true h = scan-found (length bs) i _ other (ltb-true i (length bs) h) (ap not e) q

@@ -22,9 +22,13 @@ unfoldable pub inTurn : ℕ → ℕ → (ℕ → Answer) → Answer
 inTurn k zero judge = Done
 inTurn k (suc n) judge = first (judge k) (inTurn (suc k) n judge)
 
--- where the k-th record after the head stands, counted from 0, in a stream and in a sketch file
+-- where the k-th of packet records that begin at an offset stands, counted from 0
+abbrev pub packetFrom : ℕ → ℕ → ℕ
+packetFrom o k = o + 9 * k
+
+-- where the k-th record after the head stands, in a stream and in a sketch file
 abbrev pub packetPlace : ℕ → ℕ
-packetPlace k = 38 + 9 * k
+packetPlace k = packetFrom 38 k
 
 abbrev pub bucketPlace : ℕ → ℕ
 bucketPlace k = 38 + 13 * k

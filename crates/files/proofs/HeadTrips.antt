@@ -1,0 +1,154 @@
+-- Heads there and back: the head that is written is read as the parameters, and a head that was read is the one that is written.
+use mathlib.Core.Path.{_≡_, refl, sym, ap, ap₂, _∙_}
+use mathlib.Core.Bool.{Bool, true, false, not, _&&_}
+use mathlib.Core.List.{List, [], _∷_, _++_, append-assoc, append-nil}
+use Prim.Native.Nat.{ℕ, _+_, _≤_, _<_}
+use native.Mathlib.Omega.{arith}
+use borrow.Author.Tests.{ltb-true, eqb-true, eq-eqb, not-false}
+use lib.Dec.{eqb, ltb, leb}
+use lib.ListN.{getD, length, take, drop, length-append}
+use Rattle.sketch.specs.declared.params.Params.{Params}
+use Rattle.sketch.specs.declared.answers.Why.the-variants.{Param, Mismatch, Form}
+use Rattle.sketch.specs.declared.answers.Answer.the-variants.{Done}
+use Rattle.sketch.specs.Lists.{below}
+use Rattle.sketch.specs.Params.{prime, pairOk, pairAt, twins, goodSizes, goodParams, samePair, sameParams, lengthsAnswer}
+use Rattle.sketch.proofs.Searches.{and-true, below-at}
+use Rattle.sketch.proofs.Judging.{refuse-done}
+use Rattle.sketch.proofs.Rules.{good-sized}
+use Rattle.sketch.proofs.SameParams.{sizes-same, pair-same}
+use Rattle.files.specs.Bytes.{word, wordBytes}
+use Rattle.files.specs.Records.{bodyLength, recordAt}
+use Rattle.files.specs.Heads.{paramsIn, isHead, openingAnswer}
+use Rattle.files.specs.Layout.{pairBytes, headBytes}
+use Rattle.files.proofs.RoundTrips.{digits-make, byte-then, word-then}
+use Rattle.files.proofs.RecordTrips.{record-whole, whole-record}
+
+-- the numbers of good parameters have four bytes
+pair-small : (used : Bool) (a b : ℕ) → pairOk used a b ≡ true → (a < 4294967296) × (b < 4294967296)
+pair-small true a b e =
+    let h = and-true (leb 1 a && ltb a prime) (ltb b prime) e in
+    let k = and-true (leb 1 a) (ltb a prime) (h .0) in
+    (omega (arith, ltb-true a prime (k .1)), omega (arith, ltb-true b prime (h .1)))
+pair-small false a b e =
+    let h = and-true (eqb a 0) (eqb b 0) e in
+    (omega (arith, eqb-true a 0 (h .0)), omega (arith, eqb-true b 0 (h .1)))
+
+good-pair : (P : Params) (i : ℕ) → goodParams P ≡ true → i < 4 → (getD (P .a) i 0 < 4294967296) × (getD (P .b) i 0 < 4294967296)
+unfolding goodParams pairAt
+good-pair P i g l =
+    let h = and-true (goodSizes P) _ (and-true (goodSizes P && below 4 (pairAt (P .d) (P .a) (P .b))) _ g .0) .1 in
+    pair-small (ltb i (P .d)) (getD (P .a) i 0) (getD (P .b) i 0) (below-at 4 i (pairAt (P .d) (P .a) (P .b)) h l)
+
+-- all that a head can say of parameters: their first four pairs
+abbrev fourPairs : Params → Params
+fourPairs P =
+    record {
+      d = P .d;
+      m = P .m;
+      a = getD (P .a) 0 0 ∷ getD (P .a) 1 0 ∷ getD (P .a) 2 0 ∷ getD (P .a) 3 0 ∷ [];
+      b = getD (P .b) 0 0 ∷ getD (P .b) 1 0 ∷ getD (P .b) 2 0 ∷ getD (P .b) 3 0 ∷ [];
+    }
+
+four-good : (P : Params) → goodParams (fourPairs P) ≡ goodParams P
+unfolding goodParams goodSizes below pairAt twins
+four-good P = refl
+
+four-same : (P : Params) → sameParams P (fourPairs P) ≡ true
+unfolding sameParams samePair below
+four-same P =
+    let same : (n : ℕ) → eqb n n ≡ true = λ n. eq-eqb n n refl in
+    rw (
+      same (P .d),
+      same (P .m),
+      same (getD (P .a) 0 0),
+      same (getD (P .b) 0 0),
+      same (getD (P .a) 1 0),
+      same (getD (P .b) 1 0),
+      same (getD (P .a) 2 0),
+      same (getD (P .b) 2 0),
+      same (getD (P .a) 3 0),
+      same (getD (P .b) 3 0),
+    )
+
+module _ (P : Params) (ys : List ℕ) where
+  pub head-long : length (headBytes P ++ ys) ≡ 38 + length ys
+  unfolding headBytes wordBytes
+  head-long = length-append (headBytes P) ys
+
+  head-kind : isHead (recordAt (headBytes P ++ ys) 0) ≡ true
+  unfolding headBytes bodyLength
+  head-kind = record-whole (headBytes P ++ ys) 0 1 refl (omega arith) (omega (arith, head-long))
+
+  params-written : goodParams P ≡ true → paramsIn (headBytes P ++ ys) ≡ fourPairs P
+  unfolding paramsIn headBytes word wordBytes
+  params-written g =
+      let sizes = good-sized P g in
+      let p = good-pair P 0 g (omega arith) in
+      let q = good-pair P 1 g (omega arith) in
+      let r = good-pair P 2 g (omega arith) in
+      let s = good-pair P 3 g (omega arith) in
+      rw (
+        digits-make (P .m) (omega (arith, sizes .m-high)),
+        digits-make (getD (P .a) 0 0) (p .0),
+        digits-make (getD (P .b) 0 0) (p .1),
+        digits-make (getD (P .a) 1 0) (q .0),
+        digits-make (getD (P .b) 1 0) (q .1),
+        digits-make (getD (P .a) 2 0) (r .0),
+        digits-make (getD (P .b) 2 0) (r .1),
+        digits-make (getD (P .a) 3 0) (s .0),
+        digits-make (getD (P .b) 3 0) (s .1),
+      )
+
+  pub opening-written : (c s : ℕ) → goodParams P ≡ true → openingAnswer P (headBytes P ++ ys) c s ≡ lengthsAnswer P c s
+  unfolding openingAnswer
+  opening-written c s g = rw (head-kind, params-written g, four-good P, g, four-same P)
+
+-- where the opening is not refused
+pub record Opened (P : Params) (bs : List ℕ) (c s : ℕ) : Type 0 where
+  pub head : isHead (recordAt bs 0) ≡ true
+  pub good : goodParams P ≡ true
+  pub same : sameParams P (paramsIn bs) ≡ true
+  pub lengths : lengthsAnswer P c s ≡ Done
+
+pub opening-done : (P : Params) (bs : List ℕ) (c s : ℕ) → openingAnswer P bs c s ≡ Done → Opened P bs c s
+unfolding openingAnswer
+opening-done P bs c s e =
+    let h = refuse-done (not (isHead (recordAt bs 0))) Form 0 _ e in
+    let k = refuse-done (not (goodParams (paramsIn bs) && goodParams P)) Param 0 _ (h .1) in
+    let l = refuse-done (not (sameParams P (paramsIn bs))) Mismatch 0 (lengthsAnswer P c s) (k .1) in
+    record {
+      head = not-false _ (h .0);
+      good = and-true (goodParams (paramsIn bs)) (goodParams P) (not-false _ (k .0)) .1;
+      same = not-false _ (l .0);
+      lengths = l .1;
+    }
+
+-- the head that was read is the one that is written
+module _ (bs : List ℕ) (small : (k : ℕ) → getD bs k 0 < 256) where
+  pair-then : {a b : ℕ} {xs : List ℕ} (at n : ℕ) → at + 8 ≤ length bs → a ≡ word bs at → b ≡ word bs (at + 4) → xs ≡ take n (drop (at + 8) bs)
+      → (wordBytes a ++ wordBytes b) ++ xs ≡ take (n + 8) (drop at bs)
+  pair-then {a} {b} {xs} at n h p q r =
+      let bytes : 4 + (4 + n) ≡ n + 8 = omega arith in
+      append-assoc (wordBytes a) (wordBytes b) xs
+      ∙ ap₂ {C = List ℕ} (λ a ys. wordBytes a ++ ys) p
+      (ap₂ {C = List ℕ} (λ b ys. wordBytes b ++ ys) q r ∙ word-then bs small (at + 4) (at + 8) n (omega arith) (omega arith))
+      ∙ word-then bs small at (at + 4) (4 + n) (omega arith) refl ∙ ap (λ (k : ℕ). take k (drop at bs)) bytes
+
+  pub head-read : (P : Params) → isHead (recordAt bs 0) ≡ true → sameParams P (paramsIn bs) ≡ true → headBytes P ≡ take 38 bs
+  unfolding paramsIn headBytes bodyLength
+  head-read P h e =
+      let s = whole-record bs 0 1 h in
+      let long : 38 ≤ length bs = omega (arith, s .1) in
+      let sizes = sizes-same P (paramsIn bs) e in
+      let p = pair-same P (paramsIn bs) e 0 (omega arith) in
+      let q = pair-same P (paramsIn bs) e 1 (omega arith) in
+      let r = pair-same P (paramsIn bs) e 2 (omega arith) in
+      let t = pair-same P (paramsIn bs) e 3 (omega arith) in
+      let fourth : pairBytes P 3 ≡ take 8 (drop 30 bs) = sym (append-nil (pairBytes P 3)) ∙ pair-then 30 0 (omega arith) (t .0) (t .1) refl in
+      let third : pairBytes P 2 ++ pairBytes P 3 ≡ take 16 (drop 22 bs) = pair-then 22 8 (omega arith) (r .0) (r .1) fourth in
+      let second : pairBytes P 1 ++ (pairBytes P 2 ++ pairBytes P 3) ≡ take 24 (drop 14 bs) = pair-then 14 16 (omega arith) (q .0) (q .1) third in
+      let pairs = pair-then 6 24 (omega arith) (p .0) (p .1) second in
+      ap₂ {C = List ℕ} _∷_ (sym (s .0))
+      (ap₂ {C = List ℕ} _∷_ (sizes .0) (ap₂ {C = List ℕ} (λ m xs. wordBytes m ++ xs) (sizes .1) pairs ∙ word-then bs small 2 6 32 (omega arith) refl)
+      ∙ byte-then bs 1 2 36 (omega arith) refl)
+      ∙ byte-then bs 0 1 37 (omega arith) refl

@@ -1,0 +1,128 @@
+-- Sketches that can be written and files that can be read are each other's: the file of such a sketch is accepted and holds it, and such a file is that of the sketch that it holds.
+use mathlib.Core.Path.{_≡_, refl, sym, ap, ap₂, _∙_}
+use mathlib.Core.Bool.{true, false, not}
+use mathlib.Core.List.{List, _++_, append-assoc}
+use Prim.Native.Nat.{ℕ, _+_, _≤_, _<_}
+use native.Mathlib.Nat.{zero-add}
+use native.Mathlib.Omega.{arith}
+use borrow.Author.Tests.{eq-eqb, le-ltb, not-false}
+use lib.Dec.{ltb}
+use lib.IntN.{pos}
+use lib.ListN.{length, getD, length-append}
+use lib.Seq.{getD-at}
+use Rattle.sketch.specs.declared.params.Params.{Params}
+use Rattle.sketch.specs.declared.answers.Why.the-variants.{Param, Length, Damage}
+use Rattle.sketch.specs.declared.answers.Answer.the-variants.{Done}
+use Rattle.sketch.specs.Params.{size, goodParams, lengthsAnswer, shapeAnswer}
+use Rattle.sketch.specs.Sketch.{Sketch, sketch, damagedAt, zeros}
+use Rattle.sketch.proofs.Judging.{first-done, first-passed, refuse-done, refuse-at-done, refuse-none}
+use Rattle.sketch.proofs.Rules.{good-sized, sized-small, lengths-done}
+use Rattle.files.specs.Bytes.{wordBytes}
+use Rattle.files.specs.Records.{recordAt, isKind}
+use Rattle.files.specs.Heads.{openingAnswer}
+use Rattle.files.specs.Layout.{headBytes, endBytes}
+use Rattle.files.specs.Turns.{inTurn, bucketPlace, endAnswer}
+use Rattle.files.proofs.HeadTrips.{head-long, opening-written, opening-done, head-read}
+use Rattle.files.proofs.RecordTrips.{not-kind, records-are, record-before, turn-at, turns-done, end-written, end-read}
+use Rattle.sketchfile.specs.Stored.{bucketsIn, lowest, bucketJudged, bucketsJudged, sketchAnswer, stored, sketchIn}
+use Rattle.sketchfile.specs.Writing.{bucketsBytes, bucketsLeft, sketchBytes, sketchWriting}
+use Rattle.sketchfile.proofs.BucketTrips.{left-few, buckets-long}
+use Rattle.sketchfile.proofs.Filling.{filled-all, counts-long, idsums-long, Told, told-none, told-all}
+use Rattle.sketchfile.proofs.Rewriting.{rewritten-all, same-bytes}
+
+-- a sketch whose writing is not refused
+pub record Writable (P : Params) (S : Sketch) : Type 0 where
+  pub good : goodParams P ≡ true
+  pub counts : length (S .counts) ≡ size P
+  pub idsums : length (S .idsums) ≡ size P
+  pub undamaged : (k : ℕ) → k < size P → damagedAt S k ≡ false
+
+lengths-good : (P : Params) (c s : ℕ) → c ≡ size P → s ≡ size P → lengthsAnswer P c s ≡ Done
+unfolding lengthsAnswer
+lengths-good P c s e h = rw (eq-eqb c (size P) e, eq-eqb s (size P) h)
+
+pub writing-done : (P : Params) (S : Sketch) (o : ℕ) → sketchWriting P S o ≡ Done → Writable P S
+unfolding sketchWriting shapeAnswer
+writing-done P S o e =
+    let h = first-done (shapeAnswer P (length (S .counts)) (length (S .idsums))) _ e in
+    let k = refuse-done (not (goodParams P)) Param 0 _ (h .0) in
+    let l = lengths-done P (length (S .counts)) (length (S .idsums)) (k .1) in
+    record {
+      good = not-false _ (k .0);
+      counts = l .0;
+      idsums = l .1;
+      undamaged = refuse-at-done (size P) (damagedAt S) Damage Done (refuse-done (ltb o (length (sketchBytes P S))) Length 0 _ (h .1) .1) .0;
+    }
+
+pub writable-done : (P : Params) (S : Sketch) (o : ℕ) → Writable P S → length (sketchBytes P S) ≤ o → sketchWriting P S o ≡ Done
+unfolding sketchWriting shapeAnswer
+writable-done P S o h l =
+    first-passed (shapeAnswer P (length (S .counts)) (length (S .idsums))) _ (rw (h .good) (lengths-good P _ _ (h .counts) (h .idsums)))
+    ∙ (rw (le-ltb o (length (sketchBytes P S)) l) (refuse-none (size P) (damagedAt S) Damage Done (h .undamaged)))
+
+-- the file of such a sketch is accepted, and holds the sketch
+module _ (P : Params) (S : Sketch) (able : Writable P S) where
+  abbrev file : List ℕ
+  file = sketchBytes P S
+
+  abbrev number : ℕ
+  number = bucketsLeft 0 (size P) S
+
+  abbrev before : List ℕ
+  before = headBytes P ++ bucketsBytes 0 (size P) S
+
+  file-is : file ≡ before ++ endBytes number
+  unfolding sketchBytes
+  file-is = sym (append-assoc (headBytes P) (bucketsBytes 0 (size P) S) (endBytes number))
+
+  end-place : length before ≡ bucketPlace number
+  end-place = head-long P (bucketsBytes 0 (size P) S) ∙ ap (λ (n : ℕ). 38 + n) (buckets-long S 0 (size P))
+
+  short : size P ≤ 65536
+  short = sized-small (good-sized P (able .good))
+
+  told : Told P file S number (size P)
+  unfolding sketchBytes headBytes wordBytes
+  told = rw (zero-add number) at (told-all P file S (endBytes number) short (able .undamaged) (size P) 0 0 (headBytes P) refl refl (zero-add (size P)) (told-none P file S))
+
+  ended : endAnswer file (bucketPlace number) number ≡ Done
+  ended = rw file-is (end-written before (bucketPlace number) number end-place (omega (arith, short, left-few S 0 (size P))))
+
+  counted : bucketsIn file ≡ number
+  unfolding endBytes
+  counted =
+      let long : length file ≡ bucketPlace number + length (endBytes number) = ap length file-is ∙ length-append before (endBytes number) ∙ ap (λ (n : ℕ). n + length (endBytes number)) end-place in
+      let four : getD file (bucketPlace number) 0 ≡ 4 = rw file-is (getD-at before 4 (wordBytes number) 0 (bucketPlace number) end-place) in
+      records-are 3 bucketPlace file number (omega arith) (told .kinds) (not-kind file (bucketPlace number) 3 (λ q. omega arith))
+
+  pub file-accepted : (c s : ℕ) → c ≡ size P → s ≡ size P → sketchAnswer P file c s ≡ Done
+  unfolding sketchBytes sketchAnswer bucketsJudged
+  file-accepted c s e h =
+      let judged = turns-done 0 number (bucketJudged (size P) file) (λ x l m. told .judged x (omega arith)) in
+      first-passed (openingAnswer P file c s) _ (opening-written P _ c s (able .good) ∙ lengths-good P c s e h)
+      ∙ rw counted (first-passed (inTurn 0 number (bucketJudged (size P) file)) _ judged ∙ ended)
+
+  pub file-content : sketchIn P file ≡ S
+  unfolding sketchIn
+  file-content =
+      ap (λ (n : ℕ). stored file n (zeros P)) counted
+      ∙ ap₂ sketch
+      (filled-all (pos 0) (S .counts) (counts-long P file number) (able .counts) (told .counts))
+      (filled-all 0 (S .idsums) (idsums-long P file number) (able .idsums) (told .idsums))
+
+-- an accepted file is that of the sketch that it holds, which can be written
+pub accepted : (P : Params) (bs : List ℕ) (c s : ℕ) → ((k : ℕ) → getD bs k 0 < 256) → sketchAnswer P bs c s ≡ Done
+    → Writable P (sketchIn P bs) × (sketchBytes P (sketchIn P bs) ≡ bs)
+unfolding sketchAnswer bucketsJudged sketchIn
+accepted P bs c s small e =
+    let n = bucketsIn bs in
+    let h = first-done (openingAnswer P bs c s) (bucketsJudged (size P) bs) e in
+    let opened = opening-done P bs c s (h .0) in
+    let k = first-done (inTurn 0 n (bucketJudged (size P) bs)) (endAnswer bs (bucketPlace n) n) (h .1) in
+    let end = end-read bs (bucketPlace n) n small (k .1) in
+    let head = head-read bs small P (opened .head) (opened .same) in
+    let kind : (x : ℕ) → x < n → isKind 3 (recordAt bs (bucketPlace x)) ≡ true = λ x l. record-before 3 bucketPlace bs x (omega (arith, end .0)) l in
+    let sound : (x : ℕ) → x < n → bucketJudged (size P) bs x ≡ Done = λ x l. turn-at 0 n x (bucketJudged (size P) bs) (k .0) (omega arith) (omega arith) in
+    let r = rewritten-all P bs small n head kind sound in
+    let able : Writable P (stored bs n (zeros P)) = record { good = opened .good; counts = counts-long P bs n; idsums = idsums-long P bs n; undamaged = λ x l. r .undamaged x } in
+    (able, same-bytes P bs small n (lowest bs n) (stored bs n (zeros P)) r (k .1))

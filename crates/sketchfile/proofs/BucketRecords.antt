@@ -1,0 +1,169 @@
+-- Laws of the buckets in a sketch file: what is refused of one, what a reader finds in turn, and what holds where nothing is refused.
+use mathlib.Core.Path.{_≡_, refl, sym, _∙_}
+use mathlib.Core.Bool.{Bool, true, false, not, cond, _&&_}
+use mathlib.Core.List.{List}
+use Prim.Native.Nat.{ℕ, _+_, _≤_, _<_}
+use native.Mathlib.Numerals.{add-one}
+use native.Mathlib.Omega.{arith}
+use borrow.Author.Tests.{le-leb, lt-leb, lt-ltb, le-ltb, ltb-true, not-false}
+use lib.Dec.{leb, ltb}
+use lib.IntN.{ℤ}
+use lib.ListN.{length, set}
+use Rattle.sketch.specs.declared.params.Params.{Params}
+use Rattle.sketch.specs.declared.answers.Why.the-variants.{Param, Damage, Mismatch, Form}
+use Rattle.sketch.specs.declared.answers.Answer.{Answer}
+use Rattle.sketch.specs.declared.answers.Answer.the-variants.{Done, Refused}
+use Rattle.sketch.specs.Answers.{kept}
+use Rattle.sketch.specs.Params.{prime, goodParams, sameParams, shapeAnswer}
+use Rattle.sketch.specs.Buckets.{inLimits, damaged}
+use Rattle.sketch.specs.Sketch.{Sketch, sketch, Freshened}
+use Rattle.sketch.proofs.Searches.{and-true}
+use Rattle.sketch.proofs.Judging.{Refusal, first-refused, first-passed, first-done, refuse-done}
+use Rattle.files.specs.declared.fields.Bucket.{Bucket}
+use Rattle.files.specs.declared.fields.Bucket.the-variants.{Of as BucketOf, No as NoBucket}
+use Rattle.files.specs.Bytes.{word, countOf}
+use Rattle.files.specs.Records.{bodyLength, recordAt, isKind}
+use Rattle.files.specs.Heads.{paramsIn, isHead, openingAnswer}
+use Rattle.files.specs.Layout.{bucketAt}
+use Rattle.files.specs.Turns.{bucketPlace, endAnswer}
+use Rattle.files.proofs.Standing.{kind-ends}
+use Rattle.files.proofs.Turning.{Come, come-start, come-next, come-end, come-within, in-turn-refused, in-turn-done, done-in-turn}
+use Rattle.sketchfile.specs.Stored.{bucketsIn, bucketIndex, bucketCount, bucketIdsum, allZero, lowest, bucketAnswer, bucketJudged, bucketsJudged, stored, sketchIn}
+
+-- what is refused of one bucket, by its stages
+module _ (N low at x : ℕ) (c : ℤ) (s : ℕ) where
+  pub bucket-damaged : (inLimits c && ltb s prime) ≡ false → Refused Damage at ≡ bucketAnswer N low at x c s
+  unfolding bucketAnswer
+  bucket-damaged e = rw e
+
+  module _ (sound : (inLimits c && ltb s prime) ≡ true) where
+    pub bucket-low : x < low → Refused Form at ≡ bucketAnswer N low at x c s
+    unfolding bucketAnswer
+    bucket-low h = rw (sound, lt-leb low x h)
+
+    pub bucket-high : low ≤ x → N ≤ x → Refused Form at ≡ bucketAnswer N low at x c s
+    unfolding bucketAnswer
+    bucket-high l h = rw (sound, le-leb low x l, le-ltb x N h)
+
+    pub bucket-zero : low ≤ x → x < N → allZero c s ≡ true → Refused Form at ≡ bucketAnswer N low at x c s
+    unfolding bucketAnswer
+    bucket-zero l h e = rw (sound, le-leb low x l, lt-ltb x N h, e)
+
+    pub bucket-passed : low ≤ x → x < N → allZero c s ≡ false → Done ≡ bucketAnswer N low at x c s
+    unfolding bucketAnswer
+    bucket-passed l h e = rw (sound, le-leb low x l, lt-ltb x N h, e)
+
+  pub passed-inside : bucketAnswer N low at x c s ≡ Done → x < N
+  unfolding bucketAnswer
+  passed-inside e =
+      let placed = refuse-done (not (leb low x && ltb x N)) Form at _ (refuse-done (damaged c s) Damage at _ e .1) .0 in
+      ltb-true x N (and-true (leb low x) _ (not-false _ placed) .1)
+
+-- a reader has come to bucket n of the file, which is due at an offset
+pub record Reader (bs : List ℕ) (n at : ℕ) : Type 0 where
+  pub place : at ≡ bucketPlace n
+  pub come : Come 3 bucketPlace bs n
+
+pub reader-start : (bs : List ℕ) → Reader bs 0 38
+reader-start bs = record { place = refl; come = come-start 3 bucketPlace bs }
+
+-- it found bucket n there, whole
+pub record Found (bs : List ℕ) (n at k : ℕ) (c : ℤ) (s : ℕ) : Type 0 where
+  pub index : k ≡ bucketIndex bs n
+  pub count : c ≡ bucketCount bs n
+  pub idsum : s ≡ bucketIdsum bs n
+  pub before-end : at + 13 ≤ length bs
+  pub counted : n < bucketsIn bs
+  pub next : Reader bs (n + 1) (at + 13)
+
+-- what stands at an offset: a whole bucket by its fields, or no bucket
+fields : (bs : List ℕ) (at k : ℕ) (c : ℤ) (s : ℕ) → BucketOf k c s ≡ bucketAt bs at
+    → (isKind 3 (recordAt bs at) ≡ true) × (k ≡ word bs (at + 1)) × (c ≡ countOf (word bs (at + 5))) × (s ≡ word bs (at + 9))
+unfolding bucketAt
+fields bs at k c s = go (isKind 3 (recordAt bs at))
+  where
+    go : (b : Bool) → BucketOf k c s ≡ cond b (BucketOf (word bs (at + 1)) (countOf (word bs (at + 5))) (word bs (at + 9))) NoBucket
+        → (b ≡ true) × (k ≡ word bs (at + 1)) × (c ≡ countOf (word bs (at + 5))) × (s ≡ word bs (at + 9))
+    go true q = (refl, cc, cc, cc)
+    go false q = absurd (let w : _≡_ {A = ℕ} 0 1 = cc in omega arith)
+
+no-bucket : (bs : List ℕ) (at : ℕ) → NoBucket ≡ bucketAt bs at → isKind 3 (recordAt bs at) ≡ false
+unfolding bucketAt
+no-bucket bs at = go (isKind 3 (recordAt bs at))
+  where
+    go : (b : Bool) → NoBucket ≡ cond b (BucketOf (word bs (at + 1)) (countOf (word bs (at + 5))) (word bs (at + 9))) NoBucket → b ≡ false
+    go true q = absurd (let w : _≡_ {A = ℕ} 0 1 = cc in omega arith)
+    go false q = refl
+
+bucket-ends : (bs : List ℕ) (at : ℕ) → isKind 3 (recordAt bs at) ≡ true → at + 13 ≤ length bs
+unfolding bodyLength
+bucket-ends bs at e = omega (arith, kind-ends 3 bs at e)
+
+module _ {bs : List ℕ} {n at : ℕ} {found : Bucket} (r : Reader bs n at) (e : found ≡ bucketAt bs at) where
+  pub found-bucket : {k : ℕ} {c : ℤ} {s : ℕ} → found ≡ BucketOf k c s → Found bs n at k c s
+  found-bucket {k} {c} {s} q =
+      let f = rw (r .place) at (fields bs at k c s (sym q ∙ e)) in
+      let short = bucket-ends bs (bucketPlace n) (f .0) in
+      let come-on = come-next 3 bucketPlace bs n (omega arith) (f .0) (r .come) in
+      record {
+        index = f .1;
+        count = f .2;
+        idsum = f .3;
+        before-end = omega arith;
+        counted = omega (arith, come-within 3 bucketPlace bs (n + 1) come-on);
+        next = record { place = omega arith; come = come-on };
+      }
+
+  pub none-left : found ≡ NoBucket → n ≡ bucketsIn bs
+  none-left q = come-end 3 bucketPlace bs n (rw (r .place) at (no-bucket bs at (sym q ∙ e))) (r .come)
+
+-- the answers for the buckets in turn
+module _ (N : ℕ) {bs : List ℕ} {n at : ℕ} where
+  pub as-judged : {k s low : ℕ} {c z : ℤ} {r : Answer} → Reader bs n at → Found bs n at k c s → low ≡ lowest bs n → z ≡ c
+      → r ≡ bucketAnswer N low at k z s → r ≡ bucketJudged N bs n
+  unfolding bucketJudged
+  as-judged here f e h q = rw (e, h, here .place, f .index, f .count, f .idsum) at q
+
+  pub bucket-refused : {k s : ℕ} {c : ℤ} {r : Answer} → Found bs n at k c s → ((j : ℕ) → j < n → bucketJudged N bs j ≡ Done)
+      → r ≡ bucketJudged N bs n → Refusal r → r ≡ bucketsJudged N bs
+  unfolding bucketsJudged
+  bucket-refused {r = r} f passed e h = first-refused r _ _ (in-turn-refused (bucketsIn bs) n (bucketJudged N bs) r (f .counted) passed e h) h
+
+  pub all-passed : Reader bs n at → n ≡ bucketsIn bs → ((j : ℕ) → j < n → bucketJudged N bs j ≡ Done) → endAnswer bs at n ≡ bucketsJudged N bs
+  unfolding bucketsJudged
+  all-passed here e passed = rw (here .place, ← e) (sym (first-passed _ _ (in-turn-done n (bucketJudged N bs) passed)))
+
+module _ {bs : List ℕ} {n at k s : ℕ} {c : ℤ} (f : Found bs n at k c s) where
+  pub next-lowest : k + 1 ≡ lowest bs (n + 1)
+  unfolding lowest
+  next-lowest = rw (add-one n, f .index) (add-one _)
+
+  -- the buckets stored in turn
+  pub next-stored : {cs : List ℤ} {ss : List ℕ} {z : ℤ} (S : Sketch) → sketch cs ss ≡ stored bs n S → z ≡ c → sketch (set cs k z) (set ss k s) ≡ stored bs (n + 1) S
+  unfolding stored
+  next-stored S e h = rw (add-one n, ← e, h, f .index, f .count, f .idsum)
+
+-- a reader that stores the buckets it passes has made T of S
+pub record Storing (bs : List ℕ) (S : Sketch) (at : ℕ) (T : Sketch) : Type 0 where
+  pub passed : ℕ
+  pub reader : Reader bs passed at
+  pub so-far : T ≡ stored bs passed S
+
+pub all-stored : {P : Params} (bs : List ℕ) {S T U : Sketch} {a r : Answer} → Freshened P S a T → shapeAnswer P (length (S .counts)) (length (S .idsums)) ≡ Done
+    → U ≡ stored bs (bucketsIn bs) T → r ≡ Done → U ≡ kept r S (sketchIn P bs)
+unfolding kept sketchIn
+all-stored bs f shaped filled done = rw (done, filled, f .after, f .answer, shaped)
+
+-- where nothing is refused, each index lies in the sketch, and the parameters and the lengths of the lent slices are right
+pub indexes-inside : (N : ℕ) (bs : List ℕ) → bucketsJudged N bs ≡ Done → (k : ℕ) → k < bucketsIn bs → bucketIndex bs k < N
+unfolding bucketsJudged bucketJudged
+indexes-inside N bs e k l =
+    passed-inside N (lowest bs k) (bucketPlace k) _ _ _ (done-in-turn (bucketsIn bs) (bucketJudged N bs) (first-done _ _ e .0) k l)
+
+pub opening-shape : (P : Params) (bs : List ℕ) (c s : ℕ) → openingAnswer P bs c s ≡ Done → shapeAnswer P c s ≡ Done
+unfolding openingAnswer shapeAnswer
+opening-shape P bs c s e =
+    let given = refuse-done (not (isHead (recordAt bs 0))) Form 0 _ e .1 in
+    let good = refuse-done (not (goodParams (paramsIn bs) && goodParams P)) Param 0 _ given in
+    let lengths = refuse-done (not (sameParams P (paramsIn bs))) Mismatch 0 _ (good .1) .1 in
+    rw (and-true (goodParams (paramsIn bs)) _ (not-false _ (good .0)) .1) lengths

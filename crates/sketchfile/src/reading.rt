@@ -1,0 +1,94 @@
+// A sketch file read: it takes the place of a lent sketch's content.
+ghost use mathlib.Core.Path.{_≡_};
+ghost use Prim.Native.Nat.{ℕ, _<_};
+ghost use lib.ListN.{length};
+ghost use Rattle.sketch.specs.Sketch.{sketch};
+ghost use Rattle.sketchfile.specs.Stored.{bucketsIn, bucketIndex, bucketAnswer, bucketsJudged, stored, SketchRead};
+use crate::buckets::all_zero;
+use files::ends::end;
+use files::fields::Bucket;
+use files::fields::bucket_at;
+use files::heads::opening;
+use sketch::Answer;
+use sketch::Params;
+use sketch::Why;
+use sketch::buckets::sound;
+use sketch::packets::fresh;
+
+// One bucket record at an offset, in a sketch of `size` buckets, where no index below `low` may stand.
+fn judge_bucket(size: usize, low: usize, at: usize, index: usize, c: i32, s: u32) -> Answer
+    ensures { λ r. ⌜ r ≡ bucketAnswer size low at index c s ⌝ }
+{
+    if !sound(c, s) {
+        return Answer::Refused(Why::Damage, at);
+    }
+    if index < low {
+        return Answer::Refused(Why::Form, at);
+    }
+    if size <= index {
+        return Answer::Refused(Why::Form, at);
+    }
+    if all_zero(c, s) {
+        return Answer::Refused(Why::Form, at);
+    }
+    Answer::Done
+}
+
+// The records after the head, of a sketch of `size` buckets.
+fn judge_records(size: usize, bytes: &[u8]) -> Answer
+    ensures { λ r. ⌜ r ≡ bucketsJudged size (now (bytes .entry)) ⌝ }
+{
+    let mut at = 38;
+    let mut n = 0;
+    let mut low = 0;
+    loop {
+        let found = bucket_at(bytes, at);
+        let Bucket::Of(index, c, s) = found else {
+            break;
+        };
+        let r = judge_bucket(size, low, at, index as usize, c, s);
+        let Answer::Done = r else {
+            return r;
+        };
+        low = index as usize + 1;
+        at += 13;
+        n += 1;
+    }
+    end(bytes, at, n)
+}
+
+// Stores the file's buckets.
+fn store(counts: &mut [i32], idsums: &mut [u32], bytes: &[u8])
+    requires { ⌜ length (now counts) ≡ length (now idsums) ⌝ }
+    requires { ⌜ ((k : ℕ) → k < bucketsIn (now bytes) → bucketIndex (now bytes) k < length (now counts)) ⌝ }
+    ensures { λ r. ⌜ sketch (now (counts .exit)) (now (idsums .exit)) ≡ stored (now (bytes .entry)) (bucketsIn (now (bytes .entry))) (sketch (now (counts .entry)) (now (idsums .entry))) ⌝ }
+{
+    let mut at = 38;
+    loop {
+        let found = bucket_at(bytes, at);
+        let Bucket::Of(index, c, s) = found else {
+            break;
+        };
+        let k = index as usize;
+        counts[k] = c;
+        idsums[k] = s;
+        at += 13;
+    }
+}
+
+// Reads a sketch file with the parameters p. The old content is not looked at, and a refusal alters nothing.
+pub fn read_sketch(p: Params, counts: &mut [i32], idsums: &mut [u32], bytes: &[u8]) -> Answer
+    ensures { λ r. ⌜ SketchRead p (now (bytes .entry)) (sketch (now (counts .entry)) (now (idsums .entry))) r (sketch (now (counts .exit)) (now (idsums .exit))) ⌝ }
+{
+    let o = opening(p, bytes, counts.len(), idsums.len());
+    let Answer::Done = o else {
+        return o;
+    };
+    let r = judge_records(counts.len(), bytes);
+    let Answer::Done = r else {
+        return r;
+    };
+    fresh(p, counts, idsums);
+    store(counts, idsums, bytes);
+    r
+}

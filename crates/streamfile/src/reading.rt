@@ -1,0 +1,84 @@
+// A stream file read into a lent sketch: its packets are inserted in turn.
+ghost use mathlib.Core.Path.{_≡_};
+ghost use Prim.Native.Nat.{ℕ, _≤_};
+ghost use Rattle.sketch.specs.Sketch.{sketch};
+ghost use Rattle.sketch.specs.Packets.{Unwound};
+ghost use Rattle.files.specs.Turns.{toldAt};
+ghost use Rattle.streamfile.specs.Streams.{packetsIn, flowsIn, numbersIn, RecordsRead, StreamRead};
+use files::ends::end;
+use files::fields::Packets;
+use files::fields::packets_at;
+use files::heads::opening;
+use sketch::Answer;
+use sketch::Params;
+use sketch::Why;
+use sketch::buckets::first_damaged;
+use sketch::packets::step;
+
+// A refusal with an offset in place of its index.
+fn told_at(at: usize, r: Answer) -> Answer
+    ensures { λ x. ⌜ x ≡ toldAt at r ⌝ }
+{
+    match r {
+        Answer::Done => Answer::Done,
+        Answer::Refused(why, _) => Answer::Refused(why, at),
+    }
+}
+
+// Takes the first n packets of the file out again, the last of them first: the sketch is then what it was before they went in.
+fn withdraw_packets(p: Params, counts: &mut [i32], idsums: &mut [u32], bytes: &[u8], n: usize)
+    requires { ⌜ n ≤ packetsIn (now bytes) ⌝ }
+    ensures { λ r. ⌜ Unwound p (flowsIn (now (bytes .entry))) (numbersIn (now (bytes .entry))) n (sketch (now (counts .entry)) (now (idsums .entry))) (sketch (now (counts .exit)) (now (idsums .exit))) ⌝ }
+{
+    let mut i = n;
+    while 0 < i {
+        i -= 1;
+        let found = packets_at(bytes, 38 + 9 * i);
+        let Packets::Of(flow, number) = found else {
+            return;
+        };
+        step(true, p, counts, idsums, flow, number);
+    }
+}
+
+// The records after the head. One that is refused has the packets before it taken out again.
+fn read_records(p: Params, counts: &mut [i32], idsums: &mut [u32], bytes: &[u8]) -> Answer
+    ensures { λ r. ⌜ RecordsRead p (now (bytes .entry)) (sketch (now (counts .entry)) (now (idsums .entry))) r (sketch (now (counts .exit)) (now (idsums .exit))) ⌝ }
+{
+    let mut at = 38;
+    let mut n = 0;
+    loop {
+        let found = packets_at(bytes, at);
+        let Packets::Of(flow, number) = found else {
+            break;
+        };
+        let r = step(false, p, counts, idsums, flow, number);
+        let Answer::Done = r else {
+            withdraw_packets(p, counts, idsums, bytes, n);
+            return told_at(at, r);
+        };
+        at += 9;
+        n += 1;
+    }
+    let e = end(bytes, at, n);
+    let Answer::Done = e else {
+        withdraw_packets(p, counts, idsums, bytes, n);
+        return e;
+    };
+    e
+}
+
+// Inserts the packets of a stream file into a sketch with its head's parameters. After a refusal the sketch is as it was.
+pub fn read_stream(p: Params, counts: &mut [i32], idsums: &mut [u32], bytes: &[u8]) -> Answer
+    ensures { λ r. ⌜ StreamRead p (now (bytes .entry)) (sketch (now (counts .entry)) (now (idsums .entry))) r (sketch (now (counts .exit)) (now (idsums .exit))) ⌝ }
+{
+    let o = opening(p, bytes, counts.len(), idsums.len());
+    let Answer::Done = o else {
+        return o;
+    };
+    let x = first_damaged(counts, idsums);
+    if x < counts.len() {
+        return Answer::Refused(Why::Damage, x);
+    }
+    read_records(p, counts, idsums, bytes)
+}
