@@ -9,6 +9,8 @@ use Rattle.files.specs.declared.fields.Packets.{Packets}
 use Rattle.files.specs.declared.fields.Packets.the-variants.{Of as PacketsOf, No as NoPackets}
 use Rattle.files.specs.declared.fields.Bucket.{Bucket}
 use Rattle.files.specs.declared.fields.Bucket.the-variants.{Of as BucketOf, No as NoBucket}
+use Rattle.files.specs.declared.fields.End.{End}
+use Rattle.files.specs.declared.fields.End.the-variants.{Of as EndOf, No as NoEnd}
 use Rattle.files.specs.Bytes.{word, wordBytes, countWord, countOf}
 use Rattle.files.specs.Records.{recordAt, isKind}
 
@@ -40,3 +42,7 @@ packetsAt bs at = cond (isKind 2 (recordAt bs at)) (PacketsOf (word bs (at + 1))
 unfoldable pub bucketAt : List ℕ → ℕ → Bucket
 bucketAt bs at =
     cond (isKind 3 (recordAt bs at)) (BucketOf (word bs (at + 1)) (countOf (word bs (at + 5))) (word bs (at + 9))) NoBucket
+
+-- how many records a whole end at an offset says there were
+unfoldable pub endAt : List ℕ → ℕ → End
+endAt bs at = cond (isKind 4 (recordAt bs at)) (EndOf (word bs (at + 1))) NoEnd

@@ -1,7 +1,7 @@
-// What a whole record says: packets of a flow, or a bucket.
+// What a whole record says: packets of a flow, a bucket, or an end.
 ghost use mathlib.Core.Path.{_≡_};
 ghost use Rattle.files.specs.Bytes.{countOf};
-ghost use Rattle.files.specs.Layout.{packetsAt, bucketAt};
+ghost use Rattle.files.specs.Layout.{packetsAt, bucketAt, endAt};
 use crate::records::is_kind;
 use crate::records::word;
 
@@ -14,6 +14,12 @@ pub enum Packets {
 // An index, a count and an idsum, or no whole bucket.
 pub enum Bucket {
     Of(u32, i32, u32),
+    No,
+}
+
+// How many records an end says there were, or no whole end.
+pub enum End {
+    Of(u32),
     No,
 }
 
@@ -44,4 +50,13 @@ pub fn bucket_at(bytes: &[u8], at: usize) -> Bucket
     }
     let count = count_of(word(bytes, at + 5));
     Bucket::Of(word(bytes, at + 1), count, word(bytes, at + 9))
+}
+
+pub fn end_at(bytes: &[u8], at: usize) -> End
+    ensures { λ r. ⌜ r ≡ endAt (now (bytes .entry)) at ⌝ }
+{
+    if !is_kind(bytes, at, 4) {
+        return End::No;
+    }
+    End::Of(word(bytes, at + 1))
 }
