@@ -9,7 +9,7 @@ use native.Mathlib.Omega.{arith}
 use lib.IntN.{ℤ, pos, _+ℤ_, +ℤ-idl}
 use lib.ListN.{length, getD, set}
 use lib.Seq.{getD-set-same, getD-set-other}
-use Rattle.sketch.specs.Lists.{from}
+use Rattle.params.specs.Lists.{from}
 use Rattle.sketch.specs.Sketch.{Entry, by}
 use Rattle.sketch.proofs.Tables.{from-same}
 use Rattle.walk.specs.Walk.{isZero, close, net}

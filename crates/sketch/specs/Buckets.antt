@@ -4,7 +4,7 @@ use Prim.Native.Nat.{ℕ, _*_}
 use lib.IntN.{ℤ, pos, natAbs, _+ℤ_, _-ℤ_}
 use lib.Dec.{leb, ltb}
 use Rattle.field.specs.Residue.{residue}
-use Rattle.sketch.specs.Params.{prime}
+use Rattle.params.specs.Params.{prime}
 
 -- a count lies from -2147483646 to 2147483646
 unfoldable pub inLimits : ℤ → Bool

@@ -10,7 +10,7 @@ use lib.Dec.{eqb}
 use lib.IntN.{pos}
 use lib.ListN.{length, getD, List·getD-eq-default}
 use Rattle.sketch.specs.Sketch.{Sketch, countIn, idsumIn}
-use Rattle.sketch.proofs.Searches.{and-true}
+use Rattle.params.proofs.Searches.{and-true}
 use Rattle.walk.specs.Walk.{isZero, all, nothingLeft}
 use Rattle.walk.proofs.Zeros.{is-zero, zero-is}
 

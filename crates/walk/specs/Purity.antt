@@ -5,9 +5,9 @@ use lib.IntN.{ℤ}
 use lib.Dec.{eqb}
 use Rattle.field.specs.Residue.{residue}
 use Rattle.field.specs.Flow.{flow}
-use Rattle.sketch.specs.declared.params.Params.{Params}
-use Rattle.sketch.specs.Params.{primeOf, goodSizes}
-use Rattle.sketch.specs.Places.{stand, stands}
+use Rattle.params.specs.declared.params.Params.{Params}
+use Rattle.params.specs.Params.{primeOf, goodSizes}
+use Rattle.params.specs.Places.{stand, stands}
 use Rattle.walk.specs.declared.Found.{Found}
 use Rattle.walk.specs.declared.Found.the-variants.{Undefined, Impure, Pure}
 use Rattle.walk.specs.Walk.{Rule, isZero}

@@ -6,7 +6,7 @@ use lib.IntN.{ℤ, pos, natAbs, _+ℤ_, _-ℤ_}
 use lib.Dec.{eqb, ltb}
 use lib.ListN.{getD, length}
 use Rattle.field.specs.Residue.{residue}
-use Rattle.sketch.specs.Lists.{below, touched}
+use Rattle.params.specs.Lists.{below, touched}
 use Rattle.sketch.specs.Buckets.{inLimits}
 use Rattle.sketch.specs.Sketch.{Sketch, sketch, Entry, by, countIn, idsumIn}
 use Rattle.walk.specs.declared.Ending.{Ending}

@@ -11,7 +11,7 @@ use mir.Syntax.{w32}
 use mir.Val.{SFits}
 use borrow.Author.Needs.{needs, sfits-of}
 use Rattle.field.proofs.Casts.{zero-of-bits, bits-of-zero}
-use Rattle.sketch.specs.Lists.{from}
+use Rattle.params.specs.Lists.{from}
 use Rattle.walk.specs.Walk.{close}
 use Rattle.walk.proofs.Zeros.{is-zero, not-zero}
 use Rattle.peel.specs.Table.{row, tableOf}
