@@ -1,6 +1,6 @@
 // The parameters K, and the examples E1, E7 and E8.
 use crate::show;
-use sketch::Params;
+use params::Params;
 use sketch::packets;
 
 // The multiplier of array 2: 1 / 2 modulo the prime.

@@ -1,14 +1,14 @@
 // Runs the bench's examples, E1 to E10, and bad input of every kind, through the code, and writes what comes out.
 mod show; // how the outcomes are written
 mod calls; // the parameters K, and the examples of single calls
-mod sums; // sums and differences of two sketches
+mod two_sketches; // sums and differences of two sketches
 mod stretches; // an array worked on by itself
 mod refusals; // bad input, each refused by its number
 mod walks; // the examples of peeling
 
 fn main() {
     calls::run();
-    sums::run();
+    two_sketches::run();
     stretches::run();
     refusals::run();
     walks::run();

@@ -4,7 +4,7 @@ use crate::calls;
 use crate::calls::HALF;
 use crate::calls::k;
 use crate::show;
-use sketch::Params;
+use params::Params;
 use sketch::packets;
 
 // Slices of ten, whatever the parameters: PARAM comes before LENGTH.

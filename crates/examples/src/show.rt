@@ -1,7 +1,7 @@
 // How the outcomes are written: a line for each answer and for each bucket that is not all zero.
-use sketch::Answer;
-use sketch::Spot;
-use sketch::Why;
+use params::Answer;
+use params::Spot;
+use params::Why;
 
 pub(crate) fn text(words: &[u8]) {
     io::write_all(1, words);

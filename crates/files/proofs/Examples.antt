@@ -2,11 +2,11 @@
 use mathlib.Core.Path.{_≡_, refl}
 use mathlib.Core.List.{List, [], _∷_, _++_, map}
 use Prim.Native.Nat.{ℕ}
-use Rattle.sketch.specs.declared.params.Params.{Params}
-use Rattle.sketch.specs.declared.answers.Answer.the-variants.{Done}
-use Rattle.sketch.specs.Lists.{below}
-use Rattle.sketch.specs.Answers.{kept}
-use Rattle.sketch.specs.Params.{pairAt, twins, goodSizes, goodParams}
+use Rattle.params.specs.declared.params.Params.{Params}
+use Rattle.params.specs.declared.answers.Answer.the-variants.{Done}
+use Rattle.params.specs.Lists.{below}
+use Rattle.params.specs.Answers.{kept}
+use Rattle.params.specs.Params.{pairAt, twins, goodSizes, goodParams}
 use Rattle.files.specs.declared.records.Record.{Record}
 use Rattle.files.specs.declared.records.Record.the-variants.{Whole, Unknown, Cut, Missing}
 use Rattle.files.specs.Bytes.{word}

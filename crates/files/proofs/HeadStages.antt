@@ -5,13 +5,13 @@ use mathlib.Core.List.{List}
 use Prim.Native.Nat.{ℕ, _≤_}
 use native.Mathlib.Omega.{arith}
 use lib.ListN.{length}
-use Rattle.sketch.specs.declared.answers.Why.the-variants.{Param, Mismatch, Form}
-use Rattle.sketch.specs.declared.params.Params.{Params}
-use Rattle.sketch.specs.declared.answers.Answer.{Answer}
-use Rattle.sketch.specs.declared.answers.Answer.the-variants.{Done, Refused}
-use Rattle.sketch.specs.Answers.{refuseIf, first, kept}
-use Rattle.sketch.specs.Params.{goodParams, sameParams, lengthsAnswer}
-use Rattle.sketch.proofs.Judging.{Refusal, first-refused, first-passed}
+use Rattle.params.specs.declared.answers.Why.the-variants.{Param, Mismatch, Form}
+use Rattle.params.specs.declared.params.Params.{Params}
+use Rattle.params.specs.declared.answers.Answer.{Answer}
+use Rattle.params.specs.declared.answers.Answer.the-variants.{Done, Refused}
+use Rattle.params.specs.Answers.{refuseIf, first, kept}
+use Rattle.params.specs.Params.{goodParams, sameParams, lengthsAnswer}
+use Rattle.params.proofs.Judging.{Refusal, first-refused, first-passed}
 use Rattle.files.specs.declared.heads.Headed.{Headed}
 use Rattle.files.specs.declared.records.Record.the-variants.{Whole}
 use Rattle.files.specs.Records.{bodyLength, recordAt}

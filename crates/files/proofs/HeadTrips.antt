@@ -7,15 +7,15 @@ use native.Mathlib.Omega.{arith}
 use borrow.Author.Tests.{ltb-true, eqb-true, eq-eqb, not-false}
 use lib.Dec.{eqb, ltb, leb}
 use lib.ListN.{getD, length, take, drop, length-append}
-use Rattle.sketch.specs.declared.params.Params.{Params}
-use Rattle.sketch.specs.declared.answers.Why.the-variants.{Param, Mismatch, Form}
-use Rattle.sketch.specs.declared.answers.Answer.the-variants.{Done}
-use Rattle.sketch.specs.Lists.{below}
-use Rattle.sketch.specs.Params.{prime, pairOk, pairAt, twins, goodSizes, goodParams, samePair, sameParams, lengthsAnswer}
-use Rattle.sketch.proofs.Searches.{and-true, below-at}
-use Rattle.sketch.proofs.Judging.{refuse-done}
-use Rattle.sketch.proofs.Rules.{good-sized}
-use Rattle.sketch.proofs.SameParams.{sizes-same, pair-same}
+use Rattle.params.specs.declared.params.Params.{Params}
+use Rattle.params.specs.declared.answers.Why.the-variants.{Param, Mismatch, Form}
+use Rattle.params.specs.declared.answers.Answer.the-variants.{Done}
+use Rattle.params.specs.Lists.{below}
+use Rattle.params.specs.Params.{prime, pairOk, pairAt, twins, goodSizes, goodParams, samePair, sameParams, lengthsAnswer}
+use Rattle.params.proofs.Searches.{and-true, below-at}
+use Rattle.params.proofs.Judging.{refuse-done}
+use Rattle.params.proofs.Rules.{good-sized}
+use Rattle.params.proofs.SameParams.{sizes-same, pair-same}
 use Rattle.files.specs.Bytes.{word, wordBytes}
 use Rattle.files.specs.Records.{bodyLength, recordAt}
 use Rattle.files.specs.Heads.{paramsIn, isHead, openingAnswer}

@@ -9,7 +9,7 @@ use lib.Dec.{leb}
 use lib.IntN.{ℤ}
 use lib.ListN.{length, take, drop, set, length-append, length-drop}
 use lib.Seq.{sets, sets-eq, length-take-le, take-at, drop-append-add, drop-drop}
-use Rattle.sketch.specs.declared.params.Params.{Params}
+use Rattle.params.specs.declared.params.Params.{Params}
 use Rattle.files.specs.Bytes.{wordBytes, over}
 use Rattle.files.specs.Layout.{headBytes, packetBytes, bucketBytes, endBytes}
 use Rattle.files.specs.Writing.{written}

@@ -10,13 +10,13 @@ use borrow.Author.Tests.{lt-leb, le-ltb, ltb-false, eq-eqb, ne-eqb, eqb-true, no
 use lib.Dec.{eqb, ltb}
 use lib.ListN.{getD, length, drop, length-append, length-drop}
 use lib.Seq.{take-all, getD-at}
-use Rattle.sketch.specs.declared.answers.Why.the-variants.{Form}
-use Rattle.sketch.specs.declared.answers.Answer.{Answer}
-use Rattle.sketch.specs.declared.answers.Answer.the-variants.{Done}
-use Rattle.sketch.specs.Lists.{least}
-use Rattle.sketch.proofs.Searches.{least-skip, least-here}
-use Rattle.sketch.proofs.Judging.{first-done, first-passed, refuse-done}
-use Rattle.sketch.proofs.Lowest.{least-lowest}
+use Rattle.params.specs.declared.answers.Why.the-variants.{Form}
+use Rattle.params.specs.declared.answers.Answer.{Answer}
+use Rattle.params.specs.declared.answers.Answer.the-variants.{Done}
+use Rattle.params.specs.Lists.{least}
+use Rattle.params.proofs.Searches.{least-skip, least-here}
+use Rattle.params.proofs.Judging.{first-done, first-passed, refuse-done}
+use Rattle.params.proofs.Lowest.{least-lowest}
 use Rattle.files.specs.declared.records.Record.{Record}
 use Rattle.files.specs.declared.records.Record.the-variants.{Whole, Cut, Unknown, Missing}
 use Rattle.files.specs.Bytes.{word, wordBytes}

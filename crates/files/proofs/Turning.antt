@@ -9,12 +9,12 @@ use native.Mathlib.Nat.{zero-add, add-zero, suc-add, add-suc}
 use borrow.Author.Tests.{ltb-true, ltb-false, not-false}
 use lib.Dec.{ltb}
 use lib.ListN.{length}
-use Rattle.sketch.specs.declared.answers.Answer.{Answer}
-use Rattle.sketch.specs.declared.answers.Answer.the-variants.{Done}
-use Rattle.sketch.specs.Lists.{least}
-use Rattle.sketch.specs.Answers.{first}
-use Rattle.sketch.proofs.Searches.{scan-start, scan-next, scan-found, scan-end}
-use Rattle.sketch.proofs.Judging.{Refusal, first-refused, first-passed, first-done}
+use Rattle.params.specs.declared.answers.Answer.{Answer}
+use Rattle.params.specs.declared.answers.Answer.the-variants.{Done}
+use Rattle.params.specs.Lists.{least}
+use Rattle.params.specs.Answers.{first}
+use Rattle.params.proofs.Searches.{scan-start, scan-next, scan-found, scan-end}
+use Rattle.params.proofs.Judging.{Refusal, first-refused, first-passed, first-done}
 use Rattle.files.specs.Records.{recordAt, isKind}
 use Rattle.files.specs.Turns.{inTurn, recordsOf}
 

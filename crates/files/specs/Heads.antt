@@ -3,12 +3,12 @@ use mathlib.Core.Bool.{Bool, not, _&&_}
 use mathlib.Core.List.{List, [], _∷_}
 use Prim.Native.Nat.{ℕ}
 use lib.ListN.{getD}
-use Rattle.sketch.specs.declared.params.Params.{Params}
-use Rattle.sketch.specs.declared.answers.Why.the-variants.{Param, Mismatch, Form}
-use Rattle.sketch.specs.declared.answers.Answer.{Answer}
-use Rattle.sketch.specs.declared.answers.Answer.the-variants.{Done, Refused}
-use Rattle.sketch.specs.Answers.{refuseIf, kept}
-use Rattle.sketch.specs.Params.{goodParams, sameParams, lengthsAnswer}
+use Rattle.params.specs.declared.params.Params.{Params}
+use Rattle.params.specs.declared.answers.Why.the-variants.{Param, Mismatch, Form}
+use Rattle.params.specs.declared.answers.Answer.{Answer}
+use Rattle.params.specs.declared.answers.Answer.the-variants.{Done, Refused}
+use Rattle.params.specs.Answers.{refuseIf, kept}
+use Rattle.params.specs.Params.{goodParams, sameParams, lengthsAnswer}
 use Rattle.files.specs.declared.records.Record.{Record}
 use Rattle.files.specs.declared.heads.Headed.{Headed}
 use Rattle.files.specs.Bytes.{word}

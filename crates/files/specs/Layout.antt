@@ -4,7 +4,7 @@ use mathlib.Core.List.{List, [], _∷_, _++_}
 use Prim.Native.Nat.{ℕ, _+_}
 use lib.IntN.{ℤ}
 use lib.ListN.{getD}
-use Rattle.sketch.specs.declared.params.Params.{Params}
+use Rattle.params.specs.declared.params.Params.{Params}
 use Rattle.files.specs.declared.fields.Packets.{Packets}
 use Rattle.files.specs.declared.fields.Packets.the-variants.{Of as PacketsOf, No as NoPackets}
 use Rattle.files.specs.declared.fields.Bucket.{Bucket}

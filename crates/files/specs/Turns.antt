@@ -4,11 +4,11 @@ use mathlib.Core.List.{List}
 use Prim.Native.Nat.{ℕ, zero, suc, _+_, _*_}
 use lib.Dec.{eqb, ltb}
 use lib.ListN.{length}
-use Rattle.sketch.specs.declared.answers.Why.the-variants.{Form}
-use Rattle.sketch.specs.declared.answers.Answer.{Answer}
-use Rattle.sketch.specs.declared.answers.Answer.the-variants.{Done, Refused}
-use Rattle.sketch.specs.Lists.{least}
-use Rattle.sketch.specs.Answers.{refuseIf, first}
+use Rattle.params.specs.declared.answers.Why.the-variants.{Form}
+use Rattle.params.specs.declared.answers.Answer.{Answer}
+use Rattle.params.specs.declared.answers.Answer.the-variants.{Done, Refused}
+use Rattle.params.specs.Lists.{least}
+use Rattle.params.specs.Answers.{refuseIf, first}
 use Rattle.files.specs.Bytes.{word}
 use Rattle.files.specs.Records.{recordAt, isKind, placeOf}
 

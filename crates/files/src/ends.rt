@@ -3,8 +3,8 @@ ghost use mathlib.Core.Path.{_≡_};
 ghost use Rattle.files.specs.Turns.{endAnswer};
 use crate::records::is_kind;
 use crate::records::word;
-use sketch::Answer;
-use sketch::Why;
+use params::Answer;
+use params::Why;
 
 // A whole end that says how many records there were, and no byte after it.
 pub fn end(bytes: &[u8], at: usize, n: usize) -> Answer

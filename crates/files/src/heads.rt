@@ -6,9 +6,9 @@ ghost use Rattle.files.specs.Heads.{paramsIn, noParams, headOf, openingA
 use crate::records::Record;
 use crate::records::record_at;
 use crate::records::word;
-use sketch::Answer;
-use sketch::Params;
-use sketch::Why;
+use params::Answer;
+use params::Params;
+use params::Why;
 
 // What a head says, or why it says nothing: the parameters are all 0 then.
 pub struct Headed {

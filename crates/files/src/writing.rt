@@ -6,12 +6,12 @@ ghost use lib.Dec.{leb};
 ghost use Prim.Native.Nat.{ℕ, _+_, _≤_, _<_};
 ghost use lib.IntN.{ℤ};
 ghost use lib.ListN.{length, getD};
-ghost use Rattle.sketch.specs.Params.{goodParams};
+ghost use Rattle.params.specs.Params.{goodParams};
 ghost use Rattle.files.specs.Bytes.{wordBytes, countWord, over};
 ghost use Rattle.files.specs.Layout.{headBytes, pairBytes, packetBytes, bucketBytes, endBytes};
 ghost use Rattle.files.specs.Writing.{written};
-use sketch::Params;
-use sketch::Why;
+use params::Params;
+use params::Why;
 
 // How many bytes were written, or why none were.
 pub enum Written {

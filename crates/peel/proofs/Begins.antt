@@ -5,9 +5,9 @@ use Prim.Native.Nat.{ℕ, _*_, _≤_, _<_}
 use native.Mathlib.Nat.{mul-le-mul}
 use native.Mathlib.Omega.{arith}
 use lib.IntN.{ℤ}
-use Rattle.sketch.specs.declared.params.Params.{Params}
-use Rattle.sketch.specs.Lists.{from}
-use Rattle.sketch.specs.Params.{Sized}
+use Rattle.params.specs.declared.params.Params.{Params}
+use Rattle.params.specs.Lists.{from}
+use Rattle.params.specs.Params.{Sized}
 use Rattle.sketch.specs.Sketch.{sketch}
 use Rattle.walk.specs.Walk.{State, firstQueue}
 use Rattle.peel.specs.Ring.{ring}

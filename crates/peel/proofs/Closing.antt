@@ -9,11 +9,12 @@ use native.Mathlib.Omega.{arith}
 use lib.IntN.{ℤ, pos, _+ℤ_, +ℤ-idl}
 use lib.ListN.{length, getD, set}
 use lib.Seq.{getD-set-same, getD-set-other}
-use Rattle.sketch.specs.Lists.{from}
+use Rattle.params.specs.Lists.{from}
 use Rattle.sketch.specs.Sketch.{Entry, by}
 use Rattle.sketch.proofs.Tables.{from-same}
-use Rattle.walk.specs.Walk.{isZero, close, net}
-use Rattle.walk.proofs.Zeros.{zero-is}
+use Rattle.walk.specs.Walk.{close, net}
+use Rattle.sketch.specs.Buckets.{isZero}
+use Rattle.sketch.proofs.Zeros.{zero-is}
 use Rattle.peel.specs.Table.{row, tableOf}
 use Rattle.peel.proofs.Froms.{from-last}
 

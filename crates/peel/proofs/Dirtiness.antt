@@ -10,7 +10,8 @@ use lib.Dec.{eqb}
 use lib.ListN.{length, getD, set, drop}
 use lib.Seq.{drop-cons, drop-length}
 use Rattle.sketch.specs.Sketch.{sketch}
-use Rattle.walk.specs.Walk.{isZero, all, nothingLeft}
+use Rattle.walk.specs.Walk.{all, nothingLeft}
+use Rattle.sketch.specs.Buckets.{isZero}
 use Rattle.peel.specs.Dirt.{some, dirty}
 
 -- none is dirty exactly where nothing is left

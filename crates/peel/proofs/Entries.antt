@@ -11,7 +11,7 @@ use lib.IntN.{ℤ, pos, _+ℤ_}
 use lib.ListN.{length, getD, set}
 use lib.Seq.{getD-set-same, getD-set-other}
 use borrow.Author.Tests.{eq-eqb, ne-eqb, lt-ltb, le-ltb}
-use Rattle.sketch.specs.Lists.{from}
+use Rattle.params.specs.Lists.{from}
 use Rattle.sketch.specs.Sketch.{Entry, by}
 use Rattle.sketch.proofs.Tables.{length-from, from-same}
 use Rattle.walk.specs.Walk.{any, has, entryOf, credited, hasRoom}

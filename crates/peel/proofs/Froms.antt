@@ -3,7 +3,7 @@ use mathlib.Core.Path.{_≡_, refl, ap}
 use mathlib.Core.List.{List, [], _∷_, _++_}
 use Prim.Native.Nat.{ℕ, zero, suc, _+_}
 use native.Mathlib.Nat.{add-suc, suc-add, add-zero}
-use Rattle.sketch.specs.Lists.{from}
+use Rattle.params.specs.Lists.{from}
 
 module _ {A : Type 0} where
   pub from-first : (n : ℕ) (h : ℕ → A) → from 0 (suc n) h ≡ h 0 ∷ from 0 n (λ i. h (suc i))

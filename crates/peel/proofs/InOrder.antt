@@ -8,17 +8,18 @@ use borrow.Author.Tests.{ltb-true}
 use lib.Dec.{eqb, ltb, leb}
 use lib.IntN.{ℤ}
 use lib.ListN.{length}
-use Rattle.sketch.specs.declared.params.Params.{Params}
-use Rattle.sketch.specs.declared.answers.Why.{Why}
-use Rattle.sketch.specs.declared.answers.Why.the-variants.{Param, Length, Flow, Count, Damage, Range, Mismatch, Form}
-use Rattle.sketch.specs.declared.answers.Answer.{Answer}
-use Rattle.sketch.specs.declared.answers.Answer.the-variants.{Done, Refused}
-use Rattle.sketch.specs.Lists.{least}
-use Rattle.sketch.specs.Answers.{numberOf, numberIn, indexIn, refuseIf, refuseAt, first}
-use Rattle.sketch.specs.Params.{size, goodParams, lengthsAnswer, shapeAnswer}
+use Rattle.params.specs.declared.params.Params.{Params}
+use Rattle.params.specs.declared.answers.Why.{Why}
+use Rattle.params.specs.declared.answers.Why.the-variants.{Param, Length, Flow, Count, Damage, Range, Mismatch, Form}
+use Rattle.params.specs.declared.answers.Answer.{Answer}
+use Rattle.params.specs.declared.answers.Answer.the-variants.{Done, Refused}
+use Rattle.params.specs.Lists.{least}
+use Rattle.params.specs.Answers.{numberOf, numberIn, indexIn, refuseIf, refuseAt, first}
+use Rattle.params.specs.Params.{size, goodParams, lengthsAnswer, shapeAnswer}
 use Rattle.sketch.specs.Sketch.{Sketch, damagedAt}
-use Rattle.sketch.proofs.InOrder.{order, firstOf, lowest-first, some, wrongLength, refuse-number, refuse-at-number, first-refuse, cond-either}
-use Rattle.sketch.proofs.Lowest.{Lowest, least-lowest}
+use Rattle.params.proofs.InOrder.{order, firstOf, lowest-first, some, refuse-number, refuse-at-number, first-refuse, cond-either}
+use Rattle.sketch.proofs.InOrder.{wrongLength}
+use Rattle.params.proofs.Lowest.{Lowest, least-lowest}
 use Rattle.peel.specs.declared.peeling.Peeled.{Peeled}
 use Rattle.peel.specs.Peel.{peelAnswer, peeledNumber, peeledIndex, Peels}
 use Rattle.peel.proofs.Promised.{number-is, index-is}

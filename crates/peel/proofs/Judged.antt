@@ -9,18 +9,18 @@ use borrow.Author.Tests.{eq-eqb, le-leb, eqb-true, leb-true, ltb-true, not-false
 use lib.IntN.{ℤ, pos}
 use lib.Dec.{eqb, ltb, leb}
 use lib.ListN.{length, getD, List·getD-eq-default}
-use Rattle.sketch.specs.declared.params.Params.{Params}
-use Rattle.sketch.specs.declared.answers.Why.the-variants.{Length, Damage}
-use Rattle.sketch.specs.declared.answers.Answer.{Answer}
-use Rattle.sketch.specs.declared.answers.Answer.the-variants.{Done, Refused}
-use Rattle.sketch.specs.Lists.{least}
-use Rattle.sketch.specs.Answers.{refuseAt}
-use Rattle.sketch.specs.Params.{prime, size, Sized, shapeAnswer}
+use Rattle.params.specs.declared.params.Params.{Params}
+use Rattle.params.specs.declared.answers.Why.the-variants.{Length, Damage}
+use Rattle.params.specs.declared.answers.Answer.{Answer}
+use Rattle.params.specs.declared.answers.Answer.the-variants.{Done, Refused}
+use Rattle.params.specs.Lists.{least}
+use Rattle.params.specs.Answers.{refuseAt}
+use Rattle.params.specs.Params.{prime, size, Sized, shapeAnswer}
 use Rattle.sketch.specs.Buckets.{inLimits}
 use Rattle.sketch.specs.Sketch.{Sketch, sketch, damagedAt}
-use Rattle.sketch.proofs.Judging.{Refusal, first-refused, first-passed, first-done, refuse-done, refuse-at-done, refuse-found, refuse-past}
-use Rattle.sketch.proofs.Rules.{shape-done}
-use Rattle.sketch.proofs.Searches.{and-true}
+use Rattle.params.proofs.Judging.{Refusal, first-refused, first-passed, first-done, refuse-done, refuse-at-done, refuse-found, refuse-past}
+use Rattle.params.proofs.Rules.{shape-done}
+use Rattle.params.proofs.Searches.{and-true}
 use Rattle.walk.proofs.Promises.{Whole}
 use Rattle.peel.specs.Rep.{Sound}
 use Rattle.peel.specs.Peel.{peelAnswer}

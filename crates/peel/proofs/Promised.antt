@@ -7,16 +7,16 @@ use native.Mathlib.Nat.{zero-add}
 use native.Mathlib.Omega.{arith}
 use lib.IntN.{ℤ, pos}
 use lib.ListN.{length, getD, replicate}
-use Rattle.sketch.specs.declared.params.Params.{Params}
-use Rattle.sketch.specs.declared.answers.Why.{Why}
-use Rattle.sketch.specs.declared.answers.Why.the-variants.{Param, Length, Flow, Count, Damage, Range as OutOfRange, Mismatch, Form}
-use Rattle.sketch.specs.declared.answers.Answer.{Answer}
-use Rattle.sketch.specs.declared.answers.Answer.the-variants.{Done, Refused}
-use Rattle.sketch.specs.Answers.{numberOf, numberIn, indexIn, kept}
-use Rattle.sketch.specs.Params.{size, isFlow}
+use Rattle.params.specs.declared.params.Params.{Params}
+use Rattle.params.specs.declared.answers.Why.{Why}
+use Rattle.params.specs.declared.answers.Why.the-variants.{Param, Length, Flow, Count, Damage, Range as OutOfRange, Mismatch, Form}
+use Rattle.params.specs.declared.answers.Answer.{Answer}
+use Rattle.params.specs.declared.answers.Answer.the-variants.{Done, Refused}
+use Rattle.params.specs.Answers.{numberOf, numberIn, indexIn, kept}
+use Rattle.params.specs.Params.{size, isFlow}
 use Rattle.sketch.specs.Buckets.{inLimits}
 use Rattle.sketch.specs.Sketch.{Sketch, Entry, by, countIn, idsumIn, sketchOf}
-use Rattle.sketch.specs.Sums.{combined}
+use Rattle.sums.specs.Sums.{combined}
 use Rattle.sketch.proofs.Tables.{getD-from}
 use Rattle.walk.specs.declared.Found.the-variants.{Pure}
 use Rattle.walk.specs.Endings.{endingNumber}

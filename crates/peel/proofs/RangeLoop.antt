@@ -6,12 +6,12 @@ use Prim.Native.Nat.{ℕ, zero, suc, _+_, _*_, _<_}
 use native.Mathlib.Omega.{arith}
 use lib.IntN.{ℤ, pos, _+ℤ_, _-ℤ_}
 use lib.ListN.{getD}
-use Rattle.sketch.specs.declared.params.Params.{Params}
-use Rattle.sketch.specs.Lists.{below}
-use Rattle.sketch.specs.Places.{stand, Placed}
+use Rattle.params.specs.declared.params.Params.{Params}
+use Rattle.params.specs.Lists.{below}
+use Rattle.params.specs.Places.{stand, Placed}
 use Rattle.sketch.specs.Buckets.{inLimits}
 use Rattle.sketch.specs.Sketch.{countIn}
-use Rattle.sketch.proofs.Searches.{all-below, below-fails}
+use Rattle.params.proofs.Searches.{all-below, below-fails}
 use Rattle.walk.specs.Walk.{State, entryOf, inRange}
 use Rattle.walk.specs.Purity.{ruleOf}
 

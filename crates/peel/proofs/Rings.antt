@@ -9,7 +9,7 @@ use native.Mathlib.Omega.{arith}
 use lib.ListN.{length, getD, set, length-set, List·getD-eq-default}
 use lib.Seq.{getD-set-same, getD-set-other}
 use borrow.Author.Tests.{lt-ltb, le-ltb}
-use Rattle.sketch.specs.Lists.{from}
+use Rattle.params.specs.Lists.{from}
 use Rattle.sketch.proofs.Tables.{from-same}
 use Rattle.peel.specs.Ring.{slot, ring, bit, occ, Ring, Popped, Joined}
 use Rattle.peel.proofs.Froms.{from-first, from-last}

@@ -12,14 +12,14 @@ use lib.ListN.{length, getD, List·getD-eq-default}
 use borrow.Author.Tests.{ltb-true, eqb-true}
 use Rattle.field.specs.Residue.{residue}
 use Rattle.field.proofs.Residues.{residue-below}
-use Rattle.sketch.specs.declared.params.Params.{Params}
-use Rattle.sketch.specs.Lists.{touched}
-use Rattle.sketch.specs.Params.{prime, Sized}
-use Rattle.sketch.specs.Places.{standsIn, Placed, Reached}
+use Rattle.params.specs.declared.params.Params.{Params}
+use Rattle.params.specs.Lists.{touched}
+use Rattle.params.specs.Params.{prime, Sized}
+use Rattle.params.specs.Places.{standsIn, Placed, Reached}
 use Rattle.sketch.specs.Buckets.{inLimits}
 use Rattle.sketch.specs.Sketch.{Sketch, sketch, changedIn}
-use Rattle.sketch.proofs.Searches.{and-true}
-use Rattle.sketch.proofs.Changes.{length-touched, getD-touched}
+use Rattle.params.proofs.Searches.{and-true}
+use Rattle.params.proofs.Changes.{length-touched, getD-touched}
 use Rattle.sketch.proofs.Steps.{stand-below, placed}
 use Rattle.walk.specs.Walk.{less}
 use Rattle.walk.specs.Purity.{ruleOf}

@@ -10,17 +10,17 @@ use native.Mathlib.Omega.{arith}
 use lib.IntN.{ℤ, pos, _+ℤ_, +ℤ-idl}
 use lib.ListN.{length, getD}
 use borrow.Author.Tests.{le-leb}
-use Rattle.sketch.specs.declared.params.Params.{Params}
-use Rattle.sketch.specs.Lists.{from}
-use Rattle.sketch.specs.Params.{prime, goodSizes, Sized}
-use Rattle.sketch.specs.Places.{stand, stands, Placed}
+use Rattle.params.specs.declared.params.Params.{Params}
+use Rattle.params.specs.Lists.{from}
+use Rattle.params.specs.Params.{prime, goodSizes, Sized}
+use Rattle.params.specs.Places.{stand, stands, Placed}
 use Rattle.sketch.specs.Buckets.{inLimits}
 use Rattle.sketch.specs.Sketch.{Sketch, Entry, sketch}
 use Rattle.walk.specs.declared.Ending.{Ending}
 use Rattle.walk.specs.declared.Ending.the-variants.{Clean, Stuck, Spent, NoInverse, Range, Full}
 use Rattle.walk.specs.declared.Found.the-variants.{Undefined, Impure, Pure}
 use Rattle.walk.specs.Walk.{State, Outcome, out, stops, goes, nothingLeft, requeue, entryOf, taken, popped, run}
-use Rattle.sketch.proofs.Rules.{sizes-good}
+use Rattle.params.proofs.Rules.{sizes-good}
 use Rattle.walk.specs.Purity.{testIn, pureTest, sizedTest, ruleOf}
 use Rattle.peel.specs.Ring.{slot, ring, Popped, Requeued}
 use Rattle.peel.specs.Table.{tableOf, Finds, Credited}

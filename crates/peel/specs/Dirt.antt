@@ -7,11 +7,11 @@ use lib.IntN.{ℤ, pos, _-ℤ_}
 use lib.Dec.{eqb}
 use lib.ListN.{getD, length, set}
 use Rattle.field.specs.Residue.{residue}
-use Rattle.sketch.specs.Params.{prime}
-use Rattle.sketch.specs.Places.{standsIn}
+use Rattle.params.specs.Params.{prime}
+use Rattle.params.specs.Places.{standsIn}
 use Rattle.sketch.specs.Buckets.{inLimits}
 use Rattle.sketch.specs.Sketch.{sketch, changedIn}
-use Rattle.walk.specs.Walk.{isZero}
+use Rattle.sketch.specs.Buckets.{isZero}
 
 -- 1 where a bucket is not all zero, and the number of those
 unfoldable pub some : ℤ → ℕ → ℕ

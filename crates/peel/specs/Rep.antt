@@ -4,8 +4,8 @@ use mathlib.Core.List.{List}
 use Prim.Native.Nat.{ℕ, _*_, _≤_}
 use lib.IntN.{ℤ, pos}
 use lib.ListN.{getD, length}
-use Rattle.sketch.specs.declared.params.Params.{Params}
-use Rattle.sketch.specs.Params.{Sized}
+use Rattle.params.specs.declared.params.Params.{Params}
+use Rattle.params.specs.Params.{Sized}
 use Rattle.sketch.specs.Sketch.{sketch}
 use Rattle.walk.specs.Walk.{State, Outcome, close, net as netOf}
 use Rattle.peel.specs.declared.walking.Walked.{Walked}

@@ -6,7 +6,7 @@ use Prim.Native.Nat.{ℕ, _+_, _*_, _-_, _<_, _≤_}
 use lib.IntN.{ℤ}
 use lib.Dec.{eqb, ltb}
 use lib.ListN.{getD, length}
-use Rattle.sketch.specs.Lists.{from}
+use Rattle.params.specs.Lists.{from}
 use Rattle.sketch.specs.Sketch.{sketch}
 use Rattle.walk.specs.Walk.{join, requeue, firstQueue}
 

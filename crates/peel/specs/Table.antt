@@ -4,7 +4,7 @@ use mathlib.Core.List.{List}
 use Prim.Native.Nat.{ℕ, _<_, _≤_}
 use lib.IntN.{ℤ, pos}
 use lib.ListN.{getD, length}
-use Rattle.sketch.specs.Lists.{from}
+use Rattle.params.specs.Lists.{from}
 use Rattle.sketch.specs.Sketch.{Entry, by}
 use Rattle.walk.specs.Walk.{credited, close, net as netOf}
 use Rattle.peel.specs.declared.table.Listed.{Listed}

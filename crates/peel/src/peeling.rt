@@ -10,9 +10,9 @@ ghost use Rattle.peel.specs.Peel.{peelAnswer, Peels};
 use crate::queue::clear;
 use crate::table::close;
 use crate::walking::walk_whole;
-use sketch::Answer;
-use sketch::Params;
-use sketch::Why;
+use params::Answer;
+use params::Params;
+use params::Why;
 use sketch::buckets::first_damaged;
 use walk::Ending;
 

@@ -2,7 +2,7 @@
 ghost use mathlib.Core.Path.{_≡_};
 ghost use Prim.Native.Nat.{ℕ, _+_, _*_, _<_, _≤_};
 ghost use lib.ListN.{length, getD};
-ghost use Rattle.sketch.specs.Places.{Reached};
+ghost use Rattle.params.specs.Places.{Reached};
 ghost use Rattle.peel.specs.Ring.{slot, Ring, Popped, Joined, Requeued, Started, Cleared};
 
 // The place i steps after head in a ring of n.

@@ -1,28 +1,15 @@
-// One take: a flow's places, whether its counts stay within their limits, and its buckets less what was found.
+// One take: whether a flow's counts stay within their limits, and its buckets less what was found.
 ghost use mathlib.Core.Path.{_≡_};
-ghost use mathlib.Core.Bool.{Bool, true};
+ghost use mathlib.Core.Bool.{true};
 ghost use Prim.Native.Nat.{ℕ, _+_, _*_, _<_};
-ghost use lib.IntN.{ℤ, pos, _-ℤ_};
+ghost use lib.IntN.{pos, _-ℤ_};
 ghost use lib.ListN.{length, getD};
-ghost use Rattle.sketch.specs.Params.{prime, Sized};
-ghost use Rattle.sketch.specs.Places.{Placed, Reached};
+ghost use Rattle.params.specs.Places.{Reached};
 ghost use Rattle.sketch.specs.Buckets.{inLimits, plusMinus};
-ghost use Rattle.peel.specs.Dirt.{some, dirty, Sane, Takes, Took, Applied};
-use sketch::Params;
+ghost use Rattle.peel.specs.Dirt.{some, dirty, Takes, Took, Applied};
 use sketch::buckets::moved;
 use sketch::buckets::within;
 use sketch::buckets::wound;
-
-// A flow's place in each array, found once for all that a take does with them.
-pub(crate) fn places(p: Params, f: u32, ks: &mut [usize; 4])
-    requires { ⌜ Sized p × (length (now ks) ≡ 4) ⌝ }
-    ensures { λ r. ⌜ Placed p f (now (ks .exit)) × (length (now (ks .exit)) ≡ 4) ⌝ }
-{
-    ks[0] = p.stand(1, f);
-    ks[1] = p.stand(2, f);
-    ks[2] = p.stand(3, f);
-    ks[3] = p.stand(4, f);
-}
 
 // x more c, or x less c, keeps within the limits.
 pub(crate) fn fits(minus: bool, x: i32, c: i32) -> bool

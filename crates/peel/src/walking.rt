@@ -15,8 +15,7 @@ use crate::table::find;
 use crate::take::apply;
 use crate::take::count_left;
 use crate::take::fits;
-use crate::take::places;
-use sketch::Params;
+use params::Params;
 use walk::Ending;
 use walk::Found;
 
@@ -76,7 +75,7 @@ fn walk(
             }
             Found::Impure => {}
             Found::Pure(f) => {
-                places(p, f, &mut ks);
+                p.places(f, &mut ks);
                 let mut i = 0;
                 while i < d {
                     let j = i * m + ks[i];

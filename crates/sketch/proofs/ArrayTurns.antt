@@ -6,9 +6,10 @@ use Prim.Native.Nat.{ℕ, _+_, _*_, _-_, _≤_, _<_}
 use native.Mathlib.Omega.{arith}
 use lib.ListN.{length, getD, set, take, drop}
 use borrow.Rule.Slice.PartMut.{putMid}
-use Rattle.sketch.specs.Lists.{touched}
-use Rattle.sketch.specs.Places.{standsIn}
-use Rattle.sketch.proofs.Changes.{length-touched, touched-none, part-long, part-old, part-next}
+use Rattle.params.specs.Lists.{touched}
+use Rattle.params.specs.Places.{standsIn}
+use Rattle.params.proofs.Changes.{length-touched, touched-none}
+use Rattle.sketch.proofs.LentParts.{part-long, part-old, part-next}
 use Rattle.sketch.proofs.Standing.{standing-none, standing-past, standing-next}
 
 pub turns-start : {A : Type 0} (d : A) (m : ℕ) (g : ℕ → ℕ) (h : ℕ → A → A) (xs : List A) → xs ≡ touched (standsIn 0 m g) h xs

@@ -6,7 +6,7 @@ use native.Mathlib.Omega.{arith}
 use lib.IntN.{ℤ, pos, negℤ, _+ℤ_, _-ℤ_, +ℤ-negℤ-cancel}
 use Rattle.field.specs.Residue.{residue}
 use Rattle.field.proofs.Residues.{residue-pos, residue-own, residue-twice, residue-add, residue-sub, residue-add-same}
-use Rattle.sketch.specs.Params.{prime}
+use Rattle.params.specs.Params.{prime}
 use Rattle.sketch.specs.Buckets.{plusMinus}
 
 pub prime-pos : 0 < prime

@@ -1,106 +1,23 @@
--- Refusals come in the order of the table: of the faults that apply the first decides the number, and the index is 0 unless a bucket is at fault.
-use mathlib.Core.Path.{_≡_, refl, sym, ap, _∙_}
-use mathlib.Core.Bool.{Bool, true, false, not, cond, _&&_, _||_}
-use mathlib.Core.Logic.{_⊎_, inl, inr, ⊎-elim}
-use mathlib.Core.List.{List, [], _∷_, _++_}
+-- Refusals come in the order of the table: insertions, withdrawals, many packets at once, and arrays.
+use mathlib.Core.Path.{_≡_, refl}
+use mathlib.Core.Bool.{Bool, true, false, not, _&&_}
+use mathlib.Core.List.{List, [], _∷_}
 use Prim.Native.Nat.{ℕ, _≤_}
-use native.Mathlib.Omega.{arith}
-use borrow.Author.Tests.{ltb-true, leb-true}
 use lib.Dec.{eqb, ltb, leb}
 use lib.IntN.{pos}
-use lib.ListN.{length, take, drop}
-use Rattle.sketch.specs.declared.params.Params.{Params}
-use Rattle.sketch.specs.declared.answers.Why.{Why}
-use Rattle.sketch.specs.declared.answers.Why.the-variants.{Param, Length, Flow, Count, Damage, Range, Mismatch, Form}
-use Rattle.sketch.specs.declared.answers.Answer.{Answer}
-use Rattle.sketch.specs.declared.answers.Answer.the-variants.{Done, Refused}
-use Rattle.sketch.specs.declared.answers.Spot.{Spot}
-use Rattle.sketch.specs.Lists.{below, least}
-use Rattle.sketch.specs.Answers.{numberOf, numberIn, indexIn, refuseIf, refuseAt, first, spotOf, spotNumber, spotIndex, spotPlace}
-use Rattle.sketch.specs.Params.{prime, isFlow, size, goodSizes, goodParams, sameParams, lengthsAnswer, sizesAnswer, shapeAnswer}
-use Rattle.sketch.specs.Places.{stands, standAnswer}
+use lib.ListN.{length}
+use Rattle.params.specs.declared.params.Params.{Params}
+use Rattle.params.specs.declared.answers.Why.{Why}
+use Rattle.params.specs.declared.answers.Why.the-variants.{Param, Length, Flow, Count, Damage, Range, Mismatch, Form}
+use Rattle.params.specs.declared.answers.Answer.the-variants.{Done}
+use Rattle.params.specs.Answers.{numberOf, numberIn, first}
+use Rattle.params.specs.Params.{prime, isFlow, size, goodSizes, goodParams, lengthsAnswer, sizesAnswer}
+use Rattle.params.specs.Places.{stands}
 use Rattle.sketch.specs.Arrays.{arrayAnswer}
 use Rattle.sketch.specs.Sketch.{Sketch, damagedIn, leavesIn, standingAnswer}
 use Rattle.sketch.specs.Packets.{packetAnswer, entryAnswer, stepAnswer, moveAnswer, packetsAnswer, allAnswer, changed}
-use Rattle.sketch.specs.Sums.{shapesAnswer, eitherDamaged, leaves, bucketsAnswer, combineAnswer}
-use Rattle.sketch.proofs.Searches.{and-true, all-below, below-fails, none-found}
-use Rattle.sketch.proofs.Rules.{good-sizes}
-use Rattle.sketch.proofs.Lowest.{least-lowest}
-
--- the order in which faults are judged: that of their numbers, save that Mismatch comes after Param
-abbrev pub order : List Why
-order = Param ∷ Mismatch ∷ Length ∷ Flow ∷ Count ∷ Damage ∷ Range ∷ Form ∷ []
-
--- the number of the first that applies, 0 where none does
-abbrev pub firstOf : List Why → (Why → Bool) → ℕ
-firstOf [] applies = 0
-firstOf (w ∷ ws) applies = cond (applies w) (numberOf w) (firstOf ws applies)
-
--- where no parameters differ that is the lowest number: `rising` has them as the table does
-abbrev rising : List Why
-rising = Param ∷ Length ∷ Flow ∷ Count ∷ Damage ∷ Range ∷ Mismatch ∷ Form ∷ []
-
-abbrev noneAbove : ℕ → List Why → Bool
-noneAbove n [] = true
-noneAbove n (w ∷ ws) = leb (numberOf w) n && noneAbove n ws
-
-at-most : (b : Bool) (n k m : ℕ) → n ≤ m → k ≤ m → cond b n k ≤ m
-at-most true n k m h l = h
-at-most false n k m h l = l
-
-before : (us vs : List Why) (applies : Why → Bool) (n : ℕ) → noneAbove n us ≡ true → firstOf vs applies ≤ n → firstOf (us ++ vs) applies ≤ n
-before [] vs applies n e h = h
-before (u ∷ us) vs applies n e h =
-    let q = and-true (leb (numberOf u) n) (noneAbove n us) e in
-    at-most (applies u) (numberOf u) (firstOf (us ++ vs) applies) n (leb-true (numberOf u) n (q .0)) (before us vs applies n (q .1) h)
-
-rising-lowest : (applies : Why → Bool) (w : Why) → applies w ≡ true → firstOf rising applies ≤ numberOf w
-rising-lowest applies Param h = rw h (omega arith)
-rising-lowest applies Length h = before (take 1 rising) (drop 1 rising) applies 2 refl (rw h (omega arith))
-rising-lowest applies Flow h = before (take 2 rising) (drop 2 rising) applies 3 refl (rw h (omega arith))
-rising-lowest applies Count h = before (take 3 rising) (drop 3 rising) applies 4 refl (rw h (omega arith))
-rising-lowest applies Damage h = before (take 4 rising) (drop 4 rising) applies 5 refl (rw h (omega arith))
-rising-lowest applies Range h = before (take 5 rising) (drop 5 rising) applies 6 refl (rw h (omega arith))
-rising-lowest applies Mismatch h = before (take 6 rising) (drop 6 rising) applies 7 refl (rw h (omega arith))
-rising-lowest applies Form h = before (take 7 rising) (drop 7 rising) applies 8 refl (rw h (omega arith))
-
-pub lowest-first : (applies : Why → Bool) → applies Mismatch ≡ false → (w : Why) → applies w ≡ true → firstOf order applies ≤ numberOf w
-lowest-first applies e w h = rw e (rw e at (rising-lowest applies w h))
-
--- the test holds at some number below n
-abbrev pub some : ℕ → (ℕ → Bool) → Bool
-some n t = not (below n (λ k. not (t k)))
-
-found-some : (n : ℕ) (t : ℕ → Bool) (b : Bool) → ltb (least 0 n t) n ≡ b → b ≡ some n t
-found-some n t true e =
-    let l = least-lowest n t (ltb-true _ _ e) in
-    sym (ap not (below-fails n (least 0 n t) (λ k. not (t k)) (l .inside) (ap not (l .here))))
-found-some n t false e =
-    sym (ap not (all-below n (λ k. not (t k)) (λ k l. ap not (none-found n t e k l))))
-
--- the number of an answer, fault by fault
-pub refuse-number : (b : Bool) (w : Why) (k : ℕ) (next : Answer) → numberIn (refuseIf b w k next) ≡ cond b (numberOf w) (numberIn next)
-refuse-number true w k next = refl
-refuse-number false w k next = refl
-
-pub refuse-at-number : (n : ℕ) (t : ℕ → Bool) (w : Why) (next : Answer) → numberIn (refuseAt n t w next) ≡ cond (some n t) (numberOf w) (numberIn next)
-unfolding refuseAt
-refuse-at-number n t w next =
-    refuse-number (ltb (least 0 n t) n) w (least 0 n t) next ∙ ap (λ (b : Bool). cond b (numberOf w) (numberIn next)) (found-some n t _ refl)
-
-pub first-refuse : (b : Bool) (w : Why) (k : ℕ) (r next : Answer) → first (refuseIf b w k r) next ≡ refuseIf b w k (first r next)
-unfolding first
-first-refuse true w k r next = refl
-first-refuse false w k r next = refl
-
--- two tests with the same number
-pub cond-either : (s t : Bool) (n k : ℕ) → cond s n (cond t n k) ≡ cond (s || t) n k
-cond-either true t n k = refl
-cond-either false t n k = refl
-
-cond-within : (s t : Bool) (n k : ℕ) → (s ≡ true → t ≡ true) → cond (not s) n (cond (not t) n k) ≡ cond (not s) n k
-cond-within true t n k h = rw (h refl)
-cond-within false t n k h = refl
+use Rattle.params.proofs.Rules.{good-sizes}
+use Rattle.params.proofs.InOrder.{order, firstOf, lowest-first, some, refuse-number, refuse-at-number, first-refuse, cond-within, early, IndexZero, done-index, refuse-index, first-index, buckets-index, lengths-index, shape-index}
 
 -- a slice of the sketch has a length other than stated
 abbrev pub wrongLength : Params → Sketch → Bool
@@ -126,96 +43,13 @@ move-number P minus f n S =
 pub move-lowest : (P : Params) (minus : Bool) (f n : ℕ) (S : Sketch) (w : Why) → moveFault P minus f n S w ≡ true → numberIn (moveAnswer P minus f n S) ≤ numberOf w
 move-lowest P minus f n S w h = rw (move-number P minus f n S) (lowest-first (moveFault P minus f n S) refl w h)
 
--- adding or subtracting the sketch T: which faults apply
-abbrev pub combineFault : Bool → Params → Params → Sketch → Sketch → Why → Bool
-combineFault minus P Q S T Param = not (goodParams P && goodParams Q)
-combineFault minus P Q S T Mismatch = not (sameParams P Q)
-combineFault minus P Q S T Length = wrongLength P S || wrongLength P T
-combineFault minus P Q S T Damage = some (length (S .counts)) (eitherDamaged S T)
-combineFault minus P Q S T Range = some (length (S .counts)) (leaves minus (S .counts) (T .counts))
-combineFault minus P Q S T Flow = false
-combineFault minus P Q S T Count = false
-combineFault minus P Q S T Form = false
-
-pub combine-number : (minus : Bool) (P Q : Params) (S T : Sketch) → numberIn (combineAnswer minus P Q S T) ≡ firstOf order (combineFault minus P Q S T)
-unfolding combineAnswer shapesAnswer lengthsAnswer bucketsAnswer first
-combine-number minus P Q S T = simp (first-refuse, refuse-number, refuse-at-number, cond-either)
-
--- where no more than the parameters, a length and a flow are judged
-abbrev early : (param length flow : Bool) → Why → Bool
-early p l f Param = p
-early p l f Length = l
-early p l f Flow = f
-early p l f Count = false
-early p l f Damage = false
-early p l f Range = false
-early p l f Mismatch = false
-early p l f Form = false
-
-abbrev pub shapeFault : Params → ℕ → ℕ → Why → Bool
-shapeFault P c s = early (not (goodParams P)) (not (eqb c (size P) && eqb s (size P))) false
-
+-- an array's own stretch
 abbrev pub arrayFault : Params → ℕ → ℕ → Why → Bool
 arrayFault P i n = early (not (goodParams P && (leb 1 i && leb i (P .d)))) (not (eqb n (size P))) false
-
-abbrev pub standFault : Params → ℕ → ℕ → Why → Bool
-standFault P i f = early (not (goodParams P && (leb 1 i && leb i (P .d)))) false (not (isFlow P f))
-
-pub shape-number : (P : Params) (c s : ℕ) → numberIn (shapeAnswer P c s) ≡ firstOf order (shapeFault P c s)
-unfolding shapeAnswer lengthsAnswer
-shape-number P c s = simp refuse-number
 
 pub array-number : (P : Params) (i n : ℕ) → numberIn (arrayAnswer P i n) ≡ firstOf order (arrayFault P i n)
 unfolding arrayAnswer
 array-number P i n = simp refuse-number
-
--- a position or an index, k, is told, or 0 with the number of the first fault; the index at fault is always 0
-pub record SpotTold (P : Params) (i f k : ℕ) (r : Spot) : Type 0 where
-  pub number : spotNumber r ≡ firstOf order (standFault P i f)
-  pub index : spotIndex r ≡ 0
-  pub place : spotPlace r ≡ cond (eqb (spotNumber r) 0) k 0
-
-pub spot-told : (P : Params) (i f k : ℕ) → SpotTold P i f k (spotOf (standAnswer P i f) k)
-unfolding standAnswer
-spot-told P i f k = by-tests (not (goodParams P && (leb 1 i && leb i (P .d)))) (not (isFlow P f)) refl refl
-  where
-    by-tests : (s t : Bool) → s ≡ not (goodParams P && (leb 1 i && leb i (P .d))) → t ≡ not (isFlow P f) → SpotTold P i f k (spotOf (refuseIf s Param 0 (refuseIf t Flow 0 Done)) k)
-    by-tests true t e h = record { number = rw (← e); index = refl; place = refl }
-    by-tests false true e h = record { number = rw (← e, ← h); index = refl; place = refl }
-    by-tests false false e h = record { number = rw (← e, ← h); index = refl; place = refl }
-
--- with any number but those of Damage and Range the index is 0
-pub record IndexZero (r : Answer) : Type 0 where
-  pub zero-else : (numberIn r ≡ 5 → ⊥) → (numberIn r ≡ 6 → ⊥) → indexIn r ≡ 0
-
-done-index : IndexZero Done
-done-index = record { zero-else = λ d r. refl }
-
-refuse-index : (b : Bool) (w : Why) (next : Answer) → IndexZero next → IndexZero (refuseIf b w 0 next)
-refuse-index true w next h = record { zero-else = λ d r. refl }
-refuse-index false w next h = h
-
-first-index : (r next : Answer) → IndexZero r → IndexZero next → IndexZero (first r next)
-unfolding first
-first-index Done next h k = k
-first-index (Refused w j) next h k = h
-
-bucket-index : (b : Bool) (w : Why) (k : ℕ) (next : Answer) → (numberOf w ≡ 5) ⊎ (numberOf w ≡ 6) → IndexZero next → IndexZero (refuseIf b w k next)
-bucket-index true w k next e h = record { zero-else = λ d r. absurd (⊎-elim d r e) }
-bucket-index false w k next e h = h
-
-buckets-index : (n : ℕ) (t u : ℕ → Bool) → IndexZero (refuseAt n t Damage (refuseAt n u Range Done))
-unfolding refuseAt
-buckets-index n t u =
-    bucket-index (ltb (least 0 n t) n) Damage _ _ (inl refl) (bucket-index (ltb (least 0 n u) n) Range _ _ (inr refl) done-index)
-
-lengths-index : (P : Params) (c s : ℕ) → IndexZero (lengthsAnswer P c s)
-unfolding lengthsAnswer
-lengths-index P c s = refuse-index (not (eqb c (size P) && eqb s (size P))) Length Done done-index
-
-pub shape-index : (P : Params) (c s : ℕ) → IndexZero (shapeAnswer P c s)
-unfolding shapeAnswer
-shape-index P c s = refuse-index (not (goodParams P)) Param _ (lengths-index P c s)
 
 pub array-index : (P : Params) (i n : ℕ) → IndexZero (arrayAnswer P i n)
 unfolding arrayAnswer
@@ -244,12 +78,3 @@ pub all-index : (P : Params) (fs ns : List ℕ) (S : Sketch) → IndexZero (allA
 unfolding allAnswer
 all-index P fs ns S =
     first-index _ _ (shape-index P _ _) (refuse-index (not (eqb (length fs) (length ns))) Length _ (packets-index P fs ns S))
-
-pub combine-index : (minus : Bool) (P Q : Params) (S T : Sketch) → IndexZero (combineAnswer minus P Q S T)
-unfolding combineAnswer shapesAnswer bucketsAnswer
-combine-index minus P Q S T =
-    first-index _ _
-    (refuse-index (not (goodParams P && goodParams Q)) Param _
-    (refuse-index (not (sameParams P Q)) Mismatch _
-    (first-index _ _ (lengths-index P _ _) (lengths-index P _ _))))
-    (buckets-index _ _ _)

@@ -1,23 +1,15 @@
 -- The laws of sketches, which the proofs of this crate and of those above it cite.
-pub mod Searches
-pub mod Changes
-pub mod Judging
 pub mod Limits
-pub mod Rules
+pub mod LentParts
+pub mod Fills
 pub mod Standing
 pub mod ArrayTurns
 pub mod Steps
 pub mod Stretches
-pub mod TwoSketches
 pub mod Tables
 pub mod Idsums
 pub mod TakenBack
 pub mod ManyPackets
-pub mod Weighted
-pub mod Linear
-pub mod NetCounts
-pub mod SameParams
-pub mod Histories
 pub mod Lowest
 pub mod InOrder
-pub mod Examples
+pub mod Zeros

@@ -1,19 +1,19 @@
--- Laws of a bucket's limits, and the sizes of sketches.
+-- Laws of a bucket's limits.
 use mathlib.Core.Path.{_≡_, refl, sym, _∙_}
 use mathlib.Core.Bool.{Bool, true, false}
-use Prim.Native.Nat.{ℕ, suc, _+_, _*_, _≤_, _<_}
+use Prim.Native.Nat.{ℕ, suc, _≤_, _<_}
 use native.Mathlib.Omega.{arith}
-use native.Mathlib.Nat.{mul-le-mul, mul-le-mul-right, suc-mul}
 use borrow.Author.Tests.{le-leb, lt-leb, leb-true, leb-false, lt-ltb, ltb-true, not-false}
 use lib.Dec.{ltb}
 use lib.IntN.{ℤ, pos, negsuc, natAbs, _+ℤ_, _-ℤ_}
 use lib.Signed.{leZ}
 use mir.Syntax.{w32, w64}
-use mir.Val.{SFits}
+use mir.Facts.{toZ-ofZ}
+use mir.Val.{SFits, toZ, ofZ}
 use Rattle.field.proofs.Parts.{sfits-of-abs, abs-of-sfits, abs-add, abs-sub}
-use Rattle.sketch.specs.Params.{prime}
+use Rattle.params.specs.Params.{prime}
 use Rattle.sketch.specs.Buckets.{inLimits, damaged, plusMinus}
-use Rattle.sketch.proofs.Searches.{and-true}
+use Rattle.params.proofs.Searches.{and-true}
 
 -- the code's two comparisons are the limits
 pub limit-above : (z : ℤ) → leZ (negsuc 2147483645) z ≡ true → leZ z (pos 2147483646) ≡ inLimits z
@@ -46,9 +46,9 @@ pub wide : (minus : Bool) (x y : ℤ) → SFits w32 x → SFits w32 y → SFits 
 wide false x y h k = sfits-of-abs w64 (x +ℤ y) (omega (arith, abs-add x y, abs-of-sfits h, abs-of-sfits k))
 wide true x y h k = sfits-of-abs w64 (x -ℤ y) (omega (arith, abs-sub x y, abs-of-sfits h, abs-of-sfits k))
 
--- the array that i others stand before ends within the sketch, which is small
-pub stretch-within : (d m i : ℕ) → i < d → i * m + m ≤ d * m
-stretch-within d m i h = omega (arith, mul-le-mul-right {m = suc i} {n = d} m h, suc-mul i m)
+-- a sum or a difference within the limits, found at the wide width, fits a count and is the same as one
+pub narrows : {r z : ℤ} → SFits w64 r → r ≡ z → inLimits z ≡ true → SFits w32 (toZ w64 (ofZ w64 r))
+narrows {r} {z} h e l = rw (toZ-ofZ h, e) (limits-fit z l)
 
-pub small : (d m : ℕ) → d ≤ 4 → m ≤ 16384 → d * m ≤ 65536
-small d m h k = mul-le-mul {n₁ = d} {m₁ = m} {n₂ = 4} {m₂ = 16384} h k
+pub narrowed : {r z : ℤ} → SFits w64 r → r ≡ z → inLimits z ≡ true → toZ w32 (ofZ w32 (toZ w64 (ofZ w64 r))) ≡ z
+narrowed {r} {z} h e l = rw (toZ-ofZ h, e) (toZ-ofZ (limits-fit z l))

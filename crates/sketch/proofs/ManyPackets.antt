@@ -9,16 +9,16 @@ use borrow.Author.Tests.{eq-eqb, ne-eqb}
 use lib.Dec.{eqb}
 use lib.ListN.{length, getD, take, drop, drop-of-length-le}
 use lib.Seq.{drop-cons, take-all}
-use Rattle.sketch.specs.declared.params.Params.{Params}
-use Rattle.sketch.specs.declared.answers.Why.the-variants.{Length}
-use Rattle.sketch.specs.declared.answers.Answer.{Answer}
-use Rattle.sketch.specs.declared.answers.Answer.the-variants.{Done, Refused}
-use Rattle.sketch.specs.Answers.{refuseIf, first, kept}
-use Rattle.sketch.specs.Params.{shapeAnswer}
+use Rattle.params.specs.declared.params.Params.{Params}
+use Rattle.params.specs.declared.answers.Why.the-variants.{Length}
+use Rattle.params.specs.declared.answers.Answer.{Answer}
+use Rattle.params.specs.declared.answers.Answer.the-variants.{Done, Refused}
+use Rattle.params.specs.Answers.{refuseIf, first, kept}
+use Rattle.params.specs.Params.{shapeAnswer}
 use Rattle.sketch.specs.Sketch.{Sketch, changedIn}
 use Rattle.sketch.specs.Packets.{stepAnswer, changed, Stepped, after, packetsAnswer, PacketsInserted, allAnswer, AllInserted, Accepted}
-use Rattle.sketch.proofs.Changes.{length-touched}
-use Rattle.sketch.proofs.Judging.{Refusal, first-refused, first-passed, kept-old, kept-new}
+use Rattle.params.proofs.Changes.{length-touched}
+use Rattle.params.proofs.Judging.{Refusal, first-refused, first-passed, kept-old, kept-new}
 use Rattle.sketch.proofs.TakenBack.{step-back}
 
 -- a step keeps the lengths

@@ -10,10 +10,10 @@ use native.Mathlib.Omega.{arith}
 use borrow.Author.Tests.{eq-eqb, ne-eqb, lt-ltb, le-ltb}
 use lib.Dec.{eqb, ltb}
 use lib.ListN.{getD}
-use Rattle.sketch.specs.Lists.{least}
-use Rattle.sketch.specs.Places.{standsIn, Reached}
-use Rattle.sketch.proofs.Searches.{and-false, least-here, least-skip}
-use Rattle.sketch.proofs.Limits.{stretch-within, small}
+use Rattle.params.specs.Lists.{least}
+use Rattle.params.specs.Places.{standsIn, Reached}
+use Rattle.params.proofs.Searches.{and-false, least-here, least-skip}
+use Rattle.params.proofs.Sizes.{stretch-within, small}
 
 -- the array of a bucket
 pub array-of : (m i k : ℕ) → i * m ≤ k → k < i * m + m → k / m ≡ i

@@ -9,19 +9,19 @@ use borrow.Author.Tests.{leb-true, ltb-true, not-false, eq-eqb}
 use lib.Dec.{leb, ltb}
 use lib.IntN.{ℤ, pos}
 use lib.ListN.{length, getD}
-use Rattle.sketch.specs.declared.params.Params.{Params}
-use Rattle.sketch.specs.declared.answers.Why.the-variants.{Param, Flow, Count, Damage, Range}
-use Rattle.sketch.specs.declared.answers.Answer.{Answer}
-use Rattle.sketch.specs.declared.answers.Answer.the-variants.{Done, Refused}
-use Rattle.sketch.specs.Answers.{kept}
-use Rattle.sketch.specs.Params.{prime, primeOf, size, Sized, goodParams, sizesAnswer}
-use Rattle.sketch.specs.Places.{stand, standsIn, stands, Placed, Reached}
+use Rattle.params.specs.declared.params.Params.{Params}
+use Rattle.params.specs.declared.answers.Why.the-variants.{Param, Flow, Count, Damage, Range}
+use Rattle.params.specs.declared.answers.Answer.{Answer}
+use Rattle.params.specs.declared.answers.Answer.the-variants.{Done, Refused}
+use Rattle.params.specs.Answers.{kept}
+use Rattle.params.specs.Params.{prime, primeOf, size, Sized, goodParams, sizesAnswer}
+use Rattle.params.specs.Places.{stand, standsIn, stands, Placed, Reached}
 use Rattle.sketch.specs.Buckets.{inLimits, damaged, plusMinus, weight}
 use Rattle.sketch.specs.Sketch.{Sketch, countIn, idsumIn, damagedIn, leavesIn, standingAnswer, changedIn}
 use Rattle.sketch.specs.Packets.{packetAnswer, entryAnswer, stepAnswer, changed, Stepped, moveAnswer, Moved}
-use Rattle.sketch.proofs.Judging.{Refusal, first-refused, first-passed, first-done, kept-old, kept-new, refuse-done, refuse-at-done}
-use Rattle.sketch.proofs.Rules.{sizes-done}
-use Rattle.sketch.proofs.Searches.{and-true, and-rest}
+use Rattle.params.proofs.Judging.{Refusal, first-refused, first-passed, first-done, kept-old, kept-new, refuse-done, refuse-at-done}
+use Rattle.params.proofs.Rules.{sizes-done}
+use Rattle.params.proofs.Searches.{and-true, and-rest}
 use Rattle.sketch.proofs.Limits.{whole}
 use Rattle.sketch.proofs.Standing.{standing-in, standing-same}
 

@@ -7,15 +7,15 @@ use native.Mathlib.Omega.{arith}
 use borrow.Author.Tests.{not-false, eqb-true}
 use lib.Dec.{leb, eqb}
 use lib.ListN.{length, take, drop}
-use Rattle.sketch.specs.declared.params.Params.{Params}
-use Rattle.sketch.specs.declared.answers.Why.the-variants.{Param, Length}
-use Rattle.sketch.specs.declared.answers.Answer.{Answer}
-use Rattle.sketch.specs.declared.answers.Answer.the-variants.{Done, Refused}
-use Rattle.sketch.specs.Answers.{kept}
-use Rattle.sketch.specs.Params.{size, goodParams}
+use Rattle.params.specs.declared.params.Params.{Params}
+use Rattle.params.specs.declared.answers.Why.the-variants.{Param, Length}
+use Rattle.params.specs.declared.answers.Answer.{Answer}
+use Rattle.params.specs.declared.answers.Answer.the-variants.{Done, Refused}
+use Rattle.params.specs.Answers.{kept}
+use Rattle.params.specs.Params.{size, goodParams}
 use Rattle.sketch.specs.Arrays.{arrayAnswer, stretch, stretchStart, Lent}
-use Rattle.sketch.proofs.Judging.{Refusal, kept-old, refuse-done}
-use Rattle.sketch.proofs.Rules.{Asked, asked}
+use Rattle.params.proofs.Judging.{Refusal, kept-old, refuse-done}
+use Rattle.params.proofs.Rules.{Asked, asked}
 
 pub array-done : (P : Params) (i n : ℕ) → arrayAnswer P i n ≡ Done → Asked P i × (n ≡ size P)
 unfolding arrayAnswer

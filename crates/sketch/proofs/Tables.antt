@@ -6,8 +6,8 @@ use Prim.Native.Nat.{ℕ, zero, suc, _+_, _≤_, _<_}
 use native.Mathlib.Omega.{arith}
 use lib.ListN.{length, getD, replicate}
 use lib.Seq.{ext-getD}
-use Rattle.sketch.specs.Lists.{mapFrom, touched, from}
-use Rattle.sketch.proofs.Changes.{length-touched, getD-touched}
+use Rattle.params.specs.Lists.{mapFrom, touched, from}
+use Rattle.params.proofs.Changes.{length-touched, getD-touched}
 
 module _ {A : Type 0} where
   pub length-from : (k n : ℕ) (h : ℕ → A) → length (from k n h) ≡ n

@@ -7,17 +7,17 @@ use lib.IntN.{ℤ, pos, _+ℤ_, _-ℤ_, +ℤ-negℤ-cancel}
 use lib.ListN.{length}
 use Rattle.field.specs.Residue.{residue}
 use Rattle.field.proofs.Residues.{residue-below}
-use Rattle.sketch.specs.declared.params.Params.{Params}
-use Rattle.sketch.specs.declared.answers.Answer.{Answer}
-use Rattle.sketch.specs.declared.answers.Answer.the-variants.{Done}
-use Rattle.sketch.specs.Answers.{kept}
-use Rattle.sketch.specs.Params.{prime, size}
-use Rattle.sketch.specs.Places.{stands}
+use Rattle.params.specs.declared.params.Params.{Params}
+use Rattle.params.specs.declared.answers.Answer.{Answer}
+use Rattle.params.specs.declared.answers.Answer.the-variants.{Done}
+use Rattle.params.specs.Answers.{kept}
+use Rattle.params.specs.Params.{prime, size}
+use Rattle.params.specs.Places.{stands}
 use Rattle.sketch.specs.Buckets.{inLimits, damaged, plusMinus, weight}
 use Rattle.sketch.specs.Sketch.{Sketch, sketch, countIn, idsumIn, damagedIn, leavesIn, standingAnswer, changedIn}
 use Rattle.sketch.specs.Packets.{stepAnswer, changed, Inserted, Withdrawn}
-use Rattle.sketch.proofs.Changes.{length-touched, getD-touched}
-use Rattle.sketch.proofs.Judging.{first-passed, kept-new, refuse-none}
+use Rattle.params.proofs.Changes.{length-touched, getD-touched}
+use Rattle.params.proofs.Judging.{first-passed, kept-new, refuse-none}
 use Rattle.sketch.proofs.Tables.{touched-back}
 use Rattle.sketch.proofs.Limits.{whole-back}
 use Rattle.sketch.proofs.Steps.{StepDone, step-done, move-done, move-good}

@@ -2,9 +2,9 @@
 use mathlib.Core.Bool.{Bool, true, false, not, _&&_}
 use Prim.Native.Nat.{ℕ, _*_}
 use lib.IntN.{ℤ, pos, natAbs, _+ℤ_, _-ℤ_}
-use lib.Dec.{leb, ltb}
+use lib.Dec.{eqb, leb, ltb}
 use Rattle.field.specs.Residue.{residue}
-use Rattle.sketch.specs.Params.{prime}
+use Rattle.params.specs.Params.{prime}
 
 -- a count lies from -2147483646 to 2147483646
 unfoldable pub inLimits : ℤ → Bool
@@ -22,3 +22,7 @@ plusMinus true x y = x -ℤ y
 -- what n packets of flow f bring to an idsum: n * f mod p
 abbrev pub weight : ℕ → ℕ → ℕ
 weight f n = residue prime (pos (n * f))
+
+-- a count that is 0
+abbrev pub isZero : ℤ → Bool
+isZero z = eqb (natAbs z) 0

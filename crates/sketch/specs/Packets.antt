@@ -6,13 +6,13 @@ use Prim.Native.Nat.{ℕ, _<_}
 use lib.IntN.{pos}
 use lib.Dec.{leb, ltb, eqb}
 use lib.ListN.{length, getD, take}
-use Rattle.sketch.specs.declared.params.Params.{Params}
-use Rattle.sketch.specs.declared.answers.Why.the-variants.{Param, Length, Flow, Count}
-use Rattle.sketch.specs.declared.answers.Answer.{Answer}
-use Rattle.sketch.specs.declared.answers.Answer.the-variants.{Done}
-use Rattle.sketch.specs.Answers.{refuseIf, first, kept}
-use Rattle.sketch.specs.Params.{prime, size, goodParams, sizesAnswer, shapeAnswer}
-use Rattle.sketch.specs.Places.{stands}
+use Rattle.params.specs.declared.params.Params.{Params}
+use Rattle.params.specs.declared.answers.Why.the-variants.{Param, Length, Flow, Count}
+use Rattle.params.specs.declared.answers.Answer.{Answer}
+use Rattle.params.specs.declared.answers.Answer.the-variants.{Done}
+use Rattle.params.specs.Answers.{refuseIf, first, kept}
+use Rattle.params.specs.Params.{prime, size, goodParams, sizesAnswer, shapeAnswer}
+use Rattle.params.specs.Places.{stands}
 use Rattle.sketch.specs.Buckets.{weight}
 use Rattle.sketch.specs.Sketch.{Sketch, Entry, by, standingAnswer, changedIn}
 

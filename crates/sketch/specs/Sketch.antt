@@ -6,14 +6,14 @@ use Prim.Native.Nat.{ℕ}
 use lib.IntN.{ℤ, pos, _+ℤ_, _*ℤ_}
 use lib.ListN.{getD, length, replicate}
 use Rattle.field.specs.Residue.{residue}
-use Rattle.sketch.specs.declared.params.Params.{Params}
-use Rattle.sketch.specs.declared.answers.Why.the-variants.{Damage, Range}
-use Rattle.sketch.specs.declared.answers.Answer.{Answer}
-use Rattle.sketch.specs.declared.answers.Answer.the-variants.{Done}
-use Rattle.sketch.specs.Lists.{touched, from}
-use Rattle.sketch.specs.Answers.{refuseAt, kept}
-use Rattle.sketch.specs.Params.{prime, primeOf, size, shapeAnswer}
-use Rattle.sketch.specs.Places.{stands}
+use Rattle.params.specs.declared.params.Params.{Params}
+use Rattle.params.specs.declared.answers.Why.the-variants.{Damage, Range}
+use Rattle.params.specs.declared.answers.Answer.{Answer}
+use Rattle.params.specs.declared.answers.Answer.the-variants.{Done}
+use Rattle.params.specs.Lists.{touched, from}
+use Rattle.params.specs.Answers.{refuseAt, kept}
+use Rattle.params.specs.Params.{prime, primeOf, size, shapeAnswer}
+use Rattle.params.specs.Places.{stands}
 use Rattle.sketch.specs.Buckets.{inLimits, damaged, plusMinus}
 
 pub record Sketch : Type 0 where

@@ -1,9 +1,9 @@
 // An array's own stretch of a sketch, lent on to be worked on by itself.
 ghost use mathlib.Core.Path.{_≡_};
 ghost use Rattle.sketch.specs.Arrays.{arrayAnswer, Lent};
-use crate::answers::Answer;
-use crate::answers::Why;
-use crate::params::Params;
+use params::Answer;
+use params::Params;
+use params::Why;
 
 // Whether array i of a slice of this length can be lent: what goes with the stretches below.
 pub fn array(p: Params, i: usize, len: usize) -> Answer

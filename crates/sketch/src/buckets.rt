@@ -1,16 +1,15 @@
 // One bucket: its limits, and what an entry makes of it.
 ghost use mathlib.Core.Path.{_≡_};
-ghost use mathlib.Core.Bool.{Bool, true, _&&_, cond};
-ghost use Prim.Native.Nat.{ℕ, _*_};
-ghost use lib.IntN.{ℤ, pos};
+ghost use mathlib.Core.Bool.{_&&_, cond};
+ghost use lib.IntN.{pos};
 ghost use lib.Dec.{ltb, eqb};
 ghost use lib.ListN.{length};
 ghost use Rattle.field.specs.Residue.{residue};
-ghost use Rattle.sketch.specs.Lists.{least};
-ghost use Rattle.sketch.specs.Params.{prime};
+ghost use Rattle.params.specs.Lists.{least};
+ghost use Rattle.params.specs.Params.{prime};
 ghost use Rattle.sketch.specs.Sketch.{sketch, damagedAt};
 ghost use Rattle.sketch.specs.Buckets.{inLimits, plusMinus, weight as «weight-of»};
-use crate::params::PRIME;
+use params::PRIME;
 
 // Whether a number lies within a count's limits.
 pub fn within(z: i64) -> bool
@@ -57,14 +56,6 @@ pub fn moved(minus: bool, c: i32, e: i32) -> i64
     }
 }
 
-// The same as a count, where it is one.
-pub(crate) fn settled(minus: bool, c: i32, e: i32) -> i32
-    requires { ⌜ inLimits (plusMinus minus c e) ≡ true ⌝ }
-    ensures { λ r. ⌜ r ≡ plusMinus minus c e ⌝ }
-{
-    moved(minus, c, e) as i32
-}
-
 // The sum or the difference of two idsums.
 pub fn wound(minus: bool, s: u32, t: u32) -> u32
     ensures { λ r. ⌜ r ≡ residue prime (plusMinus minus (pos s) (pos t)) ⌝ }
@@ -77,7 +68,7 @@ pub fn wound(minus: bool, s: u32, t: u32) -> u32
 }
 
 // What n packets of flow f add to an idsum.
-pub(crate) fn weight(f: u32, n: u32) -> u32
+pub fn weight(f: u32, n: u32) -> u32
     ensures { λ r. ⌜ r ≡ «weight-of» f n ⌝ }
 {
     field::multiply(PRIME, n, f)

@@ -1,26 +1,25 @@
 // Fresh sketches, and packets put in and taken out.
 ghost use mathlib.Core.Path.{_≡_};
-ghost use mathlib.Core.Bool.{Bool, true, false};
+ghost use mathlib.Core.Bool.{true, false};
 ghost use Prim.Native.Nat.{ℕ, _+_, _*_, _<_, _≤_};
-ghost use lib.IntN.{ℤ, pos};
+ghost use lib.IntN.{pos};
 ghost use lib.ListN.{length, getD, set, replicate};
 ghost use Rattle.field.specs.Residue.{residue};
-ghost use Rattle.sketch.specs.Lists.{least};
-ghost use Rattle.sketch.specs.Params.{prime};
-ghost use Rattle.sketch.specs.Places.{standsIn, Reached};
-ghost use Rattle.sketch.specs.Buckets.{inLimits, plusMinus, weight as «weight-of»};
+ghost use Rattle.params.specs.Lists.{least};
+ghost use Rattle.params.specs.Params.{prime};
+ghost use Rattle.params.specs.Places.{standsIn, Reached};
+ghost use Rattle.sketch.specs.Buckets.{inLimits, plusMinus};
 ghost use Rattle.sketch.specs.Sketch.{sketch, damagedIn, leavesIn, standingAnswer, changedIn, Freshened};
 ghost use Rattle.sketch.specs.Packets.{packetAnswer, entryAnswer, Stepped, Inserted, Withdrawn, Unwound, PacketsInserted, AllInserted};
-use crate::answers::Answer;
-use crate::answers::Why;
 use crate::buckets::moved;
-use crate::buckets::settled;
 use crate::buckets::sound;
 use crate::buckets::weight;
 use crate::buckets::within;
 use crate::buckets::wound;
-use crate::params::PRIME;
-use crate::params::Params;
+use params::Answer;
+use params::PRIME;
+use params::Params;
+use params::Why;
 
 fn clear(counts: &mut [i32], idsums: &mut [u32])
     requires { ⌜ length (now counts) ≡ length (now idsums) ⌝ }
@@ -137,7 +136,7 @@ fn put(minus: bool, counts: &mut [i32], idsums: &mut [u32], j: usize, n: i32, w:
     ensures { λ r. ⌜ now (counts .exit) ≡ set (now (counts .entry)) j (plusMinus minus (getD (now (counts .entry)) j (pos 0)) n) ⌝ }
     ensures { λ r. ⌜ now (idsums .exit) ≡ set (now (idsums .entry)) j (residue prime (plusMinus minus (pos (getD (now (idsums .entry)) j 0)) (pos w))) ⌝ }
 {
-    counts[j] = settled(minus, counts[j], n);
+    counts[j] = moved(minus, counts[j], n) as i32;
     idsums[j] = wound(minus, idsums[j], w);
 }
 

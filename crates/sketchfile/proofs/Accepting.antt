@@ -10,13 +10,13 @@ use lib.Dec.{ltb}
 use lib.IntN.{pos}
 use lib.ListN.{length, getD, length-append}
 use lib.Seq.{getD-at}
-use Rattle.sketch.specs.declared.params.Params.{Params}
-use Rattle.sketch.specs.declared.answers.Why.the-variants.{Param, Length, Damage}
-use Rattle.sketch.specs.declared.answers.Answer.the-variants.{Done}
-use Rattle.sketch.specs.Params.{size, goodParams, lengthsAnswer, shapeAnswer}
+use Rattle.params.specs.declared.params.Params.{Params}
+use Rattle.params.specs.declared.answers.Why.the-variants.{Param, Length, Damage}
+use Rattle.params.specs.declared.answers.Answer.the-variants.{Done}
+use Rattle.params.specs.Params.{size, goodParams, lengthsAnswer, shapeAnswer}
 use Rattle.sketch.specs.Sketch.{Sketch, sketch, damagedAt, zeros}
-use Rattle.sketch.proofs.Judging.{first-done, first-passed, refuse-done, refuse-at-done, refuse-none}
-use Rattle.sketch.proofs.Rules.{good-sized, sized-small, lengths-done}
+use Rattle.params.proofs.Judging.{first-done, first-passed, refuse-done, refuse-at-done, refuse-none}
+use Rattle.params.proofs.Rules.{good-sized, sized-small, lengths-done}
 use Rattle.files.specs.Bytes.{wordBytes}
 use Rattle.files.specs.Records.{recordAt, isKind}
 use Rattle.files.specs.Heads.{openingAnswer}

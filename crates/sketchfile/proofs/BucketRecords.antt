@@ -9,16 +9,16 @@ use borrow.Author.Tests.{le-leb, lt-leb, lt-ltb, le-ltb, ltb-true, not-false}
 use lib.Dec.{leb, ltb}
 use lib.IntN.{ℤ}
 use lib.ListN.{length, set}
-use Rattle.sketch.specs.declared.params.Params.{Params}
-use Rattle.sketch.specs.declared.answers.Why.the-variants.{Param, Damage, Mismatch, Form}
-use Rattle.sketch.specs.declared.answers.Answer.{Answer}
-use Rattle.sketch.specs.declared.answers.Answer.the-variants.{Done, Refused}
-use Rattle.sketch.specs.Answers.{kept}
-use Rattle.sketch.specs.Params.{prime, goodParams, sameParams, shapeAnswer}
+use Rattle.params.specs.declared.params.Params.{Params}
+use Rattle.params.specs.declared.answers.Why.the-variants.{Param, Damage, Mismatch, Form}
+use Rattle.params.specs.declared.answers.Answer.{Answer}
+use Rattle.params.specs.declared.answers.Answer.the-variants.{Done, Refused}
+use Rattle.params.specs.Answers.{kept}
+use Rattle.params.specs.Params.{prime, goodParams, sameParams, shapeAnswer}
 use Rattle.sketch.specs.Buckets.{inLimits, damaged}
 use Rattle.sketch.specs.Sketch.{Sketch, sketch, Freshened}
-use Rattle.sketch.proofs.Searches.{and-true}
-use Rattle.sketch.proofs.Judging.{Refusal, first-refused, first-passed, first-done, refuse-done}
+use Rattle.params.proofs.Searches.{and-true}
+use Rattle.params.proofs.Judging.{Refusal, first-refused, first-passed, first-done, refuse-done}
 use Rattle.files.specs.declared.fields.Bucket.{Bucket}
 use Rattle.files.specs.declared.fields.Bucket.the-variants.{Of as BucketOf, No as NoBucket}
 use Rattle.files.specs.Bytes.{word, countOf}

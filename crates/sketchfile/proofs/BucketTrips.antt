@@ -14,9 +14,9 @@ use mir.Syntax.{w32}
 use mir.Val.{SFits, toZ}
 use mir.ValLaws.{toZ-ofZ, ofZ-toZ, ofZ-fits}
 use Rattle.sketch.specs.Sketch.{Sketch, countIn, idsumIn}
-use Rattle.sketch.proofs.Searches.{and-true}
-use Rattle.walk.specs.Walk.{isZero}
-use Rattle.walk.proofs.Zeros.{zero-is}
+use Rattle.params.proofs.Searches.{and-true}
+use Rattle.sketch.specs.Buckets.{isZero}
+use Rattle.sketch.proofs.Zeros.{zero-is}
 use Rattle.files.specs.Bytes.{word, wordBytes, countWord, countOf}
 use Rattle.files.specs.Records.{bodyLength, recordAt, isKind}
 use Rattle.files.specs.Layout.{bucketBytes}

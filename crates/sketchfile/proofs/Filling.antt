@@ -10,14 +10,14 @@ use lib.Dec.{leb, ltb}
 use lib.IntN.{ℤ, pos}
 use lib.ListN.{length, getD, set, replicate, length-append, length-set, length-replicate, getD-replicate, List·getD-eq-default}
 use lib.Seq.{ext-getD, getD-set-same, getD-set-other}
-use Rattle.sketch.specs.declared.params.Params.{Params}
-use Rattle.sketch.specs.declared.answers.Why.the-variants.{Damage, Form}
-use Rattle.sketch.specs.declared.answers.Answer.the-variants.{Done}
-use Rattle.sketch.specs.Params.{size}
+use Rattle.params.specs.declared.params.Params.{Params}
+use Rattle.params.specs.declared.answers.Why.the-variants.{Damage, Form}
+use Rattle.params.specs.declared.answers.Answer.the-variants.{Done}
+use Rattle.params.specs.Params.{size}
 use Rattle.sketch.specs.Buckets.{damaged}
 use Rattle.sketch.specs.Sketch.{Sketch, countIn, idsumIn, damagedAt, zeros}
-use Rattle.sketch.proofs.Searches.{and-true}
-use Rattle.sketch.proofs.Judging.{refuse-done}
+use Rattle.params.proofs.Searches.{and-true}
+use Rattle.params.proofs.Judging.{refuse-done}
 use Rattle.sketch.proofs.Limits.{whole, limits-fit}
 use Rattle.files.specs.Bytes.{wordBytes}
 use Rattle.files.specs.Records.{recordAt, isKind}

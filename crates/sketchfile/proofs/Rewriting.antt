@@ -9,9 +9,9 @@ use native.Mathlib.Omega.{arith}
 use lib.IntN.{ℤ, pos}
 use lib.ListN.{length, getD, set, take, replicate, take-append-drop}
 use lib.Seq.{getD-set-same, getD-set-other, take-add, length-take-le}
-use Rattle.sketch.specs.declared.params.Params.{Params}
-use Rattle.sketch.specs.declared.answers.Answer.the-variants.{Done}
-use Rattle.sketch.specs.Params.{size}
+use Rattle.params.specs.declared.params.Params.{Params}
+use Rattle.params.specs.declared.answers.Answer.the-variants.{Done}
+use Rattle.params.specs.Params.{size}
 use Rattle.sketch.specs.Buckets.{inLimits, damaged}
 use Rattle.sketch.specs.Sketch.{Sketch, sketch, countIn, idsumIn, damagedAt, zeros}
 use Rattle.files.specs.Records.{recordAt, isKind}

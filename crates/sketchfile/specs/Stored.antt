@@ -6,15 +6,15 @@ use Prim.Native.Nat.{ℕ, zero, suc, _+_, _*_}
 use lib.IntN.{ℤ}
 use lib.Dec.{eqb, leb, ltb}
 use lib.ListN.{length, set}
-use Rattle.sketch.specs.declared.params.Params.{Params}
-use Rattle.sketch.specs.declared.answers.Why.the-variants.{Damage, Form}
-use Rattle.sketch.specs.declared.answers.Answer.{Answer}
-use Rattle.sketch.specs.declared.answers.Answer.the-variants.{Done}
-use Rattle.sketch.specs.Answers.{refuseIf, first, kept}
-use Rattle.sketch.specs.Params.{size}
+use Rattle.params.specs.declared.params.Params.{Params}
+use Rattle.params.specs.declared.answers.Why.the-variants.{Damage, Form}
+use Rattle.params.specs.declared.answers.Answer.{Answer}
+use Rattle.params.specs.declared.answers.Answer.the-variants.{Done}
+use Rattle.params.specs.Answers.{refuseIf, first, kept}
+use Rattle.params.specs.Params.{size}
 use Rattle.sketch.specs.Buckets.{damaged}
 use Rattle.sketch.specs.Sketch.{Sketch, sketch, zeros}
-use Rattle.walk.specs.Walk.{isZero}
+use Rattle.sketch.specs.Buckets.{isZero}
 use Rattle.files.specs.Bytes.{word, countOf}
 use Rattle.files.specs.Heads.{openingAnswer}
 use Rattle.files.specs.Turns.{inTurn, bucketPlace, recordsOf, endAnswer}

@@ -5,12 +5,12 @@ use mathlib.Core.List.{List, [], _++_}
 use Prim.Native.Nat.{ℕ, zero, suc, _+_}
 use lib.Dec.{ltb}
 use lib.ListN.{length}
-use Rattle.sketch.specs.declared.params.Params.{Params}
-use Rattle.sketch.specs.declared.answers.Why.the-variants.{Length, Damage}
-use Rattle.sketch.specs.declared.answers.Answer.{Answer}
-use Rattle.sketch.specs.declared.answers.Answer.the-variants.{Done}
-use Rattle.sketch.specs.Answers.{refuseIf, refuseAt, first, kept}
-use Rattle.sketch.specs.Params.{size, shapeAnswer}
+use Rattle.params.specs.declared.params.Params.{Params}
+use Rattle.params.specs.declared.answers.Why.the-variants.{Length, Damage}
+use Rattle.params.specs.declared.answers.Answer.{Answer}
+use Rattle.params.specs.declared.answers.Answer.the-variants.{Done}
+use Rattle.params.specs.Answers.{refuseIf, refuseAt, first, kept}
+use Rattle.params.specs.Params.{size, shapeAnswer}
 use Rattle.sketch.specs.Sketch.{Sketch, countIn, idsumIn, damagedAt}
 use Rattle.files.specs.declared.writing.Written.{Written}
 use Rattle.files.specs.Bytes.{over}

@@ -9,9 +9,9 @@ use files::ends::end;
 use files::fields::Bucket;
 use files::fields::bucket_at;
 use files::heads::opening;
-use sketch::Answer;
-use sketch::Params;
-use sketch::Why;
+use params::Answer;
+use params::Params;
+use params::Why;
 use sketch::buckets::sound;
 use sketch::packets::fresh;
 

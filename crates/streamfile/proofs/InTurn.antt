@@ -6,12 +6,12 @@ use Prim.Native.Nat.{ℕ, _+_, _*_, _≤_, _<_}
 use native.Mathlib.Omega.{arith}
 use borrow.Author.Count.{below-more}
 use lib.ListN.{length, getD, take}
-use Rattle.sketch.specs.declared.params.Params.{Params}
-use Rattle.sketch.specs.declared.answers.Answer.{Answer}
-use Rattle.sketch.specs.declared.answers.Answer.the-variants.{Done, Refused}
+use Rattle.params.specs.declared.params.Params.{Params}
+use Rattle.params.specs.declared.answers.Answer.{Answer}
+use Rattle.params.specs.declared.answers.Answer.the-variants.{Done, Refused}
 use Rattle.sketch.specs.Sketch.{Sketch}
 use Rattle.sketch.specs.Packets.{stepAnswer, changed, after, Accepted}
-use Rattle.sketch.proofs.Judging.{Refusal, first-refused, first-passed}
+use Rattle.params.proofs.Judging.{Refusal, first-refused, first-passed}
 use Rattle.sketch.proofs.ManyPackets.{after-more, after-end}
 use Rattle.files.specs.Records.{recordAt, isKind, bodyLength}
 use Rattle.files.specs.Turns.{toldAt, packetFrom, packetPlace, endAnswer}

@@ -6,17 +6,17 @@ use Prim.Native.Nat.{ℕ, _≤_, _<_}
 use borrow.Author.Tests.{eq-eqb}
 use lib.Dec.{eqb}
 use lib.ListN.{length}
-use Rattle.sketch.specs.declared.params.Params.{Params}
-use Rattle.sketch.specs.declared.answers.Why.the-variants.{Damage}
-use Rattle.sketch.specs.declared.answers.Answer.{Answer}
-use Rattle.sketch.specs.declared.answers.Answer.the-variants.{Done, Refused}
-use Rattle.sketch.specs.Lists.{least}
-use Rattle.sketch.specs.Answers.{refuseAt, kept}
-use Rattle.sketch.specs.Params.{size}
+use Rattle.params.specs.declared.params.Params.{Params}
+use Rattle.params.specs.declared.answers.Why.the-variants.{Damage}
+use Rattle.params.specs.declared.answers.Answer.{Answer}
+use Rattle.params.specs.declared.answers.Answer.the-variants.{Done, Refused}
+use Rattle.params.specs.Lists.{least}
+use Rattle.params.specs.Answers.{refuseAt, kept}
+use Rattle.params.specs.Params.{size}
 use Rattle.sketch.specs.Sketch.{Sketch, damagedAt}
 use Rattle.sketch.specs.Packets.{after}
-use Rattle.sketch.proofs.Judging.{Refusal, first-refused, first-passed, kept-old, refuse-found, refuse-past}
-use Rattle.sketch.proofs.Rules.{lengths-done}
+use Rattle.params.proofs.Judging.{Refusal, first-refused, first-passed, kept-old, refuse-found, refuse-past}
+use Rattle.params.proofs.Rules.{lengths-done}
 use Rattle.files.specs.Heads.{openingAnswer}
 use Rattle.files.proofs.HeadTrips.{opening-done}
 use Rattle.streamfile.specs.Streams.{flowsIn, numbersIn, packetsJudged, streamAnswer, RecordsRead, StreamRead}

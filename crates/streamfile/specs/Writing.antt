@@ -5,13 +5,13 @@ use mathlib.Core.List.{List, [], _∷_, _++_}
 use Prim.Native.Nat.{ℕ}
 use lib.Dec.{eqb, leb, ltb}
 use lib.ListN.{length, getD}
-use Rattle.sketch.specs.declared.params.Params.{Params}
-use Rattle.sketch.specs.declared.answers.Why.the-variants.{Param, Length, Flow, Count}
-use Rattle.sketch.specs.declared.answers.Answer.{Answer}
-use Rattle.sketch.specs.declared.answers.Answer.the-variants.{Done}
-use Rattle.sketch.specs.Lists.{below}
-use Rattle.sketch.specs.Answers.{refuseIf, kept}
-use Rattle.sketch.specs.Params.{prime, isFlow, goodParams}
+use Rattle.params.specs.declared.params.Params.{Params}
+use Rattle.params.specs.declared.answers.Why.the-variants.{Param, Length, Flow, Count}
+use Rattle.params.specs.declared.answers.Answer.{Answer}
+use Rattle.params.specs.declared.answers.Answer.the-variants.{Done}
+use Rattle.params.specs.Lists.{below}
+use Rattle.params.specs.Answers.{refuseIf, kept}
+use Rattle.params.specs.Params.{prime, isFlow, goodParams}
 use Rattle.files.specs.declared.writing.Written.{Written}
 use Rattle.files.specs.Bytes.{over}
 use Rattle.files.specs.Layout.{headBytes, packetBytes, endBytes}

@@ -9,9 +9,9 @@ use files::ends::end;
 use files::fields::Packets;
 use files::fields::packets_at;
 use files::heads::opening;
-use sketch::Answer;
-use sketch::Params;
-use sketch::Why;
+use params::Answer;
+use params::Params;
+use params::Why;
 use sketch::buckets::first_damaged;
 use sketch::packets::step;
 

@@ -10,9 +10,10 @@ use lib.Dec.{eqb}
 use lib.IntN.{pos}
 use lib.ListN.{length, getD, List·getD-eq-default}
 use Rattle.sketch.specs.Sketch.{Sketch, countIn, idsumIn}
-use Rattle.sketch.proofs.Searches.{and-true}
-use Rattle.walk.specs.Walk.{isZero, all, nothingLeft}
-use Rattle.walk.proofs.Zeros.{is-zero, zero-is}
+use Rattle.params.proofs.Searches.{and-true}
+use Rattle.walk.specs.Walk.{all, nothingLeft}
+use Rattle.sketch.specs.Buckets.{isZero}
+use Rattle.sketch.proofs.Zeros.{is-zero, zero-is}
 
 pub both-true : (s t : Bool) → s ≡ true → t ≡ true → (s && t) ≡ true
 both-true s t e h = rw (e, h)

@@ -11,7 +11,7 @@ use Rattle.field.specs.Residue.{residue}
 use Rattle.field.proofs.Parts.{int, up-down-add, up-neg, down-neg}
 use Rattle.field.proofs.Residues.{residue-below, residue-own, residue-twice, residue-add-same}
 use Rattle.sketch.specs.Sketch.{Sketch, countIn, idsumIn, Entry}
-use Rattle.sketch.proofs.Weighted.{weighted}
+use Rattle.sums.proofs.Weighted.{weighted}
 use Rattle.walk.specs.declared.Found.the-variants.{Impure, Pure}
 use Rattle.walk.specs.Walk.{Rule, State, Outcome, less, taken, walk, close}
 use Rattle.walk.proofs.Carried.{carried}

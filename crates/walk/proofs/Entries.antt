@@ -9,8 +9,9 @@ use lib.Dec.{eqb, ltb}
 use lib.IntN.{ℤ, _+ℤ_, +ℤ-idl}
 use lib.ListN.{length, getD}
 use Rattle.sketch.specs.Sketch.{Entry, by}
-use Rattle.sketch.proofs.Searches.{and-true}
-use Rattle.walk.specs.Walk.{isZero, all, any, has, entryOf, credited, hasRoom, close}
+use Rattle.params.proofs.Searches.{and-true}
+use Rattle.walk.specs.Walk.{all, any, has, entryOf, credited, hasRoom, close}
+use Rattle.sketch.specs.Buckets.{isZero}
 use Rattle.walk.proofs.Alls.{both-true}
 
 -- a test of every entry

@@ -6,12 +6,12 @@ use Prim.Native.Nat.{ℕ, zero, suc}
 use lib.IntN.{ℤ, pos, negsuc}
 use Rattle.field.specs.Residue.{residue}
 use Rattle.field.specs.Flow.{inverseIn, inverse, flow}
-use Rattle.sketch.specs.declared.params.Params.{Params}
-use Rattle.sketch.specs.declared.answers.Answer.{Answer}
-use Rattle.sketch.specs.Lists.{below, least, mapFrom, touched, from}
-use Rattle.sketch.specs.Answers.{numberIn, indexIn, refuseAt, first, kept}
-use Rattle.sketch.specs.Params.{primeOf, pairAt, twins, goodSizes, goodParams, lengthsAnswer, sizesAnswer}
-use Rattle.sketch.specs.Places.{stand, position, standsIn}
+use Rattle.params.specs.declared.params.Params.{Params}
+use Rattle.params.specs.declared.answers.Answer.{Answer}
+use Rattle.params.specs.Lists.{below, least, mapFrom, touched, from}
+use Rattle.params.specs.Answers.{numberIn, indexIn, refuseAt, first, kept}
+use Rattle.params.specs.Params.{primeOf, pairAt, twins, goodSizes, goodParams, lengthsAnswer, sizesAnswer}
+use Rattle.params.specs.Places.{stand, position, standsIn}
 use Rattle.sketch.specs.Buckets.{inLimits}
 use Rattle.sketch.specs.Sketch.{Sketch, sketch, Entry, by, countAt, weightAt, sketchOf, damagedIn, leavesIn, standingAnswer, changedIn}
 use Rattle.sketch.specs.Packets.{packetAnswer, entryAnswer, stepAnswer, changed, moveAnswer}

@@ -6,7 +6,7 @@ use lib.IntN.{ℤ, pos, _-ℤ_}
 use lib.ListN.{length}
 use Rattle.field.specs.Residue.{residue}
 use Rattle.sketch.specs.Sketch.{Sketch, countIn, idsumIn}
-use Rattle.sketch.proofs.Changes.{length-touched, getD-touched}
+use Rattle.params.proofs.Changes.{length-touched, getD-touched}
 use Rattle.walk.specs.Walk.{Rule, less}
 
 module _ (R : Rule) (f : ℕ) (c : ℤ) (s : ℕ) (S : Sketch) where

@@ -1,6 +1,5 @@
 -- The laws of the walk, which the proofs of this crate and of those above it cite.
 pub mod Numbers
-pub mod Zeros
 pub mod Alls
 pub mod Waiting
 pub mod Lessened

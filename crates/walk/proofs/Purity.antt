@@ -14,16 +14,16 @@ use Rattle.field.proofs.Primes.{prime-31}
 use Rattle.field.proofs.Inverses.{prime-pos}
 use Rattle.field.proofs.Residues.{residue-below, residue-nonzero}
 use Rattle.field.proofs.OneFlow.{the-flow}
-use Rattle.sketch.specs.declared.params.Params.{Params}
-use Rattle.sketch.specs.Params.{primeOf, size}
-use Rattle.sketch.specs.Places.{stand, standsIn, stands}
+use Rattle.params.specs.declared.params.Params.{Params}
+use Rattle.params.specs.Params.{primeOf, size}
+use Rattle.params.specs.Places.{stand, standsIn, stands}
 use Rattle.sketch.specs.Buckets.{inLimits}
-use Rattle.sketch.proofs.Searches.{and-true}
+use Rattle.params.proofs.Searches.{and-true}
 use Rattle.sketch.proofs.Limits.{limits-size}
 use Rattle.walk.specs.declared.Found.the-variants.{Undefined, Impure, Pure}
-use Rattle.walk.specs.Walk.{isZero}
+use Rattle.sketch.specs.Buckets.{isZero}
 use Rattle.walk.specs.Purity.{testIn, pureTest, ruleOf}
-use Rattle.walk.proofs.Zeros.{not-zero}
+use Rattle.sketch.proofs.Zeros.{not-zero}
 use Rattle.walk.proofs.Balance.{Sound}
 use Rattle.walk.proofs.Stuck.{Placed}
 

@@ -10,15 +10,15 @@ use lib.ListN.{length, getD}
 use lib.Seq.{ext-getD}
 use Rattle.field.specs.Residue.{residue}
 use Rattle.field.proofs.Residues.{residue-below, residue-own, residue-twice, residue-add-same}
-use Rattle.sketch.specs.declared.params.Params.{Params}
-use Rattle.sketch.specs.Lists.{mapFrom, touched, from}
-use Rattle.sketch.specs.Params.{prime, size}
+use Rattle.params.specs.declared.params.Params.{Params}
+use Rattle.params.specs.Lists.{mapFrom, touched, from}
+use Rattle.params.specs.Params.{prime, size}
 use Rattle.sketch.specs.Sketch.{Sketch, sketch, countIn, idsumIn, Entry, countAt, weightAt, sketchOf}
-use Rattle.sketch.specs.Sums.{combined}
-use Rattle.sketch.proofs.Changes.{length-touched, getD-touched, touched-all}
+use Rattle.sums.specs.Sums.{combined}
+use Rattle.params.proofs.Changes.{length-touched, getD-touched, touched-all}
 use Rattle.sketch.proofs.Tables.{length-from, getD-from}
 use Rattle.sketch.proofs.Idsums.{prime-pos}
-use Rattle.sketch.proofs.Weighted.{count-weighted, weight-weighted}
+use Rattle.sums.proofs.Weighted.{count-weighted, weight-weighted}
 use Rattle.walk.specs.Walk.{nothingLeft}
 use Rattle.walk.specs.Purity.{ruleOf}
 use Rattle.walk.proofs.Alls.{nothing-count, nothing-idsum}

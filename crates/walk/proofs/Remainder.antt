@@ -7,7 +7,7 @@ use lib.IntN.{ℤ, _+ℤ_, _-ℤ_}
 use lib.ListN.{length}
 use Rattle.sketch.specs.Buckets.{inLimits}
 use Rattle.sketch.specs.Sketch.{Sketch, countIn, idsumIn}
-use Rattle.sketch.proofs.Searches.{and-true, below-at}
+use Rattle.params.proofs.Searches.{and-true, below-at}
 use Rattle.walk.specs.Walk.{Rule, State, queued, entryOf, inRange, taken, walk}
 use Rattle.walk.proofs.Carried.{Takes, takenAt, carried}
 use Rattle.walk.proofs.Lessened.{less-counts, less-count}

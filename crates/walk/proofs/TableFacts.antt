@@ -8,10 +8,10 @@ use borrow.Author.Tests.{lt-ltb}
 use lib.Dec.{ltb}
 use lib.IntN.{ℤ, _+ℤ_, _-ℤ_}
 use lib.ListN.{length}
-use Rattle.sketch.specs.Lists.{below}
+use Rattle.params.specs.Lists.{below}
 use Rattle.sketch.specs.Buckets.{inLimits}
 use Rattle.sketch.specs.Sketch.{Sketch, Entry, countIn}
-use Rattle.sketch.proofs.Searches.{and-true}
+use Rattle.params.proofs.Searches.{and-true}
 use Rattle.walk.specs.Walk.{Rule, State, queued, all, entryOf, inRange, taken, walk}
 use Rattle.walk.proofs.Carried.{Takes, takenAt, carried}
 use Rattle.walk.proofs.Balance.{Sound}

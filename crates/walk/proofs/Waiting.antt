@@ -11,7 +11,8 @@ use lib.Dec.{eqb}
 use lib.IntN.{ℤ, pos}
 use lib.ListN.{length, getD}
 use Rattle.sketch.specs.Sketch.{Sketch, countIn}
-use Rattle.walk.specs.Walk.{isZero, any, waits, join, requeue, firstQueue}
+use Rattle.walk.specs.Walk.{any, waits, join, requeue, firstQueue}
+use Rattle.sketch.specs.Buckets.{isZero}
 
 pub or-true : (s t : Bool) → t ≡ true → (s || t) ≡ true
 or-true true t e = refl

@@ -5,12 +5,13 @@ use lib.IntN.{ℤ}
 use lib.Dec.{eqb}
 use Rattle.field.specs.Residue.{residue}
 use Rattle.field.specs.Flow.{flow}
-use Rattle.sketch.specs.declared.params.Params.{Params}
-use Rattle.sketch.specs.Params.{primeOf, goodSizes}
-use Rattle.sketch.specs.Places.{stand, stands}
+use Rattle.params.specs.declared.params.Params.{Params}
+use Rattle.params.specs.Params.{primeOf, goodSizes}
+use Rattle.params.specs.Places.{stand, stands}
 use Rattle.walk.specs.declared.Found.{Found}
 use Rattle.walk.specs.declared.Found.the-variants.{Undefined, Impure, Pure}
-use Rattle.walk.specs.Walk.{Rule, isZero}
+use Rattle.walk.specs.Walk.{Rule}
+use Rattle.sketch.specs.Buckets.{isZero}
 
 -- a bucket k with count c and idsum s, modulo p: pure when c is not 0 and the one number f with c * f congruent to s stands there
 unfoldable pub testIn : ℕ → (ℕ → ℕ → Bool) → ℕ → ℤ → ℕ → Found

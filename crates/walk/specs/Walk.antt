@@ -2,12 +2,12 @@
 use mathlib.Core.Bool.{Bool, true, false, cond, not, _&&_, _||_}
 use mathlib.Core.List.{List, [], _∷_, _++_}
 use Prim.Native.Nat.{ℕ, zero, suc}
-use lib.IntN.{ℤ, pos, natAbs, _+ℤ_, _-ℤ_}
+use lib.IntN.{ℤ, pos, _+ℤ_, _-ℤ_}
 use lib.Dec.{eqb, ltb}
 use lib.ListN.{getD, length}
 use Rattle.field.specs.Residue.{residue}
-use Rattle.sketch.specs.Lists.{below, touched}
-use Rattle.sketch.specs.Buckets.{inLimits}
+use Rattle.params.specs.Lists.{below, touched}
+use Rattle.sketch.specs.Buckets.{inLimits, isZero}
 use Rattle.sketch.specs.Sketch.{Sketch, sketch, Entry, by, countIn, idsumIn}
 use Rattle.walk.specs.declared.Ending.{Ending}
 use Rattle.walk.specs.declared.Ending.the-variants.{Clean, Stuck, Spent, NoInverse, Range, Full}
@@ -28,9 +28,6 @@ pub record State : Type 0 where
   pub held : Sketch
   pub queue : List ℕ
   pub table : List Entry
-
-abbrev pub isZero : ℤ → Bool
-isZero z = eqb (natAbs z) 0
 
 unfoldable pub all : {A : Type 0} → (A → Bool) → List A → Bool
 all t [] = true

@@ -2,8 +2,8 @@
 // and what holds of it in proofs/; the crate `peel` does it.
 ghost use mathlib.Core.Path.{_≡_};
 ghost use Rattle.walk.specs.Purity.{sizedTest};
-use sketch::Params;
-use sketch::params::PRIME;
+use params::PRIME;
+use params::Params;
 
 // How a walk ends.
 pub enum Ending {

@@ -7,10 +7,10 @@ use borrow.Author.Tests.{eq-eqb, ne-eqb}
 use Rattle.field.specs.Residue.{residue}
 use Rattle.field.specs.Flow.{flow}
 use Rattle.field.proofs.Casts.{zero-of-bits, bits-of-zero}
-use Rattle.sketch.specs.Params.{prime}
+use Rattle.params.specs.Params.{prime}
 use Rattle.walk.specs.declared.Found.the-variants.{Pure}
 use Rattle.walk.specs.Purity.{testIn}
-use Rattle.walk.proofs.Zeros.{is-zero, not-zero}
+use Rattle.sketch.proofs.Zeros.{is-zero, not-zero}
 use Rattle.walk.proofs.test.Statement.{statement}
 use Rattle.walk.proofs.test.Tie as tie
 

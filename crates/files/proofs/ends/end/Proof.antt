@@ -4,7 +4,7 @@ use mathlib.Core.Bool.{true}
 use native.Mathlib.Omega.{arith}
 use denote.Ref.{now}
 use borrow.Author.Needs.{needs}
-use Rattle.sketch.proofs.Searches.{test-held, test-failed}
+use Rattle.params.proofs.Searches.{test-held, test-failed}
 use Rattle.files.specs.Records.{recordAt, isKind, bodyLength}
 use Rattle.files.proofs.Standing.{kind-ends}
 use Rattle.files.proofs.EndStages.{end-missing, not-an-end, wrong-number, byte-after, ended}

@@ -6,7 +6,7 @@ use mir.Syntax.{w32}
 use denote.Ref.{now}
 use borrow.Author.Needs.{needs}
 use Rattle.field.proofs.Casts.{back}
-use Rattle.sketch.proofs.Searches.{test-held, test-failed}
+use Rattle.params.proofs.Searches.{test-held, test-failed}
 use Rattle.files.specs.Bytes.{countOf}
 use Rattle.files.specs.Records.{recordAt, isKind, bodyLength}
 use Rattle.files.specs.Layout.{bucketAt}

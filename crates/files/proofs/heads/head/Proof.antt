@@ -5,8 +5,8 @@ use mathlib.Core.List.{[]}
 use borrow.Author.Needs.{needs}
 use borrow.Author.Tests.{eq-eqb, ne-eqb}
 use denote.Ref.{now}
-use Rattle.sketch.specs.Params.{goodParams}
-use Rattle.sketch.proofs.Searches.{test-held, test-failed}
+use Rattle.params.specs.Params.{goodParams}
+use Rattle.params.proofs.Searches.{test-held, test-failed}
 use Rattle.files.specs.declared.records.Record.{Record}
 use Rattle.files.specs.declared.records.Record.the-variants.{Whole}
 use Rattle.files.specs.Records.{recordAt}

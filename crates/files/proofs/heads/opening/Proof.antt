@@ -3,10 +3,10 @@ use mathlib.Core.Path.{_≡_, sym, ap, _∙_}
 use mathlib.Core.Bool.{true}
 use denote.Ref.{now}
 use borrow.Author.Needs.{needs}
-use Rattle.sketch.specs.declared.answers.Answer.the-variants.{Done}
-use Rattle.sketch.specs.Params.{goodParams, sameParams, lengthsAnswer, shapeAnswer}
-use Rattle.sketch.proofs.Searches.{test-held, test-failed}
-use Rattle.sketch.proofs.Judging.{kept-new}
+use Rattle.params.specs.declared.answers.Answer.the-variants.{Done}
+use Rattle.params.specs.Params.{goodParams, sameParams, lengthsAnswer, shapeAnswer}
+use Rattle.params.proofs.Searches.{test-held, test-failed}
+use Rattle.params.proofs.Judging.{kept-new}
 use Rattle.files.specs.Heads.{paramsIn, headAnswer}
 use Rattle.files.proofs.HeadStages.{opening-headless, opening-bad, opening-other, opening-lengths}
 use Rattle.files.proofs.heads.opening.Statement.{statement}

@@ -6,7 +6,7 @@ use borrow.Author.Tests.{leb-true, leb-false}
 use denote.Ref.{now}
 use mir.Facts.{toZ-ofZ}
 use lib.ListN.{length, length-set}
-use Rattle.sketch.proofs.Searches.{test-held, test-failed}
+use Rattle.params.proofs.Searches.{test-held, test-failed}
 use Rattle.files.specs.Bytes.{wordBytes, countWord}
 use Rattle.files.specs.Layout.{bucketBytes}
 use Rattle.files.proofs.Overwriting.{over-store, over-next, written-over, written-not}

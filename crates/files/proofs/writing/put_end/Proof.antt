@@ -5,7 +5,7 @@ use native.Mathlib.Omega.{arith}
 use borrow.Author.Tests.{leb-true, leb-false}
 use denote.Ref.{now}
 use lib.ListN.{length, length-set}
-use Rattle.sketch.proofs.Searches.{test-held, test-failed}
+use Rattle.params.proofs.Searches.{test-held, test-failed}
 use Rattle.files.specs.Bytes.{wordBytes}
 use Rattle.files.specs.Layout.{endBytes}
 use Rattle.files.proofs.Overwriting.{over-store, over-next, written-over, written-not}

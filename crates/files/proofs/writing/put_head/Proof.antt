@@ -6,9 +6,9 @@ use native.Mathlib.Omega.{arith}
 use denote.Ref.{now}
 use lib.ListN.{length-set}
 use lib.Seq.{length-sets}
-use Rattle.sketch.specs.Params.{goodParams}
-use Rattle.sketch.proofs.Searches.{test-held, test-failed}
-use Rattle.sketch.proofs.Rules.{good-sized}
+use Rattle.params.specs.Params.{goodParams}
+use Rattle.params.proofs.Searches.{test-held, test-failed}
+use Rattle.params.proofs.Rules.{good-sized}
 use Rattle.files.specs.Bytes.{wordBytes}
 use Rattle.files.specs.Layout.{headBytes}
 use Rattle.files.proofs.Overwriting.{over-stores, over-next, written-over, written-not}

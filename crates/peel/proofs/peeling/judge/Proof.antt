@@ -5,9 +5,9 @@ use native.Mathlib.Omega.{arith}
 use denote.Ref.{now}
 use lib.ListN.{length}
 use borrow.Author.Needs.{needs}
-use Rattle.sketch.specs.declared.answers.Answer.the-variants.{Done}
-use Rattle.sketch.specs.Params.{shapeAnswer}
-use Rattle.sketch.proofs.Rules.{shape-done}
+use Rattle.params.specs.declared.answers.Answer.the-variants.{Done}
+use Rattle.params.specs.Params.{shapeAnswer}
+use Rattle.params.proofs.Rules.{shape-done}
 use Rattle.peel.proofs.Judged.{Lent, ill-shaped, ill-lent, one-damaged, none-damaged}
 use Rattle.peel.proofs.peeling.judge.Statement.{statement}
 use Rattle.peel.proofs.peeling.judge.Tie as tie

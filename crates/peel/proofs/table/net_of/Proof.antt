@@ -11,7 +11,7 @@ use mir.Val.{SFits, toZ, ofZ}
 use borrow.Author.Needs.{needs, sfits-of}
 use Rattle.field.proofs.Casts.{as-is, widened, widens}
 use Rattle.field.proofs.Parts.{abs-add, abs-of-sfits, sfits-of-abs}
-use Rattle.sketch.specs.Lists.{from}
+use Rattle.params.specs.Lists.{from}
 use Rattle.walk.specs.Walk.{net}
 use Rattle.peel.specs.Table.{row, tableOf}
 use Rattle.peel.proofs.Closing.{net-step, net-none, net-all}

@@ -10,11 +10,11 @@ use mir.Syntax.{w32}
 use mir.Val.{toZ}
 use borrow.Author.Needs.{needs}
 use Rattle.field.specs.Residue.{residue}
-use Rattle.sketch.specs.Lists.{touched}
-use Rattle.sketch.specs.Params.{prime}
-use Rattle.sketch.specs.Places.{standsIn}
+use Rattle.params.specs.Lists.{touched}
+use Rattle.params.specs.Params.{prime}
+use Rattle.params.specs.Places.{standsIn}
 use Rattle.sketch.specs.Sketch.{sketch, changedIn}
-use Rattle.sketch.proofs.Changes.{length-touched}
+use Rattle.params.proofs.Changes.{length-touched}
 use Rattle.sketch.proofs.Standing.{Within, reach}
 use Rattle.sketch.proofs.ArrayTurns.{turns-start}
 use Rattle.peel.specs.Dirt.{dirty}

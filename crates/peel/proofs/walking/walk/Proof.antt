@@ -1,5 +1,5 @@
 -- `peel::walking::walk` meets its contract: every way through a turn of the loop is one of the definition's.
-use mathlib.Core.Path.{_≡_, refl, sym, ap, _∙_}
+use mathlib.Core.Path.{_≡_, refl, sym, ap, subst⁻¹, _∙_}
 use mathlib.Core.Logic.{⊎-elim}
 use mathlib.Core.List.{List}
 use mathlib.Core.Bool.{true}
@@ -15,8 +15,9 @@ use borrow.Author.Needs.{needs}
 use borrow.Author.Count.{below-none, below-more}
 use borrow.Author.Tests.{not-true, not-false}
 use Rattle.sketch.specs.Buckets.{inLimits}
-use Rattle.sketch.specs.Places.{Placed, Reached}
-use Rattle.sketch.proofs.Limits.{small}
+use Rattle.params.specs.Places.{Placed, Reached}
+use Rattle.params.proofs.Sizes.{small}
+use Rattle.params.proofs.Rules.{places-found, places-long}
 use Rattle.sketch.proofs.Steps.{reached}
 use Rattle.sketch.proofs.Standing.{Within, reach}
 use Rattle.walk.specs.declared.Found.the-variants.{Pure}
@@ -129,7 +130,9 @@ pure-is : (c : Inner) → pureTest (start (walk-of c) .args .p) (pop-of (test-of
 pure-is c = sym (test-is (test-of c)) ∙ c .before .before .before .before .found .given .1
 
 placed-is : (c : Inner) → Placed (start (walk-of c) .args .p) (flow c) (ks-of c)
-placed-is c = c .before .places .ensures .0
+placed-is c =
+    subst⁻¹ (Placed (start (walk-of c) .args .p) (flow c)) (c .before .places .ensures)
+    (places-found (start (walk-of c) .args .p) (flow c) _ (start (walk-of c) .pre .sized) (walk-of c .walk .inv .2))
 
 reached-is : (c : Inner) → Reached (start (walk-of c) .args .p .d) (start (walk-of c) .args .p .m) (ks-of c) (length (walk-of c .walk .counts)) (length (walk-of c .walk .idsums))
 reached-is c = let h = walk-of c .walk .inv .0 .holds in reached (h .sized) (h .sane .long) (h .sane .long-ids) (placed-is c)
@@ -388,7 +391,7 @@ walk-again-2 c =
         queue = requeued e .ringed .long ∙ sym (start a .pre .ringed .long);
         marks = requeued e .ringed .long-marks ∙ sym (start a .pre .ringed .long-marks);
       },
-      l .before .places .ensures .1,
+      ap length (l .before .places .ensures) ∙ places-long _ _ _ ∙ a .walk .inv .2,
     )
 
 same-length : tie.Need-same-length Inv-loop μ-loop Inv-walk μ-walk

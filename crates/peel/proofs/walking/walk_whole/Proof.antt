@@ -6,7 +6,7 @@ use denote.Ref.{now}
 use borrow.Author.Needs.{needs}
 use Rattle.walk.specs.Walk.{run, walk}
 use Rattle.walk.specs.Purity.{ruleOf}
-use Rattle.sketch.proofs.Rules.{sized-small}
+use Rattle.params.proofs.Rules.{sized-small}
 use Rattle.peel.proofs.Begins.{begins, size-some}
 use Rattle.peel.proofs.walking.walk_whole.Statement.{statement}
 use Rattle.peel.proofs.walking.walk_whole.Tie as tie

@@ -4,9 +4,9 @@ use mathlib.Core.Bool.{true, _&&_}
 use lib.Dec.{leb}
 use borrow.Author.Tests.{lt-leb, le-leb, eq-eqb, ne-eqb}
 use borrow.Author.Needs.{needs}
-use Rattle.sketch.specs.Params.{size, goodParams}
+use Rattle.params.specs.Params.{size, goodParams}
 use Rattle.sketch.specs.Arrays.{arrayAnswer}
-use Rattle.sketch.proofs.Searches.{test-held, test-failed}
+use Rattle.params.proofs.Searches.{test-held, test-failed}
 use Rattle.sketch.proofs.arrays.array.Statement.{statement}
 use Rattle.sketch.proofs.arrays.array.Tie as tie
 

@@ -4,8 +4,8 @@ use native.Mathlib.Omega.{arith}
 use lib.ListN.{length}
 use denote.Ref.{now}
 use borrow.Author.Needs.{needs}
-use Rattle.sketch.specs.Params.{size}
-use Rattle.sketch.proofs.Rules.{Asked}
+use Rattle.params.specs.Params.{size}
+use Rattle.params.proofs.Rules.{Asked}
 use Rattle.sketch.proofs.Stretches.{array-done, refused-stretch, done-stretch}
 use Rattle.sketch.proofs.arrays.array_counts.Statement.{statement}
 use Rattle.sketch.proofs.arrays.array_counts.Tie as tie

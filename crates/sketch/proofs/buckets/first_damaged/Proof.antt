@@ -9,9 +9,9 @@ use mir.Syntax.{w32}
 use borrow.Author.Needs.{needs}
 use borrow.Author.Tests.{eq-eqb, ne-eqb}
 use Rattle.field.proofs.Casts.{back}
-use Rattle.sketch.specs.Lists.{least}
+use Rattle.params.specs.Lists.{least}
 use Rattle.sketch.specs.Sketch.{sketch, damagedAt}
-use Rattle.sketch.proofs.Searches.{scan-start, scan-next, scan-found, scan-end}
+use Rattle.params.proofs.Searches.{scan-start, scan-next, scan-found, scan-end}
 use Rattle.sketch.proofs.buckets.first_damaged.Statement.{statement}
 use Rattle.sketch.proofs.buckets.first_damaged.Tie as tie
 

@@ -7,9 +7,9 @@ use denote.Ref.{now}
 use mir.Facts.{toZ-ofZ}
 use borrow.Author.Needs.{needs}
 use Rattle.sketch.specs.Sketch.{standingAnswer, leavesIn}
-use Rattle.sketch.specs.Lists.{least}
-use Rattle.sketch.specs.Places.{standsIn}
-use Rattle.sketch.proofs.Judging.{refuse-found, refuse-past}
+use Rattle.params.specs.Lists.{least}
+use Rattle.params.specs.Places.{standsIn}
+use Rattle.params.proofs.Judging.{refuse-found, refuse-past}
 use Rattle.sketch.proofs.packets.buckets.Statement.{statement}
 use Rattle.sketch.proofs.packets.buckets.Tie as tie
 

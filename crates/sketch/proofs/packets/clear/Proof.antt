@@ -8,7 +8,7 @@ use lib.ListN.{length}
 use lib.IntN.{pos}
 use lib.ListN.{replicate, drop}
 use mathlib.Core.List.{_++_}
-use Rattle.sketch.proofs.Changes.{fill-next, fill-long, fill-all}
+use Rattle.sketch.proofs.Fills.{fill-next, fill-long, fill-all}
 use Rattle.sketch.proofs.packets.clear.Statement.{statement}
 use Rattle.sketch.proofs.packets.clear.Tie as tie
 

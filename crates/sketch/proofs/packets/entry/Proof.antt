@@ -2,7 +2,7 @@
 use mathlib.Core.Path.{sym, _∙_}
 use borrow.Author.Needs.{needs}
 use Rattle.sketch.specs.Packets.{entryAnswer}
-use Rattle.sketch.proofs.Judging.{first-refused, first-passed}
+use Rattle.params.proofs.Judging.{first-refused, first-passed}
 use Rattle.sketch.proofs.packets.entry.Statement.{statement}
 use Rattle.sketch.proofs.packets.entry.Tie as tie
 

@@ -8,7 +8,7 @@ use denote.Ref.{now}
 use mir.Syntax.{w32}
 use borrow.Author.Needs.{needs}
 use Rattle.field.proofs.Casts.{back}
-use Rattle.sketch.specs.Lists.{least}
+use Rattle.params.specs.Lists.{least}
 use Rattle.sketch.specs.Sketch.{sketch, damagedAt, damagedIn}
 use Rattle.sketch.proofs.Standing.{Within, reach-small, reach, sought, leastFrom, arrays-start, array-found, array-passed, arrays-end}
 use Rattle.sketch.proofs.packets.first_damaged.Statement.{statement}

@@ -10,7 +10,7 @@ use mir.Syntax.{w32, w64}
 use mir.Val.{toZ, ofZ}
 use borrow.Author.Needs.{needs}
 use Rattle.field.proofs.Casts.{back}
-use Rattle.sketch.specs.Lists.{least}
+use Rattle.params.specs.Lists.{least}
 use Rattle.sketch.specs.Sketch.{leavesAt, leavesIn}
 use Rattle.sketch.proofs.Standing.{Within, reach-small, reach, sought, leastFrom, arrays-start, array-found, array-passed, arrays-end}
 use Rattle.sketch.proofs.packets.first_leaving.Statement.{statement}

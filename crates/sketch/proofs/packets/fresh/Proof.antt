@@ -2,8 +2,8 @@
 use mathlib.Core.Path.{sym, ap₂, _∙_}
 use borrow.Author.Needs.{needs}
 use Rattle.sketch.specs.Sketch.{sketch, zeros}
-use Rattle.sketch.proofs.Judging.{kept-old, kept-new}
-use Rattle.sketch.proofs.Rules.{shape-done}
+use Rattle.params.proofs.Judging.{kept-old, kept-new}
+use Rattle.params.proofs.Rules.{shape-done}
 use Rattle.sketch.proofs.packets.fresh.Statement.{statement}
 use Rattle.sketch.proofs.packets.fresh.Tie as tie
 

@@ -1,6 +1,6 @@
 -- `sketch::packets::insert` meets its contract.
 use borrow.Author.Needs.{needs}
-use Rattle.sketch.proofs.Searches.{test-held, test-failed}
+use Rattle.params.proofs.Searches.{test-held, test-failed}
 use Rattle.sketch.proofs.Steps.{not-moved, moved}
 use Rattle.sketch.proofs.packets.insert.Statement.{statement}
 use Rattle.sketch.proofs.packets.insert.Tie as tie

@@ -9,7 +9,7 @@ use borrow.Author.Count.{below-more}
 use borrow.Author.Needs.{needs}
 use Rattle.sketch.specs.Sketch.{sketch}
 use Rattle.sketch.specs.Packets.{stepAnswer, after, packetsAnswer, Accepted}
-use Rattle.sketch.proofs.Judging.{kept-old, kept-new}
+use Rattle.params.proofs.Judging.{kept-old, kept-new}
 use Rattle.sketch.proofs.ManyPackets.{stepped-long, after-more, after-end, packet-refused, packet-passed, packets-end}
 use Rattle.sketch.proofs.packets.insert_packets.Statement.{statement}
 use Rattle.sketch.proofs.packets.insert_packets.Tie as tie

@@ -1,25 +1,35 @@
 -- `sketch::packets::put` meets its contract.
-use mathlib.Core.Path.{ap, _∙_}
-use lib.ListN.{set}
+use mathlib.Core.Path.{_≡_, ap}
+use lib.IntN.{pos}
+use lib.ListN.{getD, set}
 use denote.Ref.{now}
 use mir.Facts.{toZ-ofZ}
 use mir.Syntax.{w32}
-use borrow.Author.Needs.{needs}
 use Rattle.field.proofs.Casts.{back}
+use Rattle.sketch.specs.Buckets.{plusMinus}
+use Rattle.sketch.proofs.Limits.{narrows, narrowed}
+use borrow.Author.Needs.{needs, sfits-of}
 use Rattle.sketch.proofs.packets.put.Statement.{statement}
 use Rattle.sketch.proofs.packets.put.Tie as tie
 
-mul-settled : tie.Need-mul-settled
-mul-settled c = search needs
+mul-moved : tie.Need-mul-moved
+mul-moved c = search needs
 
-slice-copy-out-settled : tie.Need-slice-copy-out-settled
-slice-copy-out-settled c = search needs
+slice-copy-out-moved : tie.Need-slice-copy-out-moved
+slice-copy-out-moved c = search needs
 
-settled-requires : tie.Need-settled-requires
-settled-requires c κs = search needs
+moved-requires : tie.Need-moved-requires
+moved-requires c κs = search needs
 
-mul-t11 : tie.Need-mul-t11
-mul-t11 c = search needs
+-- the new count, at the wide width
+new : (c : tie.After-moved) → let a = c .before .before .before .args in c .moved .result ≡ plusMinus (a .minus) (getD (now (a .counts)) (a .j) (pos 0)) (a .n)
+new c = rw (back w32 _ (c .before .moved-arg .given), toZ-ofZ (c .before .before .before .fits .n)) at (c .moved .ensures)
+
+cast-counts : tie.Need-cast-counts
+cast-counts c = narrows (sfits-of (c .moved .ok)) (new c) (c .before .before .before .pre .1)
+
+mul-t12 : tie.Need-mul-t12
+mul-t12 c = search needs
 
 slice-set-from-counts : tie.Need-slice-set-from-counts
 slice-set-from-counts c = search needs
@@ -47,9 +57,9 @@ same-length-2 c = search needs
 
 returns : tie.Need-returns
 returns c =
-    let a = c .before .before .before .before .before .args in
-    let e = rw (back w32 _ (c .before .before .before .settled-arg .given), toZ-ofZ (c .before .before .before .before .before .fits .n)) at (c .before .before .settled .ensures) in (
-      ap (set (now (a .counts)) (a .j)) (back w32 _ (c .before .before .settled .ok) ∙ e),
+    let m = c .before .before in
+    let a = m .before .before .before .args in (
+      ap (set (now (a .counts)) (a .j)) (narrowed (sfits-of (m .moved .ok)) (new m) (m .before .before .before .pre .1)),
       ap (set (now (a .idsums)) (a .j)) (c .wound .ensures),
     )
 
@@ -57,10 +67,11 @@ pub put-spec : {M : Type 1} → statement M
 put-spec =
     tie.close
     (tie.spec
-    mul-settled
-    slice-copy-out-settled
-    settled-requires
-    mul-t11
+    mul-moved
+    slice-copy-out-moved
+    moved-requires
+    cast-counts
+    mul-t12
     slice-set-from-counts
     mul-wound
     slice-read-wound

@@ -10,12 +10,12 @@ use mir.Syntax.{w32}
 use mir.Val.{toZ}
 use borrow.Author.Needs.{needs}
 use Rattle.field.specs.Residue.{residue}
-use Rattle.sketch.specs.Lists.{touched}
-use Rattle.sketch.specs.Params.{prime}
-use Rattle.sketch.specs.Places.{standsIn}
+use Rattle.params.specs.Lists.{touched}
+use Rattle.params.specs.Params.{prime}
+use Rattle.params.specs.Places.{standsIn}
 use Rattle.sketch.specs.Buckets.{plusMinus}
 use Rattle.sketch.specs.Sketch.{sketch, changedIn}
-use Rattle.sketch.proofs.Changes.{length-touched}
+use Rattle.params.proofs.Changes.{length-touched}
 use Rattle.sketch.proofs.Standing.{Within, reach}
 use Rattle.sketch.proofs.ArrayTurns.{turns-start, turn-long, turn-old, turn-next}
 use Rattle.sketch.proofs.packets.put_all.Statement.{statement}

@@ -1,5 +1,5 @@
 -- `sketch::packets::step` meets its contract: what is judged before a bucket is looked at, then the flow's buckets, then the update.
-use mathlib.Core.Path.{_≡_, sym, _∙_}
+use mathlib.Core.Path.{_≡_, refl, sym, _∙_}
 use native.Mathlib.Omega.{arith}
 use lib.ListN.{length}
 use denote.Ref.{now}
@@ -8,7 +8,9 @@ use mir.Syntax.{w32}
 use mir.Val.{toZ}
 use mir.ValLaws.{toZ-pos}
 use borrow.Author.Needs.{needs}
-use Rattle.sketch.proofs.Limits.{stretch-within}
+use Rattle.params.specs.Places.{Placed}
+use Rattle.params.proofs.Sizes.{stretch-within}
+use Rattle.params.proofs.Rules.{places-found}
 use Rattle.sketch.proofs.Steps.{Let, entry-done, reached, placed-answer, placed-change, has-room, not-let, not-stepped, stepped}
 use Rattle.sketch.proofs.packets.step.Statement.{statement}
 use Rattle.sketch.proofs.packets.step.Tie as tie
@@ -33,13 +35,17 @@ as-count : (c : tie.After-enum-told) → toZ w32 (c .before .before .before .bef
 as-count c = toZ-pos w32 _ (omega (arith, let-in c .high))
 
 places-requires : tie.Need-places-requires
-places-requires c κs = (let-in (c .before) .sized, search needs)
+places-requires c κs = search needs
+
+-- the flow's places
+flow-places : (c : tie.After-places) → let a = c .before .before .before .before .before .before .args in Placed (a .p) (a .f) (c .places .last .1 .1 .0)
+flow-places c = rw (c .places .ensures) (places-found _ _ _ (let-in (c .before .before) .sized) refl)
 
 cast-buckets : tie.Need-cast-buckets
 cast-buckets c = record { sfits = omega (arith, let-in (c .before .before .before .before .before) .high) }
 
 buckets-requires : tie.Need-buckets-requires
-buckets-requires c κs = reached (let-in (c .before .before .before .before .before) .sized) (let-in (c .before .before .before .before .before) .counts) (let-in (c .before .before .before .before .before) .idsums) (c .before .before .before .places .ensures)
+buckets-requires c κs = reached (let-in (c .before .before .before .before .before) .sized) (let-in (c .before .before .before .before .before) .counts) (let-in (c .before .before .before .before .before) .idsums) (flow-places (c .before .before .before))
 
 enum-told-3 : tie.Need-enum-told-3
 enum-told-3 c = search needs
@@ -57,7 +63,7 @@ returns-2 : tie.Need-returns-2
 returns-2 c =
     let s = c .before .before .before .before .before .before .before .before .before .before .before .before in
     not-stepped (s .args .minus) (s .args .p) (s .args .f) (s .args .n) _ _ (sym (c .before .before .before .before .before .before .before .before .before .before .entry .ensures) ∙ c .before .before .before .before .before .before .before .before .enum-told .given .1)
-    (placed-answer (c .before .before .before .before .before .before .places .ensures) (s .args .minus) _ (s .args .n) (as-count (c .before .before .before .before .before .before .before .before)) _ _ (c .before .before .buckets .ensures)) (c .before .match2 .keys2)
+    (placed-answer (flow-places (c .before .before .before .before .before .before)) (s .args .minus) _ (s .args .n) (as-count (c .before .before .before .before .before .before .before .before)) _ _ (c .before .before .buckets .ensures)) (c .before .match2 .keys2)
 
 cast-put-all : tie.Need-cast-put-all
 cast-put-all c = record { sfits = omega (arith, let-in (c .before .before .before .before .before .before .before .before .before .before .before) .high) }
@@ -68,7 +74,7 @@ weight-requires c κs = search needs
 put-all-requires : tie.Need-put-all-requires
 put-all-requires c κs =
     let l = let-in (c .before .before .before .before .before .before .before .before .before .before .before .before) in
-    let r = reached (l .sized) (l .counts) (l .idsums) (c .before .before .before .before .before .before .before .before .before .before .places .ensures) in (
+    let r = reached (l .sized) (l .counts) (l .idsums) (flow-places (c .before .before .before .before .before .before .before .before .before .before)) in (
       r,
       (λ i h. has-room _ _ _ _ _ _ (sym (c .before .before .before .before .before .before .buckets .ensures) ∙ c .before .before .before .before .enum-told3 .given .1) i h (r .inside i h) (stretch-within _ _ i h)),
     )
@@ -82,7 +88,7 @@ same-length-4 c = search needs
 returns-3 : tie.Need-returns-3
 returns-3 c =
     let s = c .before .before .before .before .before .before .before .before .before .before .before .before .before .before .before .before .before .before .before .before in
-    let p = c .before .before .before .before .before .before .before .before .before .before .before .before .before .before .places .ensures in
+    let p = flow-places (c .before .before .before .before .before .before .before .before .before .before .before .before .before .before) in
     let n = as-count (c .before .before .before .before .before .before .before .before .before .before .before .before .before .before .before .before) in
     stepped (s .args .minus) (s .args .p) (s .args .f) (s .args .n) _ _ _ (sym (c .before .before .before .before .before .before .before .before .before .before .before .before .before .before .before .before .before .before .entry .ensures) ∙ c .before .before .before .before .before .before .before .before .before .before .before .before .before .before .before .before .enum-told .given .1)
     (placed-answer p (s .args .minus) _ (s .args .n) n _ _ (c .before .before .before .before .before .before .before .before .before .before .buckets .ensures)) (c .before .before .before .before .before .before .before .before .enum-told3 .given .1)

@@ -1,6 +1,6 @@
 -- `sketch::packets::withdraw` meets its contract.
 use borrow.Author.Needs.{needs}
-use Rattle.sketch.proofs.Searches.{test-held, test-failed}
+use Rattle.params.proofs.Searches.{test-held, test-failed}
 use Rattle.sketch.proofs.Steps.{not-moved, moved}
 use Rattle.sketch.proofs.packets.withdraw.Statement.{statement}
 use Rattle.sketch.proofs.packets.withdraw.Tie as tie

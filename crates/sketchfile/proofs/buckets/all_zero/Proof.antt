@@ -1,7 +1,7 @@
 -- `sketchfile::buckets::all_zero` meets its contract.
 use mathlib.Core.Path.{_≡_}
 use Rattle.field.proofs.Casts.{zero-of-bits, bits-of-zero}
-use Rattle.walk.proofs.Zeros.{is-zero, not-zero}
+use Rattle.sketch.proofs.Zeros.{is-zero, not-zero}
 use Rattle.sketchfile.proofs.buckets.all_zero.Statement.{statement}
 use Rattle.sketchfile.proofs.buckets.all_zero.Tie as tie
 

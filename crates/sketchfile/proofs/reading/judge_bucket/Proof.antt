@@ -5,9 +5,9 @@ use native.Mathlib.Omega.{arith}
 use lib.Dec.{ltb}
 use mir.Facts.{toZ-ofZ}
 use borrow.Author.Needs.{needs}
-use Rattle.sketch.specs.Params.{prime}
+use Rattle.params.specs.Params.{prime}
 use Rattle.sketch.specs.Buckets.{inLimits}
-use Rattle.sketch.proofs.Searches.{test-held, test-failed}
+use Rattle.params.proofs.Searches.{test-held, test-failed}
 use Rattle.sketchfile.proofs.BucketRecords.{bucket-damaged, bucket-low, bucket-high, bucket-zero, bucket-passed}
 use Rattle.sketchfile.proofs.reading.judge_bucket.Statement.{statement}
 use Rattle.sketchfile.proofs.reading.judge_bucket.Tie as tie

@@ -8,7 +8,7 @@ use denote.Ref.{now}
 use borrow.Author.Count.{below-more}
 use borrow.Author.Needs.{needs}
 use Rattle.field.proofs.Casts.{back}
-use Rattle.sketch.specs.declared.answers.Answer.the-variants.{Done}
+use Rattle.params.specs.declared.answers.Answer.the-variants.{Done}
 use Rattle.sketchfile.specs.Stored.{lowest, bucketJudged}
 use Rattle.sketchfile.proofs.BucketRecords.{Reader, Found, reader-start, found-bucket, none-left, as-judged, bucket-refused, all-passed, next-lowest}
 use Rattle.sketchfile.proofs.reading.judge_records.Statement.{statement}

@@ -4,10 +4,10 @@ use native.Mathlib.Omega.{arith}
 use lib.ListN.{length}
 use denote.Ref.{now}
 use borrow.Author.Needs.{needs}
-use Rattle.sketch.specs.declared.answers.Answer.the-variants.{Done}
-use Rattle.sketch.specs.Params.{shapeAnswer}
-use Rattle.sketch.proofs.Judging.{first-refused, first-passed, kept-old}
-use Rattle.sketch.proofs.Rules.{shape-done}
+use Rattle.params.specs.declared.answers.Answer.the-variants.{Done}
+use Rattle.params.specs.Params.{shapeAnswer}
+use Rattle.params.proofs.Judging.{first-refused, first-passed, kept-old}
+use Rattle.params.proofs.Rules.{shape-done}
 use Rattle.sketchfile.specs.Stored.{sketchAnswer}
 use Rattle.sketchfile.proofs.BucketRecords.{indexes-inside, opening-shape, all-stored}
 use Rattle.sketchfile.proofs.reading.read_sketch.Statement.{statement}

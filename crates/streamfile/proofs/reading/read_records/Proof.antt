@@ -7,7 +7,7 @@ use lib.ListN.{length}
 use denote.Ref.{now}
 use borrow.Author.Needs.{needs}
 use Rattle.sketch.specs.Sketch.{Sketch, sketch}
-use Rattle.sketch.proofs.Judging.{kept-old, kept-new}
+use Rattle.params.proofs.Judging.{kept-old, kept-new}
 use Rattle.sketch.proofs.ManyPackets.{stepped-long}
 use Rattle.files.specs.Records.{recordAt, isKind}
 use Rattle.files.specs.Layout.{packetsAt}

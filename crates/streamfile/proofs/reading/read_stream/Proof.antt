@@ -2,7 +2,7 @@
 use mathlib.Core.Path.{_≡_, sym, _∙_}
 use lib.ListN.{length}
 use denote.Ref.{now}
-use Rattle.sketch.specs.declared.answers.Answer.the-variants.{Done}
+use Rattle.params.specs.declared.answers.Answer.the-variants.{Done}
 use Rattle.files.specs.Heads.{openingAnswer}
 use Rattle.streamfile.proofs.Stages.{not-opened, one-damaged, none-damaged}
 use borrow.Author.Needs.{needs}

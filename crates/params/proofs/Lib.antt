@@ -1,0 +1,9 @@
+-- The laws of answers and parameters, which the proofs of this crate and of those above it cite.
+pub mod Searches
+pub mod Changes
+pub mod Judging
+pub mod Sizes
+pub mod Rules
+pub mod Lowest
+pub mod InOrder
+pub mod SameParams

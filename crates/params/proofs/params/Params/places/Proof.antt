@@ -1,0 +1,139 @@
+-- `params::params::Params::places` meets its contract: the first two arrays are always there, and each of the others is passed over where it is not.
+use mathlib.Core.Path.{_≡_}
+use mathlib.Core.Bool.{true}
+use mathlib.Core.Logic.{_⊎_, inl, inr, ⊎-elim}
+use Prim.Native.Nat.{_≤_, _<_}
+use native.Mathlib.Omega.{arith}
+use lib.ListN.{set}
+use Rattle.params.specs.Lists.{touched}
+use Rattle.params.specs.Params.{Sized, goodSizes}
+use Rattle.params.specs.Places.{stand}
+use Rattle.params.proofs.Searches.{test-held, test-failed}
+use Rattle.params.proofs.Changes.{upTo, each-none, store-next}
+use Rattle.params.proofs.Rules.{sized, no-places, all-places}
+use borrow.Author.Needs.{needs}
+use Rattle.params.proofs.params.Params.places.Statement.{statement}
+use Rattle.params.proofs.params.Params.places.Tie as tie
+
+passed : (c : tie.Else1) → goodSizes (c .before .before .args .self) ≡ true
+passed c = test-held (c .before .sized .ensures) (c .if1 .left)
+
+sizes : (c : tie.Else1) → Sized (c .before .before .args .self)
+sizes c = sized _ (passed c)
+
+two-placed : (c : tie.After-place2) → let s = c .before .before .before .before .before .before .args in
+    set (set (s .ks .now) 0 (c .before .place .result)) 1 (c .place2 .result) ≡ touched (upTo 2) (λ j k. stand (s .self) j (s .f)) (s .ks .now)
+unfolding stand
+two-placed c =
+    let s = c .before .before .before .before .before .before .args in
+    store-next 0 (λ j. stand (s .self) j (s .f)) (s .ks .now) _ 1
+    (store-next 0 (λ j. stand (s .self) j (s .f)) (s .ks .now) _ 0 (each-none 0 _ _) (c .before .place .ensures .0))
+    (c .place2 .ensures .0)
+
+-- the third array, where there is one
+three-placed : (c : tie.Joined2) → let a = c .before .before .before .before .before .before .before .args in
+    ((2 < a .self .d) × (c .if2 .ks ≡ touched (upTo 3) (λ j k. stand (a .self) j (a .f)) (a .ks .now))) ⊎ ((a .self .d ≤ 2) × (c .if2 .ks ≡ touched (upTo 2) (λ j k. stand (a .self) j (a .f)) (a .ks .now)))
+unfolding stand
+three-placed c =
+    let a = c .before .before .before .before .before .before .before .args in
+    ⊎-elim
+    (λ w. inl (w .0 .taken, rw (w .2) (store-next 0 (λ j. stand (a .self) j (a .f)) (a .ks .now) _ 2 (two-placed (c .before)) (w .1 .ensures .0))))
+    (λ w. inr (w .0 .left, rw (w .1) (two-placed (c .before))))
+    (c .if2 .came)
+
+sized-requires : tie.Need-sized-requires
+sized-requires c κs = search needs
+
+returns : tie.Need-returns
+returns c = no-places _ _ _ (test-failed (c .before .sized .ensures) (c .if1 .taken))
+
+array-read-place : tie.Need-array-read-place
+array-read-place c = search needs
+
+array-read-place-2 : tie.Need-array-read-place-2
+array-read-place-2 c = search needs
+
+place-requires : tie.Need-place-requires
+place-requires c κs = sizes (c .before .before) .m-low
+
+element-write-ks : tie.Need-element-write-ks
+element-write-ks c = search needs
+
+array-read-place-3 : tie.Need-array-read-place-3
+array-read-place-3 c = search needs
+
+array-read-place-4 : tie.Need-array-read-place-4
+array-read-place-4 c = search needs
+
+place-requires-2 : tie.Need-place-requires-2
+place-requires-2 c κs = search needs
+
+element-write-ks-2 : tie.Need-element-write-ks-2
+element-write-ks-2 c = search needs
+
+array-read-place-5 : tie.Need-array-read-place-5
+array-read-place-5 c = search needs
+
+array-read-place-6 : tie.Need-array-read-place-6
+array-read-place-6 c = search needs
+
+place-requires-3 : tie.Need-place-requires-3
+place-requires-3 c κs = search needs
+
+element-write-ks-3 : tie.Need-element-write-ks-3
+element-write-ks-3 c = search needs
+
+array-read-place-7 : tie.Need-array-read-place-7
+array-read-place-7 c = search needs
+
+array-read-place-8 : tie.Need-array-read-place-8
+array-read-place-8 c = search needs
+
+place-requires-4 : tie.Need-place-requires-4
+place-requires-4 c κs = search needs
+
+element-write-ks-4 : tie.Need-element-write-ks-4
+element-write-ks-4 c = search needs
+
+returns-2 : tie.Need-returns-2
+unfolding stand
+returns-2 c =
+    let s = c .before .before .before .before .before .before .before in
+    let a = s .before .before .args in
+    ⊎-elim
+    (λ w. all-places _ _ _ 4 (passed s) (omega (arith, sizes s)) (store-next 0 (λ j. stand (a .self) j (a .f)) (a .ks .now) _ 3 (w .1) (c .place4 .ensures .0)))
+    (λ w. absurd (omega (arith, w .0)))
+    (three-placed (c .before .before))
+
+returns-3 : tie.Need-returns-3
+returns-3 c =
+    let s = c .before .before .before .before .before .before in
+    ⊎-elim
+    (λ w. all-places _ _ _ 3 (passed s) (omega (arith, w .0)) (w .1))
+    (λ w. all-places _ _ _ 2 (passed s) (omega (arith, sizes s, w .0)) (w .1))
+    (three-placed (c .before))
+
+pub places-spec : {M : Type 1} → statement M
+places-spec =
+    tie.close
+    (tie.spec
+    sized-requires
+    returns
+    array-read-place
+    array-read-place-2
+    place-requires
+    element-write-ks
+    array-read-place-3
+    array-read-place-4
+    place-requires-2
+    element-write-ks-2
+    array-read-place-5
+    array-read-place-6
+    place-requires-3
+    element-write-ks-3
+    array-read-place-7
+    array-read-place-8
+    place-requires-4
+    element-write-ks-4
+    returns-2
+    returns-3)

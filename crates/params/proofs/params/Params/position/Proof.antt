@@ -1,0 +1,36 @@
+-- `params::params::Params::position` meets its contract: what was asked is right, or the caller is told why not.
+use mathlib.Core.Path.{sym, _∙_}
+use native.Mathlib.Omega.{arith}
+use Rattle.params.proofs.Rules.{Asked, asked-done, spot-at, no-spot}
+use borrow.Author.Needs.{needs}
+use Rattle.params.proofs.params.Params.position.Statement.{statement}
+use Rattle.params.proofs.params.Params.position.Tie as tie
+
+right : (c : tie.After-enum-told) → Asked (c .before .before .before .args .self) (c .before .before .before .args .i)
+right c = asked-done _ _ _ (sym (c .before .before .asked .ensures) ∙ c .enum-told .given .1)
+
+asked-requires : tie.Need-asked-requires
+asked-requires c κs = search needs
+
+enum-told : tie.Need-enum-told
+enum-told c = search needs
+
+sub-spot : tie.Need-sub-spot
+sub-spot c = right c .low
+
+spot-requires : tie.Need-spot-requires
+spot-requires c κs = let h = right c in (h .sized, omega arith)
+
+enum-known-asked : tie.Need-enum-known-asked
+enum-known-asked c = search needs
+
+returns : tie.Need-returns
+returns c = spot-at _ _ _ _ (c .before .before .before .asked .ensures) (c .before .enum-told .given .1) (c .spot .ensures .0)
+
+returns-2 : tie.Need-returns-2
+returns-2 c = no-spot _ _ _ _ _ (c .before .before .before .asked .ensures) (c .before .asked2 .given .1)
+
+pub position-spec : {M : Type 1} → statement M
+position-spec =
+    tie.close
+    (tie.spec asked-requires enum-told sub-spot spot-requires enum-known-asked returns returns-2)

@@ -1,0 +1,68 @@
+-- The numbers that a caller may get, and how several faults make one answer.
+use mathlib.Core.Bool.{Bool, true, false}
+use Prim.Native.Nat.{ℕ}
+use lib.Dec.{ltb}
+use Rattle.params.specs.declared.answers.Why.{Why}
+use Rattle.params.specs.declared.answers.Why.the-variants.{Param, Length, Flow, Count, Damage, Range, Mismatch, Form}
+use Rattle.params.specs.declared.answers.Answer.{Answer}
+use Rattle.params.specs.declared.answers.Answer.the-variants.{Done, Refused}
+use Rattle.params.specs.declared.answers.Spot.{Spot}
+use Rattle.params.specs.declared.answers.Spot.the-variants.{At, Refused as NoSpot}
+use Rattle.params.specs.Lists.{least}
+
+-- the table of refusals
+abbrev pub numberOf : Why → ℕ
+numberOf Param = 1
+numberOf Length = 2
+numberOf Flow = 3
+numberOf Count = 4
+numberOf Damage = 5
+numberOf Range = 6
+numberOf Mismatch = 7
+numberOf Form = 8
+
+-- an answer's number and index, both 0 where nothing was refused
+abbrev pub numberIn : Answer → ℕ
+numberIn Done = 0
+numberIn (Refused w k) = numberOf w
+
+abbrev pub indexIn : Answer → ℕ
+indexIn Done = 0
+indexIn (Refused w k) = k
+
+-- a refusal where the test holds, else what is judged next
+abbrev pub refuseIf : Bool → Why → ℕ → Answer → Answer
+refuseIf true w k next = Refused w k
+refuseIf false w k next = next
+
+-- a refusal where the test holds at a number below n, with the lowest such number
+unfoldable pub refuseAt : ℕ → (ℕ → Bool) → Why → Answer → Answer
+refuseAt n t w next = refuseIf (ltb (least 0 n t) n) w (least 0 n t) next
+
+-- the first of two answers that refuses
+unfoldable pub first : Answer → Answer → Answer
+first Done next = next
+first (Refused w k) next = Refused w k
+
+-- nothing changes unless the answer is Done
+unfoldable pub kept : {A : Type 0} → Answer → A → A → A
+kept Done old new = new
+kept (Refused w k) old new = old
+
+-- a place, or why there is none
+abbrev pub spotOf : Answer → ℕ → Spot
+spotOf Done k = At k
+spotOf (Refused w j) k = NoSpot w j
+
+-- the number, the index and the place that a caller is told, each 0 where there is none
+abbrev pub spotNumber : Spot → ℕ
+spotNumber (At k) = 0
+spotNumber (NoSpot w j) = numberOf w
+
+abbrev pub spotIndex : Spot → ℕ
+spotIndex (At k) = 0
+spotIndex (NoSpot w j) = j
+
+abbrev pub spotPlace : Spot → ℕ
+spotPlace (At k) = k
+spotPlace (NoSpot w j) = 0

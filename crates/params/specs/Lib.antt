@@ -1,0 +1,5 @@
+-- What a reader must believe of parameters and answers, in the words of the scope.
+pub mod Lists
+pub mod Answers
+pub mod Params
+pub mod Places

@@ -1,0 +1,75 @@
+-- The rules that parameters obey, and the lengths of what is lent.
+use mathlib.Core.Bool.{Bool, not, _&&_, cond}
+use mathlib.Core.List.{List}
+use Prim.Native.Nat.{ℕ, _*_, _≤_}
+use lib.Dec.{eqb, ltb, leb}
+use lib.ListN.{getD}
+use Rattle.params.specs.declared.params.Params.{Params}
+use Rattle.params.specs.declared.answers.Why.the-variants.{Param, Length}
+use Rattle.params.specs.declared.answers.Answer.{Answer}
+use Rattle.params.specs.declared.answers.Answer.the-variants.{Done}
+use Rattle.params.specs.Lists.{below}
+use Rattle.params.specs.Answers.{refuseIf}
+
+-- 2 ^ 31 - 1, the prime of every sketch
+abbrev pub prime : ℕ
+prime = 2147483647
+
+-- the prime of a sketch with these parameters, one for all: a definition that is given the parameters names its prime through them
+abbrev pub primeOf : Params → ℕ
+primeOf P = prime
+
+-- the flow numbers
+abbrev pub isFlow : Params → ℕ → Bool
+isFlow P f = ltb f (primeOf P)
+
+-- d arrays of m buckets
+abbrev pub size : Params → ℕ
+size P = P .d * P .m
+
+-- a pair that is in use, and one that is not
+abbrev pub pairOk : Bool → ℕ → ℕ → Bool
+pairOk used a b = cond used (leb 1 a && ltb a prime && ltb b prime) (eqb a 0 && eqb b 0)
+
+-- pair i of the lists a and b, counted from 0, keeps the rule of its place
+unfoldable pub pairAt : ℕ → List ℕ → List ℕ → ℕ → Bool
+pairAt d a b i = pairOk (ltb i d) (getD a i 0) (getD b i 0)
+
+-- pairs i and j are equal, and the later, i, is in use
+unfoldable pub twins : ℕ → List ℕ → List ℕ → ℕ → ℕ → Bool
+twins d a b i j = ltb i d && (eqb (getD a i 0) (getD a j 0) && eqb (getD b i 0) (getD b j 0))
+
+-- 2 to 4 arrays, of 1 to 16384 buckets
+unfoldable pub goodSizes : Params → Bool
+goodSizes P = leb 2 (P .d) && leb (P .d) 4 && leb 1 (P .m) && leb (P .m) 16384
+
+unfoldable pub goodParams : Params → Bool
+goodParams P =
+    goodSizes P
+    && below 4 (pairAt (P .d) (P .a) (P .b))
+    && below 4 (λ i. below i (λ j. not (twins (P .d) (P .a) (P .b) i j)))
+
+-- what `goodSizes` says of the numbers
+pub record Sized (P : Params) : Type 0 where
+  pub d-low : 2 ≤ P .d
+  pub d-high : P .d ≤ 4
+  pub m-low : 1 ≤ P .m
+  pub m-high : P .m ≤ 16384
+
+-- pair i of P is that of Q
+unfoldable pub samePair : Params → Params → ℕ → Bool
+samePair P Q i = eqb (getD (P .a) i 0) (getD (Q .a) i 0) && eqb (getD (P .b) i 0) (getD (Q .b) i 0)
+
+unfoldable pub sameParams : Params → Params → Bool
+sameParams P Q = eqb (P .d) (Q .d) && eqb (P .m) (Q .m) && below 4 (samePair P Q)
+
+-- the lengths of the counts and of the idsums
+unfoldable pub lengthsAnswer : Params → ℕ → ℕ → Answer
+lengthsAnswer P c s = refuseIf (not (eqb c (size P) && eqb s (size P))) Length 0 Done
+
+-- the sizes, or all of the parameters, then the lengths
+unfoldable pub sizesAnswer : Params → ℕ → ℕ → Answer
+sizesAnswer P c s = refuseIf (not (goodSizes P)) Param 0 (lengthsAnswer P c s)
+
+unfoldable pub shapeAnswer : Params → ℕ → ℕ → Answer
+shapeAnswer P c s = refuseIf (not (goodParams P)) Param 0 (lengthsAnswer P c s)

@@ -1,0 +1,317 @@
+// The parameters of a sketch, and where a flow stands.
+ghost use mathlib.Core.Path.{_≡_};
+ghost use mathlib.Core.Bool.{_&&_, not, cond};
+ghost use Prim.Native.Nat.{_+_, _-_, _*_, _%_, _<_, _≤_};
+ghost use lib.Dec.{eqb, leb};
+ghost use Rattle.params.specs.Lists.{below};
+ghost use Rattle.params.specs.Params.{prime, size as «size-of», Sized, pairOk, pairAt, twins, goodSizes, goodParams, sameParams};
+ghost use Rattle.params.specs.Places.{stand as «stand-of», stands as «stands-of», position as «position-of», index as «index-of», placesIn};
+ghost use Rattle.params.specs.Answers.{spotOf};
+ghost use Rattle.params.specs.Params.{lengthsAnswer, sizesAnswer, shapeAnswer};
+ghost use Rattle.params.specs.Places.{standAnswer};
+use crate::answers::Answer;
+use crate::answers::Spot;
+use crate::answers::Why;
+
+// The prime of every sketch.
+pub const PRIME: u32 = field::P31;
+
+// d arrays of m buckets, and room for four pairs of a multiplier and an offset.
+pub struct Params {
+    pub d: usize,
+    pub m: usize,
+    pub a: [u32; 4],
+    pub b: [u32; 4],
+}
+
+// Whether a pair keeps the rule of its place: in use, or zero.
+fn pair_ok(used: bool, a: u32, b: u32) -> bool
+    ensures { λ r. ⌜ r ≡ pairOk used a b ⌝ }
+{
+    if used {
+        if a < 1 {
+            return false;
+        }
+        if PRIME <= a {
+            return false;
+        }
+        b < PRIME
+    } else {
+        if a != 0 {
+            return false;
+        }
+        b == 0
+    }
+}
+
+// The checks over pairs are written out, with no loop, so that the optimiser can lift them out of a caller's loop that inserts
+// packets.
+fn pairs_ok(d: usize, a: [u32; 4], b: [u32; 4]) -> bool
+    ensures { λ r. ⌜ r ≡ below 4 (pairAt d a b) ⌝ }
+{
+    if !pair_ok(0 < d, a[0], b[0]) {
+        return false;
+    }
+    if !pair_ok(1 < d, a[1], b[1]) {
+        return false;
+    }
+    if !pair_ok(2 < d, a[2], b[2]) {
+        return false;
+    }
+    pair_ok(3 < d, a[3], b[3])
+}
+
+fn same_pair(a: u32, b: u32, c: u32, e: u32) -> bool
+    ensures { λ r. ⌜ r ≡ (eqb a c && eqb b e) ⌝ }
+{
+    if a != c {
+        return false;
+    }
+    b == e
+}
+
+// Whether a pair in use equals one before it.
+fn twin(used: bool, a: u32, b: u32, c: u32, e: u32) -> bool
+    ensures { λ r. ⌜ r ≡ (used && (eqb a c && eqb b e)) ⌝ }
+{
+    if used { same_pair(a, b, c, e) } else { false }
+}
+
+fn pairs_apart(d: usize, a: [u32; 4], b: [u32; 4]) -> bool
+    ensures { λ r. ⌜ r ≡ below 4 (λ i. below i (λ j. not (twins d a b i j))) ⌝ }
+{
+    if twin(1 < d, a[1], b[1], a[0], b[0]) {
+        return false;
+    }
+    if twin(2 < d, a[2], b[2], a[0], b[0]) {
+        return false;
+    }
+    if twin(2 < d, a[2], b[2], a[1], b[1]) {
+        return false;
+    }
+    if twin(3 < d, a[3], b[3], a[0], b[0]) {
+        return false;
+    }
+    if twin(3 < d, a[3], b[3], a[1], b[1]) {
+        return false;
+    }
+    !twin(3 < d, a[3], b[3], a[2], b[2])
+}
+
+// Where a flow stands in an array with the pair a, b.
+fn place(a: u32, b: u32, m: usize, f: u32) -> usize
+    requires { ⌜ 1 ≤ m ⌝ }
+    ensures { λ r. ⌜ (r ≡ (a * f + b) % prime % m) × (r < m) ⌝ }
+{
+    ((a as u64 * f as u64 + b as u64) % PRIME as u64) as usize % m
+}
+
+impl Params {
+    // Whether the sizes keep the rules: what the code needs so that every index is one.
+    fn sized(self) -> bool
+        ensures { λ r. ⌜ r ≡ goodSizes self ⌝ }
+    {
+        if self.d < 2 {
+            return false;
+        }
+        if 4 < self.d {
+            return false;
+        }
+        if self.m < 1 {
+            return false;
+        }
+        self.m <= 16384
+    }
+
+    // Whether the parameters keep the rules.
+    pub fn check(self) -> bool
+        ensures { λ r. ⌜ r ≡ goodParams self ⌝ }
+    {
+        if !self.sized() {
+            return false;
+        }
+        let d = self.d;
+        let a = self.a;
+        let b = self.b;
+        if !pairs_ok(d, a, b) {
+            return false;
+        }
+        pairs_apart(d, a, b)
+    }
+
+    // Whether two sets of parameters are the same.
+    pub fn same(self, q: Params) -> bool
+        ensures { λ r. ⌜ r ≡ sameParams self q ⌝ }
+    {
+        if self.d != q.d {
+            return false;
+        }
+        if self.m != q.m {
+            return false;
+        }
+        let a = self.a;
+        let b = self.b;
+        let c = q.a;
+        let e = q.b;
+        if !same_pair(a[0], b[0], c[0], e[0]) {
+            return false;
+        }
+        if !same_pair(a[1], b[1], c[1], e[1]) {
+            return false;
+        }
+        if !same_pair(a[2], b[2], c[2], e[2]) {
+            return false;
+        }
+        same_pair(a[3], b[3], c[3], e[3])
+    }
+
+    // How many buckets there are; 0 for parameters that break a rule.
+    pub fn size(self) -> usize
+        ensures { λ r. ⌜ r ≡ cond (goodParams self) («size-of» self) 0 ⌝ }
+    {
+        if !self.check() {
+            return 0;
+        }
+        self.d * self.m
+    }
+
+    // The two slices of a sketch have its size.
+    fn lengths(self, counts: usize, idsums: usize) -> Answer
+        requires { ⌜ Sized self ⌝ }
+        ensures { λ r. ⌜ r ≡ lengthsAnswer self counts idsums ⌝ }
+    {
+        let size = self.d * self.m;
+        if counts != size {
+            return Answer::Refused(Why::Length, 0);
+        }
+        if idsums != size {
+            return Answer::Refused(Why::Length, 0);
+        }
+        Answer::Done
+    }
+
+    // The sizes keep the rules, and the two slices have them.
+    pub fn sizes(self, counts: usize, idsums: usize) -> Answer
+        ensures { λ r. ⌜ r ≡ sizesAnswer self counts idsums ⌝ }
+    {
+        if !self.sized() {
+            return Answer::Refused(Why::Param, 0);
+        }
+        self.lengths(counts, idsums)
+    }
+
+    // The parameters keep the rules, and the two slices have their sizes.
+    pub fn shape(self, counts: usize, idsums: usize) -> Answer
+        ensures { λ r. ⌜ r ≡ shapeAnswer self counts idsums ⌝ }
+    {
+        if !self.check() {
+            return Answer::Refused(Why::Param, 0);
+        }
+        self.lengths(counts, idsums)
+    }
+
+    // The parameters, the array and the flow are right.
+    fn asked(self, i: usize, f: u32) -> Answer
+        ensures { λ r. ⌜ r ≡ standAnswer self i f ⌝ }
+    {
+        if !self.check() {
+            return Answer::Refused(Why::Param, 0);
+        }
+        if i < 1 {
+            return Answer::Refused(Why::Param, 0);
+        }
+        if self.d < i {
+            return Answer::Refused(Why::Param, 0);
+        }
+        if PRIME <= f {
+            return Answer::Refused(Why::Flow, 0);
+        }
+        Answer::Done
+    }
+
+    // The position of a flow in array i; arrays count from 1.
+    pub fn position(self, i: usize, f: u32) -> Spot
+        ensures { λ r. ⌜ r ≡ spotOf (standAnswer self i f) («position-of» self i f) ⌝ }
+    {
+        let asked = self.asked(i, f);
+        match asked {
+            Answer::Done => Spot::At(self.spot(i - 1, f)),
+            Answer::Refused(why, index) => Spot::Refused(why, index),
+        }
+    }
+
+    // The index of the flow's bucket there.
+    pub fn index(self, i: usize, f: u32) -> Spot
+        ensures { λ r. ⌜ r ≡ spotOf (standAnswer self i f) («index-of» self i f) ⌝ }
+    {
+        let asked = self.asked(i, f);
+        match asked {
+            Answer::Done => Spot::At((i - 1) * self.m + self.spot(i - 1, f)),
+            Answer::Refused(why, index) => Spot::Refused(why, index),
+        }
+    }
+
+    // Where a flow stands in the array that i others stand before: here, for the code's own use, arrays count from 0.
+    fn spot(self, i: usize, f: u32) -> usize
+        requires { ⌜ Sized self × (i < self .d) ⌝ }
+        ensures { λ r. ⌜ (r ≡ «stand-of» self i f) × (r < self .m) ⌝ }
+    {
+        let a = self.a;
+        let b = self.b;
+        place(a[i], b[i], self.m, f)
+    }
+
+    // The position of a flow in array i, told without a refusal: 0 where the sizes break a rule or there is no such array. Any
+    // number is taken as a flow, and the pairs are not judged.
+    pub fn stand(self, i: usize, f: u32) -> usize
+        ensures { λ r. ⌜ r ≡ cond (goodSizes self && (leb 1 i && leb i (self .d))) («position-of» self i f) 0 ⌝ }
+    {
+        if !self.sized() {
+            return 0;
+        }
+        if i < 1 {
+            return 0;
+        }
+        if self.d < i {
+            return 0;
+        }
+        self.spot(i - 1, f)
+    }
+
+    // Whether a flow stands in bucket k; in no bucket where the sizes break a rule.
+    pub fn stands(self, f: u32, k: usize) -> bool
+        ensures { λ r. ⌜ r ≡ (goodSizes self && «stands-of» self f k) ⌝ }
+    {
+        if !self.sized() {
+            return false;
+        }
+        let m = self.m;
+        let i = k / m;
+        if self.d <= i {
+            return false;
+        }
+        self.spot(i, f) == k % m
+    }
+
+    // A flow's place in each array, found once for all that a caller does with them. Where the sizes break a rule nothing is written.
+    // Written out, as the checks are.
+    pub fn places(self, f: u32, ks: &mut [usize; 4])
+        ensures { λ r. ⌜ now (ks .exit) ≡ placesIn self f (now (ks .entry)) ⌝ }
+    {
+        if !self.sized() {
+            return;
+        }
+        let d = self.d;
+        let m = self.m;
+        let a = self.a;
+        let b = self.b;
+        ks[0] = place(a[0], b[0], m, f);
+        ks[1] = place(a[1], b[1], m, f);
+        if 2 < d {
+            ks[2] = place(a[2], b[2], m, f);
+        }
+        if 3 < d {
+            ks[3] = place(a[3], b[3], m, f);
+        }
+    }
+}

@@ -1,0 +1,66 @@
+-- `sums::judge` meets its contract: the shapes, then the first damaged bucket, then the first that would leave its limits.
+use mathlib.Core.Path.{_≡_, sym, _∙_}
+use denote.Ref.{now}
+use lib.ListN.{length}
+use borrow.Author.Needs.{needs}
+use Rattle.params.specs.declared.answers.Answer.the-variants.{Done}
+use Rattle.sums.specs.Sums.{shapesAnswer, bucketsAnswer, combineAnswer}
+use Rattle.params.proofs.Judging.{first-refused, first-passed, refuse-found, refuse-past}
+use Rattle.sums.proofs.TwoSketches.{shapes-done, same-lengths}
+use Rattle.sums.proofs.judge.Statement.{statement}
+use Rattle.sums.proofs.judge.Tie as tie
+
+-- the shapes were passed
+shaped : (c : tie.After-enum-told) → shapesAnswer (c .before .before .before .before .before .args .p) (c .before .before .before .before .before .args .q) (length (now (c .before .before .before .before .before .args .counts))) (length (now (c .before .before .before .before .before .args .idsums))) (length (now (c .before .before .before .before .before .args .others))) (length (now (c .before .before .before .before .before .args .weights))) ≡ Done
+shaped c = sym (c .before .before .shapes .ensures) ∙ c .enum-told .given .1
+
+shapes-requires : tie.Need-shapes-requires
+shapes-requires c κs = search needs
+
+enum-told : tie.Need-enum-told
+enum-told c = search needs
+
+enum-told-2 : tie.Need-enum-told-2
+enum-told-2 c = search needs
+
+returns : tie.Need-returns
+unfolding combineAnswer
+returns c = first-refused _ _ _ (c .before .before .shapes .ensures) (c .before .match .keys2)
+
+first-damaged-requires : tie.Need-first-damaged-requires
+first-damaged-requires c κs = same-lengths (shapes-done _ _ _ _ _ _ (shaped c))
+
+returns-2 : tie.Need-returns-2
+unfolding combineAnswer bucketsAnswer
+returns-2 c = refuse-found _ _ _ _ _ (c .before .first-damaged .ensures) (c .if1 .taken) ∙ sym (first-passed _ _ (shaped (c .before .before)))
+
+first-leaving-requires : tie.Need-first-leaving-requires
+first-leaving-requires c κs = same-lengths (shapes-done _ _ _ _ _ _ (shaped (c .before .before))) .1
+
+returns-3 : tie.Need-returns-3
+unfolding combineAnswer bucketsAnswer
+returns-3 c =
+    refuse-found _ _ _ _ _ (c .before .first-leaving .ensures) (c .if2 .taken)
+    ∙ refuse-past _ _ _ _ _ (c .before .before .before .first-damaged .ensures) (c .before .before .if1 .left)
+    ∙ sym (first-passed _ _ (shaped (c .before .before .before .before)))
+
+returns-4 : tie.Need-returns-4
+unfolding combineAnswer bucketsAnswer
+returns-4 c =
+    refuse-past _ _ _ _ _ (c .before .first-leaving .ensures) (c .if2 .left)
+    ∙ refuse-past _ _ _ _ _ (c .before .before .before .first-damaged .ensures) (c .before .before .if1 .left)
+    ∙ sym (first-passed _ _ (shaped (c .before .before .before .before)))
+
+pub judge-spec : {M : Type 1} → statement M
+judge-spec =
+    tie.close
+    (tie.spec
+    shapes-requires
+    enum-told
+    enum-told-2
+    returns
+    first-damaged-requires
+    returns-2
+    first-leaving-requires
+    returns-3
+    returns-4)

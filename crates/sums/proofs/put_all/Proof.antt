@@ -1,0 +1,155 @@
+-- `sums::put_all` meets its contract. The loop's invariant: the buckets passed are changed, and no others.
+use Prim.Native.Nat.{_-_, _≤_, _<_}
+use native.Mathlib.Omega.{arith}
+use mathlib.Core.Path.{_≡_, ap₂}
+use mathlib.Core.Bool.{true}
+use lib.IntN.{pos}
+use lib.ListN.{length, getD}
+use denote.Ref.{now}
+use mir.Syntax.{w32}
+use borrow.Author.Needs.{needs, sfits-of}
+use Rattle.field.specs.Residue.{residue}
+use Rattle.field.proofs.Casts.{back}
+use Rattle.params.specs.Lists.{touched}
+use Rattle.params.specs.Params.{prime}
+use Rattle.sketch.specs.Buckets.{inLimits, plusMinus}
+use Rattle.sketch.specs.Sketch.{sketch}
+use Rattle.sums.specs.Sums.{combined}
+use Rattle.params.proofs.Changes.{upTo, each-none, each-old, each-long, each-next, each-all}
+use Rattle.sketch.proofs.Limits.{narrows, narrowed}
+use Rattle.sums.proofs.put_all.Statement.{statement}
+use Rattle.sums.proofs.put_all.Tie as tie
+
+abbrev Inv-loop : tie.InvT-loop
+Inv-loop minus counts₀ idsums₀ others weights i₀ counts idsums i =
+    (i ≤ length counts₀)
+    × (counts ≡ touched (upTo i) (λ k x. plusMinus minus x (getD others k (pos 0))) counts₀)
+    × (idsums ≡ touched (upTo i) (λ k x. residue prime (plusMinus minus (pos x) (pos (getD weights k 0)))) idsums₀)
+
+abbrev μ-loop : tie.MeasureT-loop
+μ-loop minus counts₀ idsums₀ others weights i₀ counts idsums i = length counts₀ - i
+
+-- both keep their lengths
+lens : (c : tie.At-loop Inv-loop μ-loop) → (length (c .loop .counts) ≡ length (now (c .before .before .before .args .counts))) × (length (c .loop .idsums) ≡ length (now (c .before .before .before .args .idsums)))
+lens c = (each-long (pos 0) _ _ _ _ (c .loop .inv .1), each-long 0 _ _ _ _ (c .loop .inv .2))
+
+loop-holds : tie.Need-loop-holds Inv-loop μ-loop
+loop-holds c = (search needs, each-none (pos 0) _ _, each-none 0 _ _)
+
+mul-moved : tie.Need-mul-moved Inv-loop μ-loop
+mul-moved c = omega (arith, lens (c .before))
+
+slice-copy-out-moved : tie.Need-slice-copy-out-moved Inv-loop μ-loop
+slice-copy-out-moved c = omega (arith, lens (c .before))
+
+mul-moved-2 : tie.Need-mul-moved-2 Inv-loop μ-loop
+mul-moved-2 c = omega (arith, lens (c .before .before))
+
+shared-slice-copy-out-moved : tie.Need-shared-slice-copy-out-moved Inv-loop μ-loop
+shared-slice-copy-out-moved c = omega (arith, lens (c .before .before))
+
+moved-requires : tie.Need-moved-requires Inv-loop μ-loop
+moved-requires c κs = search needs
+
+-- the bucket of this turn, its new count at the wide width, and that this stays within the limits
+inside : (c : tie.After-moved Inv-loop μ-loop) → c .before .before .before .before .loop .i < length (now (c .before .before .before .before .before .before .before .args .counts))
+inside c = omega (arith, lens (c .before .before .before .before))
+
+new : (c : tie.After-moved Inv-loop μ-loop) → let s = c .before .before .before .before in let a = s .before .before .before .args in
+    c .moved .result ≡ plusMinus (a .minus) (getD (now (a .counts)) (s .loop .i) (pos 0)) (getD (now (a .others)) (s .loop .i) (pos 0))
+new c =
+    rw (back w32 _ (c .before .before .moved-arg .given), back w32 _ (c .before .moved-arg2 .given), each-old (pos 0) _ _ _ _ (inside c) (c .before .before .before .before .loop .inv .1)) at
+    (c .moved .ensures)
+
+stays : (c : tie.After-moved Inv-loop μ-loop) → let s = c .before .before .before .before in let a = s .before .before .before .args in
+    inLimits (plusMinus (a .minus) (getD (now (a .counts)) (s .loop .i) (pos 0)) (getD (now (a .others)) (s .loop .i) (pos 0))) ≡ true
+stays c = c .before .before .before .before .before .before .before .pre .1 _ (inside c)
+
+cast-counts : tie.Need-cast-counts Inv-loop μ-loop
+cast-counts c = narrows (sfits-of (c .moved .ok)) (new c) (stays c)
+
+mul-t16 : tie.Need-mul-t16 Inv-loop μ-loop
+mul-t16 c = omega (arith, lens (c .before .before .before .before))
+
+slice-set-from-counts : tie.Need-slice-set-from-counts Inv-loop μ-loop
+slice-set-from-counts c = omega (arith, lens (c .before .before .before .before))
+
+mul-wound : tie.Need-mul-wound Inv-loop μ-loop
+mul-wound c = omega (arith, lens (c .before .before .before .before))
+
+slice-read-wound : tie.Need-slice-read-wound Inv-loop μ-loop
+slice-read-wound c = omega (arith, lens (c .before .before .before .before .before))
+
+mul-wound-2 : tie.Need-mul-wound-2 Inv-loop μ-loop
+mul-wound-2 c = omega (arith, lens (c .before .before .before .before .before))
+
+shared-slice-read-wound : tie.Need-shared-slice-read-wound Inv-loop μ-loop
+shared-slice-read-wound c = omega (arith, lens (c .before .before .before .before .before .before))
+
+wound-requires : tie.Need-wound-requires Inv-loop μ-loop
+wound-requires c κs = search needs
+
+mul-idsums : tie.Need-mul-idsums Inv-loop μ-loop
+mul-idsums c = omega (arith, lens (c .before .before .before .before .before .before .before))
+
+slice-write-idsums : tie.Need-slice-write-idsums Inv-loop μ-loop
+slice-write-idsums c = omega (arith, lens (c .before .before .before .before .before .before .before))
+
+add-i : tie.Need-add-i Inv-loop μ-loop
+add-i c = omega (arith, lens (c .before .before .before .before .before .before .before))
+
+loop-less : tie.Need-loop-less Inv-loop μ-loop
+loop-less c = omega (arith, lens (c .before .before .before .before .before .before .before))
+
+loop-again : tie.Need-loop-again Inv-loop μ-loop
+loop-again c =
+    let m = c .before .before .before in
+    let s = m .before .before .before .before in
+    let l = lens s in
+    let k : s .loop .i < length (now (s .before .before .before .args .idsums)) = omega arith in
+    let v = s .loop .inv in (
+      omega arith,
+      each-next (pos 0) _ _ _ _ _ (inside m) (v .1) (narrowed (sfits-of (m .moved .ok)) (new m) (stays m)),
+      each-next 0 _ _ _ _ _ k (v .2) (rw (each-old 0 _ _ _ _ k (v .2)) at (c .wound .ensures)),
+    )
+
+same-length : tie.Need-same-length Inv-loop μ-loop
+same-length c = lens (c .before) .0
+
+same-length-2 : tie.Need-same-length-2 Inv-loop μ-loop
+same-length-2 c = lens (c .before) .1
+
+returns : tie.Need-returns Inv-loop μ-loop
+unfolding combined
+returns c =
+    let l = lens (c .before) in
+    ap₂ sketch (each-all (pos 0) _ _ _ _ (omega arith) (c .before .loop .inv .1)) (each-all 0 _ _ _ _ (omega arith) (c .before .loop .inv .2))
+
+pub put-all-spec : {M : Type 1} → statement M
+put-all-spec =
+    tie.close
+    (tie.spec
+    Inv-loop
+    μ-loop
+    loop-holds
+    mul-moved
+    slice-copy-out-moved
+    mul-moved-2
+    shared-slice-copy-out-moved
+    moved-requires
+    cast-counts
+    mul-t16
+    slice-set-from-counts
+    mul-wound
+    slice-read-wound
+    mul-wound-2
+    shared-slice-read-wound
+    wound-requires
+    mul-idsums
+    slice-write-idsums
+    add-i
+    loop-less
+    loop-again
+    same-length
+    same-length-2
+    returns)
