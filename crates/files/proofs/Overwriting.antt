@@ -1,18 +1,26 @@
--- Bytes written over others: one store, bytes after bytes, what stays as long as it was, and where there is room for a record.
+-- Bytes written over others: one store, bytes after bytes, what stays as long as it was, where there is room for a record, and a whole file.
 use mathlib.Core.Path.{_≡_, refl, sym, ap, ap₂, _∙_}
-use mathlib.Core.Bool.{Bool, true, false}
+use mathlib.Core.Bool.{Bool, true, false, cond}
 use mathlib.Core.List.{List, [], _∷_, _++_, append-assoc}
 use Prim.Native.Nat.{ℕ, _+_, _≤_, _<_}
+use native.Mathlib.Nat.{add-zero}
 use native.Mathlib.Omega.{arith}
 use borrow.Author.Tests.{le-leb, lt-leb, leb-true, leb-false}
 use lib.Dec.{leb}
 use lib.IntN.{ℤ}
-use lib.ListN.{length, take, drop, set, length-append, length-drop}
+use lib.ListN.{length, take, drop, set, length-append, length-drop, take-append-drop}
 use lib.Seq.{sets, sets-eq, length-take-le, take-at, drop-append-add, drop-drop}
 use Rattle.params.specs.declared.params.Params.{Params}
+use Rattle.params.specs.Params.{goodParams}
+use Rattle.params.specs.declared.answers.Why.{Why}
+use Rattle.params.specs.declared.answers.Answer.{Answer}
+use Rattle.params.specs.declared.answers.Answer.the-variants.{Done, Refused}
+use Rattle.params.specs.Answers.{kept}
+use Rattle.params.proofs.Judging.{kept-new}
+use Rattle.files.specs.declared.writing.Written.the-variants.{Bytes, Refused as NotWritten}
 use Rattle.files.specs.Bytes.{wordBytes, over}
 use Rattle.files.specs.Layout.{headBytes, packetBytes, bucketBytes, endBytes}
-use Rattle.files.specs.Writing.{written}
+use Rattle.files.specs.Writing.{written, writtenOf}
 
 -- how long each record is
 pub length-wordBytes : (n : ℕ) → length (wordBytes n) ≡ 4
@@ -35,10 +43,10 @@ pub length-endBytes : (n : ℕ) → length (endBytes n) ≡ 5
 unfolding endBytes wordBytes
 length-endBytes n = refl
 
--- nothing is written yet
-pub over-none : (xs : List ℕ) → xs ≡ over xs 0 []
+-- nothing is written
+pub over-none : (xs : List ℕ) (at : ℕ) → xs ≡ over xs at []
 unfolding over
-over-none xs = refl
+over-none xs at = rw (add-zero at) (sym (take-append-drop at xs))
 
 -- bytes are stored one by one, or just one
 pub over-stores : (xs ys : List ℕ) (at : ℕ) → at + length ys ≤ length xs → sets xs at ys ≡ over xs at ys
@@ -92,9 +100,41 @@ length-written xs ys at = go (leb (at + length ys) (length xs)) refl
     go true e = let h = leb-true _ _ e in ap length (written-over xs ys at h) ∙ length-over xs ys at h
     go false e = ap length (written-not xs ys at (leb-false _ _ e))
 
--- a turn of a loop that writes record after record from the start on: `now` is what the output holds once `sofar` is written
-pub written-next : (xs now sofar ys : List ℕ) (at : ℕ) → now ≡ over xs 0 sofar → at ≡ length sofar → length sofar + length ys ≤ length xs
-    → written now at ys ≡ over xs 0 (sofar ++ ys)
-written-next xs now sofar ys at e l h =
-    let kept : length now ≡ length xs = ap length e ∙ length-over xs sofar 0 (omega arith) in
-    over-next xs sofar ys 0 at e (written-over now ys at (omega arith)) (omega arith) (omega arith)
+-- a turn of a loop that writes record after record: `goal` is what the output holds once `rest` is written too
+pub written-next : (xs ys rest goal : List ℕ) (at next : ℕ) {last : List ℕ} → over xs at (ys ++ rest) ≡ goal → last ≡ written xs at ys → at + length ys ≤ length xs → next ≡ at + length ys
+    → over last next rest ≡ goal
+written-next xs ys rest goal at next e w h l =
+    ap (λ n. over n next rest) (w ∙ written-over xs ys at h) ∙ over-then xs ys rest at next (omega arith) l ∙ e
+
+-- a file: a head, records, an end
+pub length-file : (P : Params) (records : List ℕ) (n : ℕ) → length (headBytes P ++ (records ++ endBytes n)) ≡ 43 + length records
+length-file P records n =
+    omega (arith, length-append (headBytes P) (records ++ endBytes n), length-append records (endBytes n), length-headBytes P, length-endBytes n)
+
+pub over-file : (P : Params) (out records : List ℕ) (n at : ℕ) {headed full last : List ℕ} → goodParams P ≡ true → at ≡ 38 + length records → at + 5 ≤ length out
+    → headed ≡ cond (goodParams P) (written out 0 (headBytes P)) out → full ≡ over headed 38 records → last ≡ written full at (endBytes n)
+    → last ≡ over out 0 (headBytes P ++ (records ++ endBytes n))
+over-file P out records n at {headed} {full} good e h a b c =
+    let start = length-headBytes P in
+    let end = length-endBytes n in
+    let before = length-append (headBytes P) records in
+    let head : headed ≡ over out 0 (headBytes P) = a ∙ rw good (written-over out (headBytes P) 0 (omega arith)) in
+    let filled : full ≡ over out 0 (headBytes P ++ records) = over-next out (headBytes P) records 0 38 head b (omega arith) (omega arith) in
+    let long : length full ≡ length out = ap length filled ∙ length-over out (headBytes P ++ records) 0 (omega arith) in
+    over-next out (headBytes P ++ records) (endBytes n) 0 at filled (c ∙ written-over full (endBytes n) at (omega arith)) (omega arith) (omega arith)
+    ∙ ap (over out 0) (append-assoc (headBytes P) records (endBytes n))
+
+-- what a caller is told, and what the output holds then
+module _ {r answer : Answer} (e : r ≡ answer) where
+  pub told-bytes : (n m : ℕ) → r ≡ Done → n ≡ m → Bytes n ≡ writtenOf answer m
+  told-bytes n m h l = rw (← e, h, l)
+
+  pub told-why : (w : Why) (k m : ℕ) → r ≡ Refused w k → NotWritten w k ≡ writtenOf answer m
+  told-why w k m h = rw (← e, h)
+
+  pub held-new : (old new : List ℕ) → r ≡ Done → new ≡ kept answer old new
+  held-new old new h = kept-new answer old new (sym e ∙ h)
+
+  pub held-old : (w : Why) (k : ℕ) (old new : List ℕ) → r ≡ Refused w k → old ≡ kept answer old new
+  unfolding kept
+  held-old w k old new h = rw (← e, h)

@@ -5,3 +5,4 @@ pub mod Filling
 pub mod Rewriting
 pub mod Accepting
 pub mod OneFile
+pub mod Written

@@ -2,3 +2,4 @@
 pub mod Found
 pub mod InTurn
 pub mod Stages
+pub mod Written

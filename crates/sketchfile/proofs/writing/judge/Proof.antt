@@ -1,0 +1,90 @@
+-- `sketchfile::writing::judge` meets its contract: the parameters and the lengths, then the first damaged bucket.
+use mathlib.Core.Path.{_≡_, sym, _∙_}
+use Prim.Native.Nat.{_≤_}
+use native.Mathlib.Omega.{arith}
+use borrow.Author.Needs.{needs}
+use borrow.Author.Tests.{eq-eqb}
+use denote.Ref.{now}
+use lib.ListN.{length}
+use Rattle.params.specs.declared.answers.Why.the-variants.{Damage}
+use Rattle.params.specs.declared.answers.Answer.the-variants.{Done}
+use Rattle.params.specs.Lists.{least}
+use Rattle.params.specs.Answers.{refuseAt}
+use Rattle.params.specs.Params.{shapeAnswer}
+use Rattle.sketch.specs.Sketch.{sketch, damagedAt}
+use Rattle.params.proofs.Judging.{first-refused, refuse-found, refuse-past}
+use Rattle.params.proofs.Rules.{shape-done, sized-small}
+use Rattle.sketchfile.specs.Writing.{sketchWriting}
+use Rattle.sketchfile.proofs.Written.{sketch-short, sketch-passed}
+use Rattle.sketchfile.proofs.writing.judge.Statement.{statement}
+use Rattle.sketchfile.proofs.writing.judge.Tie as tie
+
+-- the parameters and the lengths of the slices were passed
+shaped : (c : tie.After-enum-told) → let a = c .before .before .before .before .args in shapeAnswer (a .p) (length (now (a .counts))) (length (now (a .idsums))) ≡ Done
+shaped c = sym (c .before .before .shape .ensures) ∙ c .enum-told .given .1
+
+same : (c : tie.After-enum-told) → let a = c .before .before .before .before .args in length (now (a .counts)) ≡ length (now (a .idsums))
+same c = let h = shape-done _ _ _ (shaped c) in h .1 ∙ sym (h .2)
+
+few : (c : tie.After-enum-told) → length (now (c .before .before .before .before .args .counts)) ≤ 65536
+few c = let h = shape-done _ _ _ (shaped c) in omega (arith, sized-small (h .0))
+
+-- there is room, so that damage decides
+roomy : (c : tie.Else1) → let a = c .before .before .before .before .before .before .args in
+    let S = sketch (now (a .counts)) (now (a .idsums)) in
+    refuseAt (length (now (a .counts))) (damagedAt S) Damage Done ≡ sketchWriting (a .p) S (a .room)
+roomy c = sketch-passed _ _ _ (shaped (c .before .before)) (omega arith)
+
+searched : (c : tie.After-first-damaged) → let a = c .before .before .before .before .before .before .before .args in
+    c .first-damaged .result ≡ least 0 (length (now (a .counts))) (damagedAt (sketch (now (a .counts)) (now (a .idsums))))
+searched c = rw (eq-eqb _ _ (same (c .before .before .before))) at (c .first-damaged .ensures)
+
+shape-requires : tie.Need-shape-requires
+shape-requires c κs = search needs
+
+enum-told : tie.Need-enum-told
+enum-told c = search needs
+
+enum-told-2 : tie.Need-enum-told-2
+enum-told-2 c = search needs
+
+returns : tie.Need-returns
+unfolding sketchWriting
+returns c = first-refused _ _ _ (c .before .before .shape .ensures) (c .before .match .keys2)
+
+used-requires : tie.Need-used-requires
+used-requires c κs = same c
+
+mul-if1 : tie.Need-mul-if1
+mul-if1 c = omega (arith, few (c .before))
+
+add-if1 : tie.Need-add-if1
+add-if1 c = omega (arith, few (c .before))
+
+returns-2 : tie.Need-returns-2
+returns-2 c = sketch-short _ _ _ (shaped (c .before .before)) (omega arith)
+
+first-damaged-requires : tie.Need-first-damaged-requires
+first-damaged-requires c κs = search needs
+
+returns-3 : tie.Need-returns-3
+returns-3 c = refuse-found _ _ _ _ _ (searched (c .before)) (c .if2 .taken) ∙ roomy (c .before .before)
+
+returns-4 : tie.Need-returns-4
+returns-4 c = refuse-past _ _ _ _ _ (searched (c .before)) (c .if2 .left) ∙ roomy (c .before .before)
+
+pub judge-spec : {M : Type 1} → statement M
+judge-spec =
+    tie.close
+    (tie.spec
+    shape-requires
+    enum-told
+    enum-told-2
+    returns
+    used-requires
+    mul-if1
+    add-if1
+    returns-2
+    first-damaged-requires
+    returns-3
+    returns-4)

@@ -1,0 +1,97 @@
+-- `sketchfile::writing::write_sketch` meets its contract: where nothing is refused, a head, the records and an end are written one after the other.
+use mathlib.Core.Path.{_≡_, sym, _∙_}
+use Prim.Native.Nat.{_+_, _*_, _-_, _/_}
+use native.Mathlib.Omega.{arith}
+use borrow.Author.Needs.{needs}
+use denote.Ref.{now}
+use lib.ListN.{length}
+use Rattle.params.specs.Params.{size}
+use Rattle.sketch.specs.Sketch.{sketch}
+use Rattle.files.proofs.Overwriting.{over-file, told-bytes, told-why, held-new, held-old}
+use Rattle.sketchfile.specs.Writing.{bucketsBytes, bucketsLeft, sketchBytes}
+use Rattle.sketchfile.proofs.Written.{Passed, left-few, buckets-long, sketch-long, sketch-done}
+use Rattle.sketchfile.proofs.writing.write_sketch.Statement.{statement}
+use Rattle.sketchfile.proofs.writing.write_sketch.Tie as tie
+
+passed : (c : tie.After-enum-told) → let a = c .before .before .before .before .before .args in Passed (a .p) (sketch (now (a .counts)) (now (a .idsums))) (length (now (a .out)))
+passed c = sketch-done _ _ _ (sym (c .before .before .judge .ensures) ∙ c .enum-told .given .1)
+
+judge-requires : tie.Need-judge-requires
+judge-requires c κs = search needs
+
+enum-told : tie.Need-enum-told
+enum-told c = search needs
+
+put-head-requires : tie.Need-put-head-requires
+put-head-requires c κs = search needs
+
+put-all-requires : tie.Need-put-all-requires
+put-all-requires c κs = let h = passed (c .before .before .before .before .before) in ((h .same, h .few), omega arith)
+
+sub-n : tie.Need-sub-n
+sub-n c = search needs
+
+cast-put-end : tie.Need-cast-put-end
+cast-put-end c =
+    let t = c .before .before .before .before .before .before .before .before .before in
+    let a = t .before .before .before .before .before .args in
+    let h = passed t in
+    omega (arith, left-few (sketch (now (a .counts)) (now (a .idsums))) 0 (length (now (a .counts))))
+
+put-end-requires : tie.Need-put-end-requires
+put-end-requires c κs = search needs
+
+add-t17 : tie.Need-add-t17
+add-t17 c = omega (arith, passed (c .before .before .before .before .before .before .before .before .before .before .before .before))
+
+enum-known-r : tie.Need-enum-known-r
+enum-known-r c = search needs
+
+same-length : tie.Need-same-length
+same-length c = search needs
+
+returns : tie.Need-returns
+unfolding sketchBytes
+returns c =
+    let t = c .before .before .before .before .before .before .before .before .before .before .before .before in
+    let a = t .before .before .before .before .before .args in
+    let S = sketch (now (a .counts)) (now (a .idsums)) in
+    let h = passed t in
+    let records = c .before .before .before .before .before .before .put-all in
+    let end : records .result ≡ 38 + 13 * bucketsLeft 0 (size (a .p)) S = rw (h .long) at (records .ensures .0) in
+    let count : (records .result - 38) / 13 ≡ bucketsLeft 0 (size (a .p)) S = omega arith in
+    let judged = t .before .before .judge .ensures in
+    let written =
+    over-file (a .p) (now (a .out)) (bucketsBytes 0 (size (a .p)) S) (bucketsLeft 0 (size (a .p)) S) (records .result) (h .good) (omega (arith, buckets-long S 0 (size (a .p)))) (omega arith)
+    (c .before .before .before .before .before .before .before .before .before .before .put-head .ensures)
+    (rw (h .long) at (records .ensures .1))
+    (rw count at (c .before .before .put-end .ensures)) in
+    record {
+      answer = told-bytes judged _ _ (t .enum-told .given .1) (omega (arith, sketch-long (a .p) S));
+      bytes = written ∙ held-new judged _ _ (t .enum-told .given .1);
+    }
+
+returns-2 : tie.Need-returns-2
+returns-2 c =
+    let judged = c .before .before .before .judge .ensures in
+    record {
+      answer = told-why judged _ _ _ (c .before .r .given .1);
+      bytes = held-old judged _ _ _ _ (c .before .r .given .1);
+    }
+
+pub write-sketch-spec : {M : Type 1} → statement M
+write-sketch-spec =
+    tie.close
+    (tie.spec
+    judge-requires
+    enum-told
+    put-head-requires
+    put-all-requires
+    sub-n
+    cast-put-end
+    put-end-requires
+    add-t17
+    enum-known-r
+    same-length
+    returns
+    returns-2)

@@ -1,0 +1,86 @@
+// The one file of a sketch, written.
+ghost use mathlib.Core.Path.{_≡_};
+ghost use Prim.Native.Nat.{_+_, _*_, _≤_};
+ghost use lib.ListN.{length};
+ghost use Rattle.sketch.specs.Sketch.{sketch};
+ghost use Rattle.files.specs.Bytes.{over};
+ghost use Rattle.sketchfile.specs.Writing.{bucketsBytes, bucketsLeft, sketchWriting, SketchWritten};
+use crate::buckets::all_zero;
+use files::writing::Written;
+use files::writing::put_bucket;
+use files::writing::put_end;
+use files::writing::put_head;
+use params::Answer;
+use params::Params;
+use params::Why;
+use sketch::buckets::first_damaged;
+
+// How many buckets are not all zero.
+fn used(counts: &[i32], idsums: &[u32]) -> usize
+    requires { ⌜ length (now counts) ≡ length (now idsums) ⌝ }
+    ensures { λ r. ⌜ (r ≡ bucketsLeft 0 (length (now (counts .entry))) (sketch (now (counts .entry)) (now (idsums .entry)))) × (r ≤ length (now (counts .entry))) ⌝ }
+{
+    let mut n = 0;
+    let mut k = 0;
+    while k < counts.len() {
+        if !all_zero(counts[k], idsums[k]) {
+            n += 1;
+        }
+        k += 1;
+    }
+    n
+}
+
+// The answer, which alters nothing; `room` is the length of the output.
+fn judge(p: Params, counts: &[i32], idsums: &[u32], room: usize) -> Answer
+    ensures { λ r. ⌜ r ≡ sketchWriting p (sketch (now (counts .entry)) (now (idsums .entry))) room ⌝ }
+{
+    let r = p.shape(counts.len(), idsums.len());
+    let Answer::Done = r else {
+        return r;
+    };
+    if room < 43 + 13 * used(counts, idsums) {
+        return Answer::Refused(Why::Length, 0);
+    }
+    let x = first_damaged(counts, idsums);
+    if x < counts.len() {
+        return Answer::Refused(Why::Damage, x);
+    }
+    Answer::Done
+}
+
+// The bucket records, after the head; gives the offset after them.
+fn put_all(out: &mut [u8], counts: &[i32], idsums: &[u32]) -> usize
+    requires { ⌜ (length (now counts) ≡ length (now idsums)) × (length (now counts) ≤ 65536) ⌝ }
+    requires { ⌜ 38 + 13 * bucketsLeft 0 (length (now counts)) (sketch (now counts) (now idsums)) ≤ length (now out) ⌝ }
+    ensures { λ r. ⌜ r ≡ 38 + 13 * bucketsLeft 0 (length (now (counts .entry))) (sketch (now (counts .entry)) (now (idsums .entry))) ⌝ }
+    ensures { λ r. ⌜ now (out .exit) ≡ over (now (out .entry)) 38 (bucketsBytes 0 (length (now (counts .entry))) (sketch (now (counts .entry)) (now (idsums .entry)))) ⌝ }
+{
+    let mut at = 38;
+    let mut k = 0;
+    while k < counts.len() {
+        if !all_zero(counts[k], idsums[k]) {
+            put_bucket(out, at, k as u32, counts[k], idsums[k]);
+            at += 13;
+        }
+        k += 1;
+    }
+    at
+}
+
+// Writes the file of a sketch; the rest of the output is not touched.
+pub fn write_sketch(p: Params, counts: &[i32], idsums: &[u32], out: &mut [u8]) -> Written
+    ensures { λ r. ⌜ SketchWritten p (sketch (now (counts .entry)) (now (idsums .entry))) (now (out .entry)) r (now (out .exit)) ⌝ }
+{
+    let r = judge(p, counts, idsums, out.len());
+    match r {
+        Answer::Done => {
+            put_head(out, p);
+            let at = put_all(out, counts, idsums);
+            let n = (at - 38) / 13;
+            put_end(out, at, n as u32);
+            Written::Bytes(at + 5)
+        }
+        Answer::Refused(why, index) => Written::Refused(why, index),
+    }
+}
