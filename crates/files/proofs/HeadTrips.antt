@@ -20,8 +20,9 @@ use Rattle.files.specs.Bytes.{word, wordBytes}
 use Rattle.files.specs.Records.{bodyLength, recordAt}
 use Rattle.files.specs.Heads.{paramsIn, isHead, openingAnswer}
 use Rattle.files.specs.Layout.{pairBytes, headBytes}
+use Rattle.files.proofs.Standing.{kind-ends}
 use Rattle.files.proofs.RoundTrips.{digits-make, byte-then, word-then}
-use Rattle.files.proofs.RecordTrips.{record-whole, whole-record}
+use Rattle.files.proofs.RecordTrips.{record-whole, record-read}
 
 -- the numbers of good parameters have four bytes
 pair-small : (used : Bool) (a b : ℕ) → pairOk used a b ≡ true → (a < 4294967296) × (b < 4294967296)
@@ -71,13 +72,13 @@ four-same P =
     )
 
 module _ (P : Params) (ys : List ℕ) where
-  pub head-long : length (headBytes P ++ ys) ≡ 38 + length ys
+  pub headed-long : length (headBytes P ++ ys) ≡ 38 + length ys
   unfolding headBytes wordBytes
-  head-long = length-append (headBytes P) ys
+  headed-long = length-append (headBytes P) ys
 
   head-kind : isHead (recordAt (headBytes P ++ ys) 0) ≡ true
   unfolding headBytes bodyLength
-  head-kind = record-whole (headBytes P ++ ys) 0 1 refl (omega arith) (omega (arith, head-long))
+  head-kind = record-whole (headBytes P ++ ys) 0 1 refl (omega arith) (omega (arith, headed-long))
 
   params-written : goodParams P ≡ true → paramsIn (headBytes P ++ ys) ≡ fourPairs P
   unfolding paramsIn headBytes word wordBytes
@@ -137,8 +138,7 @@ module _ (bs : List ℕ) (small : (k : ℕ) → getD bs k 0 < 256) where
   pub head-read : (P : Params) → isHead (recordAt bs 0) ≡ true → sameParams P (paramsIn bs) ≡ true → headBytes P ≡ take 38 bs
   unfolding paramsIn headBytes bodyLength
   head-read P h e =
-      let s = whole-record bs 0 1 h in
-      let long : 38 ≤ length bs = omega (arith, s .1) in
+      let long : 38 ≤ length bs = kind-ends 1 bs 0 h in
       let sizes = sizes-same P (paramsIn bs) e in
       let p = pair-same P (paramsIn bs) e 0 (omega arith) in
       let q = pair-same P (paramsIn bs) e 1 (omega arith) in
@@ -148,7 +148,6 @@ module _ (bs : List ℕ) (small : (k : ℕ) → getD bs k 0 < 256) where
       let third : pairBytes P 2 ++ pairBytes P 3 ≡ take 16 (drop 22 bs) = pair-then 22 8 (omega arith) (r .0) (r .1) fourth in
       let second : pairBytes P 1 ++ (pairBytes P 2 ++ pairBytes P 3) ≡ take 24 (drop 14 bs) = pair-then 14 16 (omega arith) (q .0) (q .1) third in
       let pairs = pair-then 6 24 (omega arith) (p .0) (p .1) second in
-      ap₂ {C = List ℕ} _∷_ (sym (s .0))
+      record-read bs 0 1 _ h
       (ap₂ {C = List ℕ} _∷_ (sizes .0) (ap₂ {C = List ℕ} (λ m xs. wordBytes m ++ xs) (sizes .1) pairs ∙ word-then bs small 2 6 32 (omega arith) refl)
       ∙ byte-then bs 1 2 36 (omega arith) refl)
-      ∙ byte-then bs 0 1 37 (omega arith) refl

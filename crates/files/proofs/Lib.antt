@@ -7,5 +7,6 @@ pub mod HeadTrips
 pub mod Counts
 pub mod EndStages
 pub mod Turning
+pub mod InOrder
 pub mod Overwriting
 pub mod Examples

@@ -1,4 +1,4 @@
--- Bytes written over others: one store, bytes after bytes, what stays as long as it was, where there is room for a record, and a whole file.
+-- Bytes written over others: one store, bytes after bytes, what stays as long as it was, where there is room for a record, a whole file, and what a writer leaves.
 use mathlib.Core.Path.{_≡_, refl, sym, ap, ap₂, _∙_}
 use mathlib.Core.Bool.{Bool, true, false, cond}
 use mathlib.Core.List.{List, [], _∷_, _++_, append-assoc}
@@ -9,7 +9,7 @@ use borrow.Author.Tests.{le-leb, lt-leb, leb-true, leb-false}
 use lib.Dec.{leb}
 use lib.IntN.{ℤ}
 use lib.ListN.{length, take, drop, set, length-append, length-drop, take-append-drop}
-use lib.Seq.{sets, sets-eq, length-take-le, take-at, drop-append-add, drop-drop}
+use lib.Seq.{sets, sets-eq, length-take-le, take-at, take-append-seam, drop-append-add, drop-drop}
 use Rattle.params.specs.declared.params.Params.{Params}
 use Rattle.params.specs.Params.{goodParams}
 use Rattle.params.specs.declared.answers.Why.{Why}
@@ -138,3 +138,10 @@ module _ {r answer : Answer} (e : r ≡ answer) where
   pub held-old : (w : Why) (k : ℕ) (old new : List ℕ) → r ≡ Refused w k → old ≡ kept answer old new
   unfolding kept
   held-old w k old new h = rw (← e, h)
+
+-- a writer whose answer is a length was not refused, and the file is the front of its output
+pub written-front : (a : Answer) (out file : List ℕ) {out' : List ℕ} {n : ℕ} → Bytes n ≡ writtenOf a (length file) → out' ≡ kept a out (over out 0 file) → (a ≡ Done) × (take n out' ≡ file)
+unfolding kept over
+written-front Done out file {out'} {n} e q =
+    let long : n ≡ length file = cc in (refl, ap₂ {C = List ℕ} take long q ∙ take-append-seam file (drop (0 + length file) out))
+written-front (Refused w k) out file e q = absurd (let z : _≡_ {A = ℕ} 0 1 = cc in omega arith)

@@ -54,3 +54,6 @@ module _ (bs : List ℕ) where
     pub word-then : (at next n : ℕ) → at + 4 ≤ length bs → next ≡ at + 4 → wordBytes (word bs at) ++ take n (drop next bs) ≡ take (4 + n) (drop at bs)
     word-then at next n h e =
         ap₂ {C = List ℕ} _++_ (word-bytes at h) (ap (λ (k : ℕ). take n (drop k bs)) e ∙ ap (take n) (sym (drop-drop 4 at bs))) ∙ sym (take-add 4 n (drop at bs))
+
+    pub two-words : (at next : ℕ) → at + 8 ≤ length bs → next ≡ at + 4 → wordBytes (word bs at) ++ wordBytes (word bs next) ≡ take 8 (drop at bs)
+    two-words at next h e = ap (λ (xs : List ℕ). wordBytes (word bs at) ++ xs) (word-bytes next (omega arith)) ∙ word-then at next 4 (omega arith) e

@@ -1,6 +1,6 @@
 -- What stands at an offset: a whole record by its parts, and what holds where there is none.
 use mathlib.Core.Path.{_≡_, refl, sym, ap, _∙_}
-use mathlib.Core.Bool.{Bool, true, false, cond}
+use mathlib.Core.Bool.{Bool, true, false, cond, false≢true}
 use mathlib.Core.List.{List, [], _∷_}
 use Prim.Native.Nat.{ℕ, _+_, _-_, _≤_, _<_}
 use native.Mathlib.Omega.{arith}
@@ -57,17 +57,20 @@ not-whole Missing at bs h = ((λ k. refl), refl, refl)
 pub kind-whole : (bs : List ℕ) (at k j next : ℕ) → recordAt bs at ≡ Whole j next → isKind k (recordAt bs at) ≡ eqb j k
 kind-whole bs at k j next e = ap (isKind k) e
 
-pub kind-ends : (k : ℕ) (bs : List ℕ) (at : ℕ) → isKind k (recordAt bs at) ≡ true → at + 1 + bodyLength k ≤ length bs
-kind-ends k bs at e = go (recordAt bs at) refl e
+pub kind-stands : (k : ℕ) (bs : List ℕ) (at : ℕ) → isKind k (recordAt bs at) ≡ true → Stands bs at k (at + 1 + bodyLength k)
+kind-stands k bs at = go (recordAt bs at) refl
   where
-    go : (r : Record) → recordAt bs at ≡ r → isKind k r ≡ true → at + 1 + bodyLength k ≤ length bs
+    go : (r : Record) → recordAt bs at ≡ r → isKind k r ≡ true → Stands bs at k (at + 1 + bodyLength k)
     go (Whole j next) q h =
         let s = stands-whole bs at j next q in
         let same : j ≡ k = eqb-true j k h in
-        rw (← same) (omega (arith, s .ends, s .within))
-    go Cut q h = absurd (let w : _≡_ {A = ℕ} 0 1 = cc in omega arith)
-    go Unknown q h = absurd (let w : _≡_ {A = ℕ} 0 1 = cc in omega arith)
-    go Missing q h = absurd (let w : _≡_ {A = ℕ} 0 1 = cc in omega arith)
+        record { inside = s .inside; kind = sym same ∙ s .kind; ends = refl; within = omega (arith, s .ends, s .within, ap bodyLength same) }
+    go Cut q h = absurd (false≢true h)
+    go Unknown q h = absurd (false≢true h)
+    go Missing q h = absurd (false≢true h)
+
+pub kind-ends : (k : ℕ) (bs : List ℕ) (at : ℕ) → isKind k (recordAt bs at) ≡ true → at + 1 + bodyLength k ≤ length bs
+kind-ends k bs at e = kind-stands k bs at e .within
 
 pub nothing-stands : (bs : List ℕ) (at : ℕ) → length bs ≤ at → recordAt bs at ≡ Missing
 unfolding recordAt

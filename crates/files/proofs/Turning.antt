@@ -1,20 +1,23 @@
 -- Laws of records one after the other: how far a reader has come, and which record decides.
 use mathlib.Core.Path.{_≡_, refl, sym, ap, _∙_}
 use mathlib.Core.Bool.{Bool, true, false, not, cond}
+use mathlib.Core.Logic.{⊎-elim}
 use mathlib.Core.List.{List}
 use Prim.Native.Nat.{ℕ, zero, suc, _+_, _-_, _≤_, _<_}
 use native.Mathlib.Decide.{ℕ-discrete}
 use native.Mathlib.Omega.{arith}
 use native.Mathlib.Nat.{zero-add, add-zero, suc-add, add-suc}
+use borrow.Author.Count.{below-more}
 use borrow.Author.Tests.{ltb-true, ltb-false, not-false}
 use lib.Dec.{ltb}
 use lib.ListN.{length}
+use Rattle.params.specs.declared.answers.Why.{Why}
 use Rattle.params.specs.declared.answers.Answer.{Answer}
-use Rattle.params.specs.declared.answers.Answer.the-variants.{Done}
+use Rattle.params.specs.declared.answers.Answer.the-variants.{Done, Refused}
 use Rattle.params.specs.Lists.{least}
-use Rattle.params.specs.Answers.{first}
-use Rattle.params.proofs.Searches.{scan-start, scan-next, scan-found, scan-end}
-use Rattle.params.proofs.Judging.{Refusal, first-refused, first-passed, first-done}
+use Rattle.params.proofs.Searches.{least-skip, scan-start, scan-next, scan-found, scan-end, none-found, nothing-found}
+use Rattle.params.proofs.Judging.{Refusal, first-refused, first-passed, first-done, first-either}
+use Rattle.params.proofs.Lowest.{least-lowest}
 use Rattle.files.specs.Records.{recordAt, isKind}
 use Rattle.files.specs.Turns.{inTurn, recordsOf}
 
@@ -57,6 +60,28 @@ done-from k (suc n) judge e j l m = at (ℕ-discrete j k) (done-from (suc k) n j
 pub done-in-turn : (n : ℕ) (judge : ℕ → Answer) → inTurn 0 n judge ≡ Done → (j : ℕ) → j < n → judge j ≡ Done
 done-in-turn n judge e j l = done-from 0 n judge e j (omega arith) (omega arith)
 
+-- of n records the earliest whose answer is r; those before it were accepted
+pub record Earliest (n : ℕ) (judge : ℕ → Answer) (r : Answer) : Type 0 where
+  pub which : ℕ
+  pub one : which < n
+  pub here : judge which ≡ r
+  pub before : (j : ℕ) → j < which → judge j ≡ Done
+
+earliest-same : {n m : ℕ} {judge : ℕ → Answer} {r : Answer} → n ≡ m → Earliest n judge r → Earliest m judge r
+earliest-same e r = rw (← e) r
+
+earliest-from : (i n : ℕ) (judge : ℕ → Answer) (w : Why) (k : ℕ) → ((j : ℕ) → j < i → judge j ≡ Done) → inTurn i n judge ≡ Refused w k → Earliest (i + n) judge (Refused w k)
+unfolding inTurn
+earliest-from i zero judge w k passed e = absurd (let z : _≡_ {A = ℕ} 0 1 = cc in omega arith)
+earliest-from i (suc n) judge w k passed e =
+    ⊎-elim
+    (λ h. record { which = i; one = omega arith; here = h; before = passed })
+    (λ h. earliest-same (omega arith) (earliest-from (suc i) n judge w k (λ j l. below-more (λ j. judge j ≡ Done) i passed (h .0) j (omega arith)) (h .1)))
+    (first-either (judge i) (inTurn (suc i) n judge) w k e)
+
+pub in-turn-earliest : (n : ℕ) (judge : ℕ → Answer) (w : Why) (k : ℕ) → inTurn 0 n judge ≡ Refused w k → Earliest n judge (Refused w k)
+in-turn-earliest n judge w k e = earliest-same (zero-add n) (earliest-from 0 n judge w k (λ j l. absurd (omega arith)) e)
+
 -- a search finds nothing before what it finds
 least-from : (n k : ℕ) (t : ℕ → Bool) → k ≤ least k n t
 unfolding least
@@ -67,15 +92,12 @@ least-from (suc n) k t = at (t k) (least-from n (suc k) t)
     at true h = omega arith
     at false h = omega arith
 
-before-least : (n k j : ℕ) (t : ℕ → Bool) → k ≤ j → j < least k n t → t j ≡ false
-unfolding least
-before-least zero k j t l m = absurd (omega arith)
-before-least (suc n) k j t l m = at (t k) refl m (ℕ-discrete j k) (before-least n (suc k) j t)
+before-least : (n j : ℕ) (t : ℕ → Bool) → j < least 0 n t → t j ≡ false
+before-least n j t l = at (ltb (least 0 n t) n) refl
   where
-    at : (b : Bool) → t k ≡ b → j < cond b k (least (suc k) n t) → Dec (j ≡ k) → (suc k ≤ j → j < least (suc k) n t → t j ≡ false) → t j ≡ false
-    at true e h d ih = absurd (omega arith)
-    at false e h (yes p) ih = rw p e
-    at false e h (no q) ih = ih (omega arith) h
+    at : (b : Bool) → ltb (least 0 n t) n ≡ b → t j ≡ false
+    at true e = least-lowest n t (ltb-true _ _ e) .none-lower j l
+    at false e = let none = none-found n t e in none j (omega (arith, nothing-found n t none))
 
 module _ (kind : ℕ) (place : ℕ → ℕ) (bs : List ℕ) where
   abbrev other : ℕ → Bool
@@ -105,4 +127,16 @@ module _ (kind : ℕ) (place : ℕ → ℕ) (bs : List ℕ) where
   -- every record up to the number of them is whole and of the kind
   pub whole-within : (i : ℕ) → i < recordsOf kind place bs → isKind kind (recordAt bs (place i)) ≡ true
   unfolding recordsOf
-  whole-within i l = not-false _ (before-least (length bs) 0 i other (omega arith) l)
+  whole-within i l = not-false _ (before-least (length bs) i other l)
+
+  -- a run of whole records that ends in something else
+  come-to : (n : ℕ) → n ≤ length bs → ((k : ℕ) → k < n → isKind kind (recordAt bs (place k)) ≡ true) → Come n
+  unfolding recordsOf
+  come-to n h all =
+      ap (λ (x : ℕ). least 0 x other) {y = n + (length bs - n)} (omega arith)
+      ∙ least-skip n 0 (length bs - n) other (λ k l m. ap not (all k (omega arith)))
+      ∙ ap (λ (x : ℕ). least x (length bs - n) other) (zero-add n)
+
+  pub records-are : (n : ℕ) → n ≤ length bs → ((k : ℕ) → k < n → isKind kind (recordAt bs (place k)) ≡ true) → isKind kind (recordAt bs (place n)) ≡ false
+      → recordsOf kind place bs ≡ n
+  records-are n h all none = sym (come-end n none (come-to n h all))

@@ -1,20 +1,22 @@
--- Laws of answers: what a refusal keeps, and what holds where nothing is refused.
+-- Laws of answers: what a refusal keeps and where it comes from, what holds where nothing is refused, and answers with the same number.
 use mathlib.Core.Path.{_≡_, refl, sym, ap, _∙_}
 use mathlib.Core.Bool.{Bool, true, false}
+use mathlib.Core.Logic.{_⊎_, inl, inr}
 use mathlib.Core.List.{[], _∷_}
-use Prim.Native.Nat.{ℕ, _+_, _≤_, _<_}
+use Prim.Native.Nat.{ℕ, _≤_, _<_}
 use native.Mathlib.Omega.{arith}
 use borrow.Author.Tests.{lt-ltb, le-ltb}
 use types.Run.{OneOf, miss}
 use denote.Enum.Declared.{tagOf}
 use lib.Dec.{ltb}
 use Rattle.params.specs.declared.answers.Why.{Why}
+use Rattle.params.specs.declared.answers.Why.the-variants.{Param, Length, Flow, Count, Damage, Range, Mismatch, Form}
 use Rattle.params.specs.declared.answers.Answer.{Answer}
 use Rattle.params.specs.declared.answers.Answer.the-variants.{Done, Refused}
 use Rattle.params.specs.Lists.{least}
-use Rattle.params.specs.Answers.{refuseIf, refuseAt, first, kept}
+use Rattle.params.specs.Answers.{numberIn, refuseIf, refuseAt, first, kept}
 use Rattle.params.proofs.answers.Answer.{the-type}
-use Rattle.params.proofs.Searches.{least-skip, none-found}
+use Rattle.params.proofs.Searches.{none-found, nothing-found}
 
 -- an answer other than Done, as a `let .. else` has it
 abbrev pub Refusal : Answer → Type 0
@@ -73,8 +75,40 @@ refuse-at-done n t w next e =
 
 -- where no number passes the test nothing is refused
 pub refuse-none : (n : ℕ) (t : ℕ → Bool) (w : Why) (next : Answer) → ((k : ℕ) → k < n → t k ≡ false) → refuseAt n t w next ≡ next
-unfolding least
-refuse-none n t w next none =
-    let all : n + 0 ≡ n = omega arith in
-    let end : least 0 n t ≡ 0 + n = ap (λ (x : ℕ). least 0 x t) (sym all) ∙ least-skip n 0 0 t (λ x l m. none x (omega arith)) in
-    sym (refuse-past n (least 0 n t) t w next refl (omega arith))
+refuse-none n t w next none = sym (refuse-past n n t w next (sym (nothing-found n t none)) (omega arith))
+
+-- where a refusal comes from
+pub first-either : (r next : Answer) (w : Why) (k : ℕ) → first r next ≡ Refused w k → (r ≡ Refused w k) ⊎ ((r ≡ Done) × (next ≡ Refused w k))
+unfolding first
+first-either Done next w k e = inr (refl, e)
+first-either (Refused v j) next w k e = inl e
+
+-- the first of two answers where the second refuses nothing, or has the same number as another
+pub first-end : (r next : Answer) → next ≡ Done → first r next ≡ r
+unfolding first
+first-end Done next e = e
+first-end (Refused w k) next e = refl
+
+pub first-number : (r next later : Answer) → numberIn next ≡ numberIn later → numberIn (first r next) ≡ numberIn (first r later)
+unfolding first
+first-number Done next later e = e
+first-number (Refused w k) next later e = refl
+
+-- no refusal has the number 0
+pub number-done : (r : Answer) → numberIn r ≡ 0 → r ≡ Done
+number-done Done e = refl
+number-done (Refused Param k) e = absurd (omega arith)
+number-done (Refused Length k) e = absurd (omega arith)
+number-done (Refused Flow k) e = absurd (omega arith)
+number-done (Refused Count k) e = absurd (omega arith)
+number-done (Refused Damage k) e = absurd (omega arith)
+number-done (Refused Range k) e = absurd (omega arith)
+number-done (Refused Mismatch k) e = absurd (omega arith)
+number-done (Refused Form k) e = absurd (omega arith)
+
+-- so answers with the same number keep the same
+pub kept-number : {A : Type 0} (r q : Answer) (old new : A) → numberIn r ≡ numberIn q → kept r old new ≡ kept q old new
+unfolding kept
+kept-number Done q old new e = kept-new q old new (number-done q (sym e))
+kept-number (Refused w k) Done old new e = sym (kept-new (Refused w k) old new (number-done (Refused w k) e))
+kept-number (Refused w k) (Refused v j) old new e = refl

@@ -108,3 +108,10 @@ pub none-found : (n : ℕ) (t : ℕ → Bool) → ltb (least 0 n t) n ≡ false 
 none-found n t e k l =
     let past : n ≤ least 0 n t = ltb-false (least 0 n t) n e in
     least-none n 0 k t (omega arith) (omega arith) (omega arith)
+
+-- and the other way round
+pub nothing-found : (n : ℕ) (t : ℕ → Bool) → ((k : ℕ) → k < n → t k ≡ false) → least 0 n t ≡ n
+nothing-found n t none =
+    let all : n + 0 ≡ n = omega arith in
+    let end : 0 + n ≡ n = omega arith in
+    ap (λ (x : ℕ). least 0 x t) (sym all) ∙ least-skip n 0 0 t (λ x l m. none x (omega arith)) ∙ least-end (0 + n) t ∙ end

@@ -18,15 +18,15 @@ use Rattle.sketch.specs.Sketch.{Sketch, sketch, damagedAt, zeros}
 use Rattle.params.proofs.Judging.{first-done, first-passed, refuse-done, refuse-at-done, refuse-none}
 use Rattle.params.proofs.Rules.{good-sized, sized-small, lengths-done}
 use Rattle.files.specs.Bytes.{wordBytes}
-use Rattle.files.specs.Records.{recordAt, isKind}
 use Rattle.files.specs.Heads.{openingAnswer}
 use Rattle.files.specs.Layout.{headBytes, endBytes}
 use Rattle.files.specs.Turns.{inTurn, bucketPlace, endAnswer}
-use Rattle.files.proofs.HeadTrips.{head-long, opening-written, opening-done, head-read}
-use Rattle.files.proofs.RecordTrips.{not-kind, records-are, record-before, turn-at, turns-done, end-written, end-read}
+use Rattle.files.proofs.HeadTrips.{headed-long, opening-written, opening-done, head-read}
+use Rattle.files.proofs.RecordTrips.{not-kind, end-written}
+use Rattle.files.proofs.Turning.{in-turn-done, done-in-turn, whole-within, records-are}
 use Rattle.sketchfile.specs.Stored.{bucketsIn, lowest, bucketJudged, bucketsJudged, sketchAnswer, stored, sketchIn}
 use Rattle.sketchfile.specs.Writing.{bucketsBytes, bucketsLeft, sketchBytes, sketchWriting}
-use Rattle.sketchfile.proofs.BucketTrips.{left-few, buckets-long}
+use Rattle.sketchfile.proofs.Written.{left-few, buckets-long}
 use Rattle.sketchfile.proofs.Filling.{filled-all, counts-long, idsums-long, Told, told-none, told-all}
 use Rattle.sketchfile.proofs.Rewriting.{rewritten-all, same-bytes}
 
@@ -76,7 +76,7 @@ module _ (P : Params) (S : Sketch) (able : Writable P S) where
   file-is = sym (append-assoc (headBytes P) (bucketsBytes 0 (size P) S) (endBytes number))
 
   end-place : length before ≡ bucketPlace number
-  end-place = head-long P (bucketsBytes 0 (size P) S) ∙ ap (λ (n : ℕ). 38 + n) (buckets-long S 0 (size P))
+  end-place = headed-long P (bucketsBytes 0 (size P) S) ∙ ap (λ (n : ℕ). 38 + n) (buckets-long S 0 (size P))
 
   short : size P ≤ 65536
   short = sized-small (good-sized P (able .good))
@@ -98,7 +98,7 @@ module _ (P : Params) (S : Sketch) (able : Writable P S) where
   pub file-accepted : (c s : ℕ) → c ≡ size P → s ≡ size P → sketchAnswer P file c s ≡ Done
   unfolding sketchBytes sketchAnswer bucketsJudged
   file-accepted c s e h =
-      let judged = turns-done 0 number (bucketJudged (size P) file) (λ x l m. told .judged x (omega arith)) in
+      let judged = in-turn-done number (bucketJudged (size P) file) (told .judged) in
       first-passed (openingAnswer P file c s) _ (opening-written P _ c s (able .good) ∙ lengths-good P c s e h)
       ∙ rw counted (first-passed (inTurn 0 number (bucketJudged (size P) file)) _ judged ∙ ended)
 
@@ -119,10 +119,7 @@ accepted P bs c s small e =
     let h = first-done (openingAnswer P bs c s) (bucketsJudged (size P) bs) e in
     let opened = opening-done P bs c s (h .0) in
     let k = first-done (inTurn 0 n (bucketJudged (size P) bs)) (endAnswer bs (bucketPlace n) n) (h .1) in
-    let end = end-read bs (bucketPlace n) n small (k .1) in
     let head = head-read bs small P (opened .head) (opened .same) in
-    let kind : (x : ℕ) → x < n → isKind 3 (recordAt bs (bucketPlace x)) ≡ true = λ x l. record-before 3 bucketPlace bs x (omega (arith, end .0)) l in
-    let sound : (x : ℕ) → x < n → bucketJudged (size P) bs x ≡ Done = λ x l. turn-at 0 n x (bucketJudged (size P) bs) (k .0) (omega arith) (omega arith) in
-    let r = rewritten-all P bs small n head kind sound in
+    let r = rewritten-all P bs small n head (whole-within 3 bucketPlace bs) (done-in-turn n (bucketJudged (size P) bs) (k .0)) in
     let able : Writable P (stored bs n (zeros P)) = record { good = opened .good; counts = counts-long P bs n; idsums = idsums-long P bs n; undamaged = λ x l. r .undamaged x } in
     (able, same-bytes P bs small n (lowest bs n) (stored bs n (zeros P)) r (k .1))

@@ -1,15 +1,14 @@
 -- Bucket records there and back, and the records of a stretch of buckets.
-use mathlib.Core.Path.{_≡_, refl, sym, ap, ap₂, _∙_}
+use mathlib.Core.Path.{_≡_, refl, sym, ap, _∙_}
 use mathlib.Core.Bool.{Bool, true, false, cond}
-use mathlib.Core.List.{List, [], _∷_, _++_, append-assoc}
+use mathlib.Core.List.{List, [], _++_, append-assoc}
 use Prim.Native.Nat.{ℕ, zero, suc, _+_, _*_, _≤_, _<_}
 use native.Mathlib.Nat.{zero-add, suc-add}
 use native.Mathlib.Omega.{arith}
 use borrow.Author.Tests.{eqb-true}
 use lib.Dec.{eqb}
 use lib.IntN.{ℤ, pos}
-use lib.ListN.{getD, length, take, drop, length-append}
-use lib.Seq.{getD-at}
+use lib.ListN.{getD, length, take, drop}
 use mir.Syntax.{w32}
 use mir.Val.{SFits, toZ}
 use mir.ValLaws.{toZ-ofZ, ofZ-toZ, ofZ-fits}
@@ -20,8 +19,9 @@ use Rattle.sketch.proofs.Zeros.{zero-is}
 use Rattle.files.specs.Bytes.{word, wordBytes, countWord, countOf}
 use Rattle.files.specs.Records.{bodyLength, recordAt, isKind}
 use Rattle.files.specs.Layout.{bucketBytes}
-use Rattle.files.proofs.RoundTrips.{digits-make, word-after, byte-then, word-small, word-bytes, word-then}
-use Rattle.files.proofs.RecordTrips.{record-whole, whole-record}
+use Rattle.files.proofs.Standing.{kind-ends}
+use Rattle.files.proofs.RoundTrips.{digits-make, word-small, word-then, two-words}
+use Rattle.files.proofs.RecordTrips.{kind-written, word-written, record-read}
 use Rattle.sketchfile.specs.Stored.{allZero}
 use Rattle.sketchfile.specs.Writing.{zeroAt, bucketsBytes, bucketsLeft}
 
@@ -36,11 +36,10 @@ pub bucket-written : (bs xs ys : List ℕ) (at k : ℕ) (c : ℤ) (s : ℕ) → 
     → Bucketed bs at k c s
 unfolding bucketBytes bodyLength wordBytes word
 bucket-written bs xs ys at k c s form e h f l =
-    let this = bucketBytes k c s ++ ys in
-    let long : length bs ≡ at + (13 + length ys) = ap length form ∙ length-append xs this ∙ ap₂ _+_ e (length-append (bucketBytes k c s) ys) in
-    let told : (i : ℕ) → word bs (at + i) ≡ word this i = λ i. ap (λ (zs : List ℕ). word zs (at + i)) form ∙ word-after xs this at i e in
+    let body = wordBytes k ++ (wordBytes (countWord c) ++ wordBytes s) in
+    let told = word-written bs xs body ys at 3 form e in
     record {
-      kind = record-whole bs at 3 (ap (λ (zs : List ℕ). getD zs at 0) form ∙ getD-at xs 3 _ 0 at e) (omega arith) (omega arith);
+      kind = kind-written bs xs body ys at 3 form e refl (omega arith);
       index = told 1 ∙ digits-make k h;
       count = ap (toZ w32) (told 5 ∙ digits-make (countWord c) (ofZ-fits w32 c f .fits)) ∙ toZ-ofZ w32 c f;
       idsum = told 9 ∙ digits-make s l;
@@ -50,14 +49,10 @@ pub bucket-read : (bs : List ℕ) (at : ℕ) → ((k : ℕ) → getD bs k 0 < 25
     → bucketBytes (word bs (at + 1)) (countOf (word bs (at + 5))) (word bs (at + 9)) ≡ take 13 (drop at bs)
 unfolding bucketBytes bodyLength
 bucket-read bs at small h =
-    let s = whole-record bs at 3 h in
-    let long : at + 13 ≤ length bs = omega (arith, s .1) in
+    let long = kind-ends 3 bs at h in
     let count = ofZ-toZ w32 (word bs (at + 5)) (record { fits = word-small bs small (at + 5) }) in
-    let idsum = word-bytes bs small (at + 9) (omega arith) in
-    let both = ap₂ {C = List ℕ} (λ n xs. wordBytes n ++ xs) count idsum ∙ word-then bs small (at + 5) (at + 9) 4 (omega arith) (omega arith) in
-    ap₂ {C = List ℕ} _∷_ (sym (s .0))
-    (ap (λ (xs : List ℕ). wordBytes (word bs (at + 1)) ++ xs) both ∙ word-then bs small (at + 1) (at + 5) 8 (omega arith) (omega arith))
-    ∙ byte-then bs at (at + 1) 12 (omega arith) (omega arith)
+    let both = ap (λ (n : ℕ). wordBytes n ++ wordBytes (word bs (at + 9))) count ∙ two-words bs small (at + 5) (at + 9) (omega arith) (omega arith) in
+    record-read bs at 3 _ h (ap (λ (xs : List ℕ). wordBytes (word bs (at + 1)) ++ xs) both ∙ word-then bs small (at + 1) (at + 5) 8 (omega arith) (omega arith))
 
 -- a bucket that is all zero, by its test
 pub all-zero : (c : ℤ) (s : ℕ) → allZero c s ≡ true → (c ≡ pos 0) × (s ≡ 0)
@@ -65,26 +60,6 @@ all-zero c s e = let h = and-true (isZero c) (eqb s 0) e in (zero-is c (h .0), e
 
 -- the records of n buckets from k on
 module _ (S : Sketch) where
-  pub left-few : (k n : ℕ) → bucketsLeft k n S ≤ n
-  unfolding bucketsLeft
-  left-few k zero = omega arith
-  left-few k (suc n) = go (zeroAt S k) (left-few (suc k) n)
-    where
-      go : (b : Bool) → bucketsLeft (suc k) n S ≤ n → cond b 0 1 + bucketsLeft (suc k) n S ≤ suc n
-      go true h = omega arith
-      go false h = omega arith
-
-  -- each takes 13 bytes
-  pub buckets-long : (k n : ℕ) → length (bucketsBytes k n S) ≡ 13 * bucketsLeft k n S
-  unfolding bucketsBytes bucketsLeft bucketBytes wordBytes
-  buckets-long k zero = refl
-  buckets-long k (suc n) = go (zeroAt S k) (buckets-long (suc k) n)
-    where
-      go : (b : Bool) → length (bucketsBytes (suc k) n S) ≡ 13 * bucketsLeft (suc k) n S
-          → length (cond b [] (bucketBytes k (countIn S k) (idsumIn S k)) ++ bucketsBytes (suc k) n S) ≡ 13 * (cond b 0 1 + bucketsLeft (suc k) n S)
-      go true h = omega arith
-      go false h = omega arith
-
   -- none for a stretch of zeros
   pub no-records : (k n : ℕ) → ((x : ℕ) → k ≤ x → zeroAt S x ≡ true) → bucketsBytes k n S ≡ []
   unfolding bucketsBytes

@@ -1,10 +1,11 @@
 -- A sketch filled from a file in rising index: its first records tell the buckets below some index, and the others are zero yet.
-use mathlib.Core.Path.{_≡_, refl, sym, ap, subst, _∙_}
+use mathlib.Core.Path.{_≡_, refl, sym, ap, _∙_}
 use mathlib.Core.Bool.{Bool, true, false, not, cond, _&&_}
 use mathlib.Core.List.{List, [], _++_, append-assoc}
 use Prim.Native.Nat.{ℕ, zero, suc, _+_, _≤_, _<_}
 use native.Mathlib.Decide.{ℕ-discrete, decLt}
 use native.Mathlib.Omega.{arith}
+use borrow.Author.Count.{below-more}
 use borrow.Author.Tests.{le-leb, leb-true, lt-ltb, ltb-true, not-false}
 use lib.Dec.{leb, ltb}
 use lib.IntN.{ℤ, pos}
@@ -93,14 +94,6 @@ done-sound N low at x c s e =
       not-zero = refuse-done (allZero c s) Form at Done (k .1) .0;
     }
 
--- what holds below j, and at j
-below-next : (B : ℕ → Type 0) (j : ℕ) → B j → ((x : ℕ) → x < j → B x) → (x : ℕ) → x < suc j → B x
-below-next B j here before x l = at (ℕ-discrete x j)
-  where
-    at : Dec (x ≡ j) → B x
-    at (yes p) = subst B (sym p) here
-    at (no q) = before x (omega arith)
-
 -- the first j records of a file are sound and tell the buckets of S below k
 pub record Told (P : Params) (bs : List ℕ) (S : Sketch) (j k : ℕ) : Type 0 where
   pub kinds : (x : ℕ) → x < j → isKind 3 (recordAt bs (bucketPlace x)) ≡ true
@@ -139,8 +132,8 @@ module _ (P : Params) (bs : List ℕ) (S : Sketch) where
       let sound : SoundBucket (size P) (lowest bs j) k (countIn S k) (idsumIn S k) = record { undamaged = intact; rising = t .low; inside = h; not-zero = some } in
       let here : bucketJudged (size P) bs j ≡ Done = rw (b .index, b .count, b .idsum) (sound-done (bucketPlace j) sound) in
       record {
-        kinds = below-next (λ x. isKind 3 (recordAt bs (bucketPlace x)) ≡ true) j (b .kind) (t .kinds);
-        judged = below-next (λ x. bucketJudged (size P) bs x ≡ Done) j here (t .judged);
+        kinds = λ x l. below-more (λ x. isKind 3 (recordAt bs (bucketPlace x)) ≡ true) j (t .kinds) (b .kind) x (omega arith);
+        judged = λ x l. below-more (λ x. bucketJudged (size P) bs x ≡ Done) j (t .judged) here x (omega arith);
         low = omega (arith, b .index);
         counts = filled-next (pos 0) (S .counts) (b .index) (b .count) (omega (arith, counts-long P bs j)) (t .counts);
         idsums = filled-next 0 (S .idsums) (b .index) (b .idsum) (omega (arith, idsums-long P bs j)) (t .idsums);

@@ -1,8 +1,9 @@
--- The laws of sketch files, and that a sketch has one file.
+-- The laws of sketch files, that a sketch has one file, and what is told with each refusal.
 pub mod BucketRecords
+pub mod Written
 pub mod BucketTrips
 pub mod Filling
 pub mod Rewriting
 pub mod Accepting
 pub mod OneFile
-pub mod Written
+pub mod InOrder

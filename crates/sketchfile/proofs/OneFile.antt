@@ -1,46 +1,32 @@
 -- A sketch has one sketch file: reading the written file gives the sketch back, and writing an accepted file's sketch gives the same bytes.
 use mathlib.Core.Path.{_≡_, refl, sym, ap, ap₂, _∙_}
 use mathlib.Core.List.{List}
-use Prim.Native.Nat.{ℕ, _+_, _≤_, _<_}
+use Prim.Native.Nat.{ℕ, _≤_, _<_}
 use native.Mathlib.Omega.{arith}
-use lib.ListN.{length, getD, take, drop}
-use lib.Seq.{take-append-seam}
+use lib.ListN.{length, getD, take}
 use Rattle.params.specs.declared.params.Params.{Params}
 use Rattle.params.specs.declared.answers.Answer.{Answer}
 use Rattle.params.specs.declared.answers.Answer.the-variants.{Done, Refused}
 use Rattle.params.specs.Params.{size}
 use Rattle.sketch.specs.Sketch.{Sketch}
+use Rattle.params.specs.declared.answers.Why.{Why}
+use Rattle.params.specs.Answers.{kept}
 use Rattle.params.proofs.Judging.{kept-new}
 use Rattle.files.specs.declared.writing.Written.{Written}
 use Rattle.files.specs.declared.writing.Written.the-variants.{Bytes}
-use Rattle.files.specs.Bytes.{over}
 use Rattle.files.specs.Writing.{writtenOf}
+use Rattle.files.proofs.Overwriting.{written-front}
 use Rattle.sketchfile.specs.Stored.{sketchAnswer, sketchIn, SketchRead}
 use Rattle.sketchfile.specs.Writing.{sketchBytes, sketchWriting, SketchWritten}
 use Rattle.sketchfile.proofs.Accepting.{Writable, writing-done, writable-done, file-accepted, file-content, accepted}
-
--- nothing was refused, and as many bytes were written
-bytes-written : (a : Answer) (n m : ℕ) → Bytes n ≡ writtenOf a m → (a ≡ Done) × (n ≡ m)
-bytes-written Done n m e = (refl, cc)
-bytes-written (Refused w k) n m e = absurd (let z : _≡_ {A = ℕ} 0 1 = cc in omega arith)
-
-over-front : (xs ys : List ℕ) → take (length ys) (over xs 0 ys) ≡ ys
-unfolding over
-over-front xs ys = take-append-seam ys (drop (0 + length ys) xs)
-
--- the output's front where nothing was refused
-written-front : {P : Params} {S : Sketch} {out out' : List ℕ} {r : Written} → SketchWritten P S out r out' → sketchWriting P S (length out) ≡ Done
-    → take (length (sketchBytes P S)) out' ≡ sketchBytes P S
-written-front {P} {S} {out} w e =
-    ap (take (length (sketchBytes P S))) (w .bytes ∙ sym (kept-new (sketchWriting P S (length out)) out (over out 0 (sketchBytes P S)) e)) ∙ over-front out (sketchBytes P S)
 
 -- reading the written file gives the sketch back
 pub read-written : {P : Params} {S T T' : Sketch} {out out' : List ℕ} {n : ℕ} {r : Answer} → SketchWritten P S out (Bytes n) out' → SketchRead P (take n out') T r T'
     → length (T .counts) ≡ size P → length (T .idsums) ≡ size P → (r ≡ Done) × (T' ≡ S)
 read-written {P} {S} {T} {T'} {out} {out'} {n} {r} w q c s =
-    let wrote = bytes-written (sketchWriting P S (length out)) n (length (sketchBytes P S)) (w .answer) in
+    let wrote = written-front (sketchWriting P S (length out)) out (sketchBytes P S) (w .answer) (w .bytes) in
     let able = writing-done P S (length out) (wrote .0) in
-    let front : take n out' ≡ sketchBytes P S = ap (λ (k : ℕ). take k out') (wrote .1) ∙ written-front w (wrote .0) in
+    let front = wrote .1 in
     let judged = ap (λ (bs : List ℕ). sketchAnswer P bs (length (T .counts)) (length (T .idsums))) front in
     let done : r ≡ Done = q .answer ∙ judged ∙ file-accepted P S able (length (T .counts)) (length (T .idsums)) c s in
     (done, q .content ∙ sym (kept-new r T (sketchIn P (take n out')) done) ∙ ap (sketchIn P) front ∙ file-content P S able)
@@ -62,9 +48,15 @@ written-read {P} {bs} {T} {T'} {out} {out'} {r} small q w l =
     let same : sketchBytes P T' ≡ bs = f .1 in
     let long : length (sketchBytes P T') ≡ length bs = ap length same in
     let done = writable-done P T' (length out) (f .0) (omega arith) in
-    (w .answer ∙ ap₂ writtenOf done long, ap (λ (k : ℕ). take k out') (sym long) ∙ written-front w done ∙ same)
+    let told : r ≡ Bytes (length bs) = w .answer ∙ ap₂ writtenOf done long in
+    (told, written-front (sketchWriting P T' (length out)) out (sketchBytes P T') (sym told ∙ w .answer) (w .bytes) .1 ∙ same)
 
 -- so two accepted files that read as the same sketch are the same
 pub one-file : {P : Params} {bs cs : List ℕ} {S T U : Sketch} → ((k : ℕ) → getD bs k 0 < 256) → ((k : ℕ) → getD cs k 0 < 256)
     → SketchRead P bs T Done S → SketchRead P cs U Done S → bs ≡ cs
 one-file small small' p q = sym (same-file small p) ∙ same-file small' q
+
+-- a refusal keeps the sketch that was lent
+pub refused-keeps : {P : Params} {bs : List ℕ} {T T' : Sketch} {w : Why} {k : ℕ} → SketchRead P bs T (Refused w k) T' → T' ≡ T
+unfolding kept
+refused-keeps q = q .content

@@ -1,0 +1,91 @@
+-- What is told with each refusal of a stream: the head and the lengths come first, then the sketch's damage, then the packets in turn, then the end.
+use mathlib.Core.Path.{_≡_, sym, ap, _∙_}
+use mathlib.Core.Bool.{true, false}
+use mathlib.Core.Logic.{⊎-elim}
+use mathlib.Core.List.{List}
+use Prim.Native.Nat.{ℕ, _<_}
+use native.Mathlib.Omega.{arith}
+use lib.ListN.{length}
+use Rattle.params.specs.declared.params.Params.{Params}
+use Rattle.params.specs.declared.answers.Why.{Why}
+use Rattle.params.specs.declared.answers.Why.the-variants.{Damage, Form}
+use Rattle.params.specs.declared.answers.Answer.{Answer}
+use Rattle.params.specs.declared.answers.Answer.the-variants.{Done, Refused}
+use Rattle.params.specs.Answers.{numberOf, numberIn, indexIn, refuseAt}
+use Rattle.params.specs.Params.{size, goodParams}
+use Rattle.sketch.specs.Sketch.{Sketch, damagedAt}
+use Rattle.sketch.specs.Packets.{stepAnswer, Accepted}
+use Rattle.params.proofs.Judging.{first-either}
+use Rattle.sketch.proofs.Steps.{move-good}
+use Rattle.params.proofs.Lowest.{Lowest, refuse-at}
+use Rattle.params.proofs.InOrder.{order, firstOf}
+use Rattle.sketch.proofs.InOrder.{moveFault, move-number}
+use Rattle.files.specs.Heads.{openingAnswer}
+use Rattle.files.specs.Turns.{toldAt, inTurn, packetPlace, endAnswer}
+use Rattle.files.proofs.HeadTrips.{Opened, opening-done}
+use Rattle.files.proofs.Turning.{Earliest, in-turn-earliest, done-in-turn}
+use Rattle.files.proofs.InOrder.{openingOrder, openingFault, opening-number, opening-index, EndFault, end-fault}
+use Rattle.streamfile.specs.Streams.{packetsIn, packetFlow, packetNumber, flowsIn, numbersIn, afterFirst, packetJudged, packetsJudged, streamAnswer}
+use Rattle.streamfile.proofs.Accepting.{judged-accepted}
+
+module _ (P : Params) (bs : List ℕ) (S : Sketch) (w : Why) (k : ℕ) where
+  -- the earliest packet at fault: those before it were accepted, the first of its faults decides the number, and its offset is told
+  pub record PacketFault : Type 0 where
+    pub which : ℕ
+    pub one : which < packetsIn bs
+    pub accepted : Accepted P (flowsIn bs) (numbersIn bs) S which
+    pub number : numberOf w ≡ firstOf order (moveFault P false (packetFlow bs which) (packetNumber bs which) (afterFirst P bs which S))
+    pub place : k ≡ packetPlace which
+
+  pub data StreamFault : Type 0 where
+    in-opening : numberOf w ≡ firstOf openingOrder (openingFault P bs (length (S .counts)) (length (S .idsums))) → k ≡ 0 → StreamFault
+    in-sketch : Opened P bs (length (S .counts)) (length (S .idsums)) → w ≡ Damage → Lowest (size P) (damagedAt S) k → StreamFault
+    in-packet : Opened P bs (length (S .counts)) (length (S .idsums)) → ((j : ℕ) → j < size P → damagedAt S j ≡ false) → PacketFault → StreamFault
+    in-end : Opened P bs (length (S .counts)) (length (S .idsums)) → ((j : ℕ) → j < size P → damagedAt S j ≡ false)
+        → Accepted P (flowsIn bs) (numbersIn bs) S (packetsIn bs) → w ≡ Form → EndFault bs (packetPlace (packetsIn bs)) (packetsIn bs) k → StreamFault
+
+  told-refused : (at : ℕ) (r : Answer) → toldAt at r ≡ Refused w k → (numberOf w ≡ numberIn r) × (k ≡ at)
+  unfolding toldAt
+  told-refused at Done e = absurd (let z : _≡_ {A = ℕ} 0 1 = cc in omega arith)
+  told-refused at (Refused v j) e = let same : v ≡ w = cc in (ap numberOf (sym same), cc)
+
+  packet-fault : goodParams P ≡ true → Earliest (packetsIn bs) (packetJudged P bs S) (Refused w k) → PacketFault
+  unfolding packetJudged
+  packet-fault good r =
+      let j = r .which in
+      let told = told-refused (packetPlace j) (stepAnswer P false (packetFlow bs j) (packetNumber bs j) (afterFirst P bs j S)) (r .here) in
+      let moved = move-good P false (packetFlow bs j) (packetNumber bs j) (afterFirst P bs j S) good in
+      record {
+        which = j;
+        one = r .one;
+        accepted = judged-accepted P bs S j (omega (arith, r .one)) (r .before);
+        number = told .0 ∙ ap numberIn (sym moved) ∙ move-number P false (packetFlow bs j) (packetNumber bs j) (afterFirst P bs j S);
+        place = told .1;
+      }
+
+  records-fault : Opened P bs (length (S .counts)) (length (S .idsums)) → ((j : ℕ) → j < size P → damagedAt S j ≡ false) → packetsJudged P bs S ≡ Refused w k → StreamFault
+  unfolding packetsJudged
+  records-fault opened undamaged e =
+      let n = packetsIn bs in
+      let judge = packetJudged P bs S in
+      ⊎-elim
+      (λ h. in-packet opened undamaged (packet-fault (opened .good) (in-turn-earliest n judge w k h)))
+      (λ h. let end = end-fault bs (packetPlace n) n w k (h .1) in in-end opened undamaged (judged-accepted P bs S n (omega arith) (done-in-turn n judge (h .0))) (end .0) (end .1))
+      (first-either (inTurn 0 n judge) (endAnswer bs (packetPlace n) n) w k e)
+
+  past-opening : Opened P bs (length (S .counts)) (length (S .idsums)) → refuseAt (size P) (damagedAt S) Damage (packetsJudged P bs S) ≡ Refused w k → StreamFault
+  past-opening opened e =
+      ⊎-elim
+      (λ h. in-sketch opened (sym (h .0)) (h .1))
+      (λ h. records-fault opened (h .0) (h .1))
+      (refuse-at (size P) (damagedAt S) Damage w k (packetsJudged P bs S) e)
+
+  pub stream-fault : streamAnswer P bs S ≡ Refused w k → StreamFault
+  unfolding streamAnswer
+  stream-fault e =
+      let c = length (S .counts) in
+      let s = length (S .idsums) in
+      ⊎-elim
+      (λ h. in-opening (sym (ap numberIn h) ∙ opening-number P bs c s) (sym (ap indexIn h) ∙ opening-index P bs c s))
+      (λ h. past-opening (opening-done P bs c s (h .0)) (h .1))
+      (first-either (openingAnswer P bs c s) _ w k e)

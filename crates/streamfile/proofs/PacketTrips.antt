@@ -1,0 +1,66 @@
+-- Packet records there and back, and the records of many packets.
+use mathlib.Core.Path.{_≡_, refl, sym, ap, ap₂, _∙_}
+use mathlib.Core.Bool.{true}
+use mathlib.Core.List.{List, [], _∷_, _++_, append-assoc}
+use Prim.Native.Nat.{ℕ, zero, suc, _+_, _*_, _<_}
+use native.Mathlib.Omega.{arith}
+use lib.ListN.{getD, length, take, drop, length-append}
+use lib.Seq.{take-add, drop-drop}
+use Rattle.params.specs.Lists.{from}
+use Rattle.files.specs.Bytes.{word, wordBytes}
+use Rattle.files.specs.Records.{bodyLength, recordAt, isKind}
+use Rattle.files.specs.Layout.{packetBytes}
+use Rattle.files.specs.Turns.{packetPlace}
+use Rattle.files.proofs.Standing.{kind-ends}
+use Rattle.files.proofs.RoundTrips.{digits-make, two-words}
+use Rattle.files.proofs.RecordTrips.{kind-written, word-written, record-read}
+use Rattle.files.proofs.Overwriting.{length-packetBytes}
+use Rattle.streamfile.specs.Streams.{packetFlow, packetNumber}
+use Rattle.streamfile.specs.Writing.{packetsBytes}
+use Rattle.streamfile.proofs.Found.{There}
+
+pub packet-written : (bs xs ys : List ℕ) (at f n : ℕ) → bs ≡ xs ++ (packetBytes f n ++ ys) → length xs ≡ at → f < 4294967296 → n < 4294967296 → There bs at f n
+unfolding packetBytes bodyLength wordBytes word
+packet-written bs xs ys at f n form e h l =
+    let told = word-written bs xs (wordBytes f ++ wordBytes n) ys at 2 form e in
+    record {
+      whole = kind-written bs xs (wordBytes f ++ wordBytes n) ys at 2 form e refl (omega arith);
+      flow = sym (told 1 ∙ digits-make f h);
+      number = sym (told 5 ∙ digits-make n l);
+    }
+
+pub packet-read : (bs : List ℕ) (at : ℕ) → ((k : ℕ) → getD bs k 0 < 256) → isKind 2 (recordAt bs at) ≡ true → packetBytes (word bs (at + 1)) (word bs (at + 5)) ≡ take 9 (drop at bs)
+unfolding packetBytes bodyLength
+packet-read bs at small h =
+    let long = kind-ends 2 bs at h in record-read bs at 2 _ h (two-words bs small (at + 1) (at + 5) (omega arith) (omega arith))
+
+-- each takes 9 bytes
+pub packets-long : (fs ns : List ℕ) → length fs ≡ length ns → length (packetsBytes fs ns) ≡ 9 * length fs
+unfolding packetsBytes
+packets-long [] ns e = refl
+packets-long (f ∷ fs) [] e = absurd (omega arith)
+packets-long (f ∷ fs) (n ∷ ns) e =
+    let rest = packets-long fs ns (omega arith) in
+    length-append (packetBytes f n) (packetsBytes fs ns) ∙ omega (arith, length-packetBytes f n)
+
+-- packet k stands between those before it and those after it
+pub packet-among : (fs ns : List ℕ) (k : ℕ) → k < length fs → k < length ns
+    → packetsBytes fs ns ≡ packetsBytes (take k fs) (take k ns) ++ (packetBytes (getD fs k 0) (getD ns k 0) ++ packetsBytes (drop (suc k) fs) (drop (suc k) ns))
+unfolding packetsBytes
+packet-among [] ns k h l = absurd (omega arith)
+packet-among (f ∷ fs) [] k h l = absurd (omega arith)
+packet-among (f ∷ fs) (n ∷ ns) zero h l = refl
+packet-among (f ∷ fs) (n ∷ ns) (suc k) h l =
+    ap (λ (xs : List ℕ). packetBytes f n ++ xs) (packet-among fs ns k (omega arith) (omega arith)) ∙ sym (append-assoc (packetBytes f n) _ _)
+
+-- whole records one after the other are written as they stand
+pub packets-read : (bs : List ℕ) (k n : ℕ) → ((j : ℕ) → getD bs j 0 < 256) → ((j : ℕ) → j < k + n → isKind 2 (recordAt bs (packetPlace j)) ≡ true)
+    → packetsBytes (from k n (packetFlow bs)) (from k n (packetNumber bs)) ≡ take (9 * n) (drop (packetPlace k) bs)
+unfolding packetsBytes from
+packets-read bs k zero small whole = refl
+packets-read bs k (suc n) small whole =
+    let next : packetPlace (suc k) ≡ packetPlace k + 9 = omega arith in
+    let bytes : 9 + 9 * n ≡ 9 * suc n = omega arith in
+    ap₂ {C = List ℕ} _++_ (packet-read bs (packetPlace k) small (whole k (omega arith)))
+    (packets-read bs (suc k) n small (λ j l. whole j (omega arith)) ∙ ap (λ (i : ℕ). take (9 * n) (drop i bs)) next ∙ ap (take (9 * n)) (sym (drop-drop 9 (packetPlace k) bs)))
+    ∙ sym (take-add 9 (9 * n) (drop (packetPlace k) bs)) ∙ ap (λ (i : ℕ). take i (drop (packetPlace k) bs)) bytes

@@ -1,0 +1,162 @@
+-- Packets that can be written as a stream: their file holds them, and is read as they are inserted.
+use mathlib.Core.Path.{_≡_, sym, ap, ap₂, _∙_}
+use mathlib.Core.Bool.{true, false, not, _&&_}
+use mathlib.Core.List.{List, _++_, append-assoc}
+use Prim.Native.Nat.{ℕ, suc, _+_, _*_, _≤_, _<_}
+use native.Mathlib.Omega.{arith}
+use borrow.Author.Tests.{lt-ltb, ltb-true, le-ltb, le-leb, leb-true, eqb-true, eq-eqb, not-false}
+use lib.Dec.{eqb, leb, ltb}
+use lib.ListN.{length, getD, take, drop, length-append}
+use lib.Seq.{ext-getD, getD-at, length-take-le}
+use Rattle.params.specs.declared.params.Params.{Params}
+use Rattle.params.specs.declared.answers.Why.the-variants.{Param, Length, Flow, Count, Damage}
+use Rattle.params.specs.declared.answers.Answer.{Answer}
+use Rattle.params.specs.declared.answers.Answer.the-variants.{Done}
+use Rattle.params.specs.Lists.{below}
+use Rattle.params.specs.Answers.{numberIn, refuseIf, refuseAt, first}
+use Rattle.params.specs.Params.{prime, size, goodParams, shapeAnswer}
+use Rattle.sketch.specs.Sketch.{Sketch, damagedAt}
+use Rattle.sketch.specs.Packets.{packetsAnswer, allAnswer}
+use Rattle.params.proofs.Searches.{and-true, below-at, all-below}
+use Rattle.sketch.proofs.Steps.{step-done}
+use Rattle.params.proofs.Judging.{first-end, first-number, refuse-done, refuse-none}
+use Rattle.files.specs.Bytes.{wordBytes}
+use Rattle.files.specs.Heads.{openingAnswer}
+use Rattle.files.specs.Layout.{headBytes, packetBytes, endBytes}
+use Rattle.files.specs.Turns.{packetPlace, inTurn, endAnswer}
+use Rattle.files.proofs.HeadTrips.{headed-long, opening-written}
+use Rattle.files.proofs.RecordTrips.{not-kind, end-written}
+use Rattle.files.proofs.Turning.{records-are}
+use Rattle.streamfile.specs.Streams.{packetsIn, flowsIn, numbersIn, afterFirst, packetJudged, packetsJudged, streamAnswer}
+use Rattle.streamfile.specs.Writing.{packetsBytes, streamBytes, flowAt, numberAt, streamWriting}
+use Rattle.streamfile.proofs.Found.{There, length-flows, length-numbers, flow-is, number-is}
+use Rattle.streamfile.proofs.Accepting.{StreamDone}
+use Rattle.streamfile.proofs.AsInserted.{packets-judged}
+use Rattle.streamfile.proofs.PacketTrips.{packet-written, packets-long, packet-among}
+
+-- packets whose writing is not refused
+pub record Sendable (P : Params) (fs ns : List ℕ) : Type 0 where
+  pub good : goodParams P ≡ true
+  pub same : length fs ≡ length ns
+  pub few : length fs ≤ 65536
+  pub flows : (k : ℕ) → k < length fs → getD fs k 0 < prime
+  pub numbers : (k : ℕ) → k < length ns → (1 ≤ getD ns k 0) × (getD ns k 0 < prime)
+
+pub sending-done : (P : Params) (fs ns : List ℕ) (o : ℕ) → streamWriting P fs ns o ≡ Done → Sendable P fs ns
+unfolding streamWriting flowAt numberAt
+sending-done P fs ns o e =
+    let h = refuse-done (not (goodParams P)) Param 0 _ e in
+    let k = refuse-done (not (eqb (length fs) (length ns) && leb (length fs) 65536)) Length 0 _ (h .1) in
+    let l = and-true (eqb (length fs) (length ns)) _ (not-false _ (k .0)) in
+    let m = refuse-done (ltb o (length (streamBytes P fs ns))) Length 0 _ (k .1) in
+    let f = refuse-done (not (below (length fs) (flowAt P fs))) Flow 0 _ (m .1) in
+    let n = refuse-done (not (below (length ns) (numberAt ns))) Count 0 Done (f .1) in
+    record {
+      good = not-false _ (h .0);
+      same = eqb-true _ _ (l .0);
+      few = leb-true _ _ (l .1);
+      flows = λ x i. ltb-true _ _ (below-at (length fs) x (flowAt P fs) (not-false _ (f .0)) i);
+      numbers = λ x i.
+          let q = and-true (leb 1 (getD ns x 0)) _ (below-at (length ns) x (numberAt ns) (not-false _ (n .0)) i) in
+          (leb-true _ _ (q .0), ltb-true _ _ (q .1));
+    }
+
+pub sendable-done : (P : Params) (fs ns : List ℕ) (o : ℕ) → Sendable P fs ns → length (streamBytes P fs ns) ≤ o → streamWriting P fs ns o ≡ Done
+unfolding streamWriting flowAt numberAt
+sendable-done P fs ns o h l =
+    let flows = all-below (length fs) (flowAt P fs) (λ k i. lt-ltb _ _ (h .flows k i)) in
+    let numbers = all-below (length ns) (numberAt ns) (λ k i. let n = h .numbers k i in rw (le-leb _ _ (n .0), lt-ltb _ _ (n .1))) in
+    rw (h .good, eq-eqb _ _ (h .same), le-leb _ _ (h .few), le-ltb o _ l, flows, numbers)
+
+-- so are those that were read from a stream, if they are not too many
+pub read-sendable : {P : Params} {bs : List ℕ} {S : Sketch} → StreamDone P bs S → packetsIn bs ≤ 65536 → Sendable P (flowsIn bs) (numbersIn bs)
+read-sendable {P} {bs} {S} done few =
+    record {
+      good = done .opened .good;
+      same = length-flows 38 bs ∙ sym (length-numbers 38 bs);
+      few = rw (length-flows 38 bs) few;
+      flows = λ k l. step-done P false _ _ (afterFirst P bs k S) (done .accepted k (rw (length-flows 38 bs) at l)) .let-in .flow;
+      numbers = λ k l.
+          let told = step-done P false _ _ (afterFirst P bs k S) (done .accepted k (rw (length-numbers 38 bs) at l)) .let-in in
+          (told .low, told .high);
+    }
+
+-- the file of such packets
+module _ (P : Params) (fs ns : List ℕ) (able : Sendable P fs ns) where
+  abbrev file : List ℕ
+  file = streamBytes P fs ns
+
+  abbrev before : List ℕ
+  before = headBytes P ++ packetsBytes fs ns
+
+  abbrev end : List ℕ
+  end = endBytes (length fs)
+
+  file-is : file ≡ before ++ end
+  unfolding streamBytes
+  file-is = sym (append-assoc (headBytes P) (packetsBytes fs ns) end)
+
+  end-place : length before ≡ packetPlace (length fs)
+  end-place = headed-long P (packetsBytes fs ns) ∙ ap (λ (n : ℕ). 38 + n) (packets-long fs ns (able .same))
+
+  -- packet k stands at its place
+  there : (k : ℕ) → k < length fs → There file (packetPlace k) (getD fs k 0) (getD ns k 0)
+  unfolding streamBytes
+  there k l =
+      let m : k < length ns = omega (arith, able .same) in
+      let sofar = packetsBytes (take k fs) (take k ns) in
+      let this = packetBytes (getD fs k 0) (getD ns k 0) in
+      let rest = packetsBytes (drop (suc k) fs) (drop (suc k) ns) in
+      let form : file ≡ (headBytes P ++ sofar) ++ (this ++ (rest ++ end)) = ap (λ (xs : List ℕ). headBytes P ++ (xs ++ end)) (packet-among fs ns k l m) ∙ simp append-assoc in
+      let fl : length (take k fs) ≡ k = length-take-le k fs (omega arith) in
+      let nl : length (take k ns) ≡ k = length-take-le k ns (omega arith) in
+      let long : length (headBytes P ++ sofar) ≡ packetPlace k = headed-long P sofar ∙ ap (λ (n : ℕ). 38 + n) (packets-long (take k fs) (take k ns) (fl ∙ sym nl) ∙ ap (λ (n : ℕ). 9 * n) fl) in
+      packet-written file (headBytes P ++ sofar) (rest ++ end) (packetPlace k) _ _ form long (omega (arith, able .flows k l)) (omega (arith, able .numbers k m .1))
+
+  counted : packetsIn file ≡ length fs
+  unfolding endBytes
+  counted =
+      let long : length file ≡ packetPlace (length fs) + length end = ap length file-is ∙ length-append before end ∙ ap (λ (n : ℕ). n + length end) end-place in
+      let four : getD file (packetPlace (length fs)) 0 ≡ 4 = rw file-is (getD-at before 4 (wordBytes (length fs)) 0 (packetPlace (length fs)) end-place) in
+      records-are 2 packetPlace file (length fs) (omega arith) (λ k l. there k l .whole) (not-kind file (packetPlace (length fs)) 2 (λ q. omega arith))
+
+  ended : endAnswer file (packetPlace (packetsIn file)) (packetsIn file) ≡ Done
+  ended = rw (counted, file-is) (end-written before (packetPlace (length fs)) (length fs) end-place (omega (arith, able .few)))
+
+  -- so its flows and numbers are those that were given
+  pub flows-back : flowsIn file ≡ fs
+  flows-back = ext-getD 0 (flowsIn file) fs (length-flows 38 file ∙ counted) (λ k l. sym (there k (at k l) .flow ∙ flow-is 38 file k (rw (length-flows 38 file) at l)))
+    where
+      at : (k : ℕ) → k < length (flowsIn file) → k < length fs
+      at k l = omega (arith, length-flows 38 file, counted)
+
+  pub numbers-back : numbersIn file ≡ ns
+  numbers-back = ext-getD 0 (numbersIn file) ns (length-numbers 38 file ∙ counted ∙ able .same) (λ k l. sym (there k (at k l) .number ∙ number-is 38 file k (rw (length-numbers 38 file) at l)))
+    where
+      at : (k : ℕ) → k < length (numbersIn file) → k < length fs
+      at k l = omega (arith, length-numbers 38 file, counted)
+
+  -- and reading it into a sketch without damage answers as inserting them does, save for the place
+  opening-is : (c s : ℕ) → openingAnswer P file c s ≡ shapeAnswer P c s
+  unfolding streamBytes shapeAnswer
+  opening-is c s = opening-written P _ c s (able .good) ∙ rw (able .good)
+
+  records-number : (S : Sketch) → numberIn (packetsJudged P file S) ≡ numberIn (packetsAnswer P fs ns S)
+  unfolding packetsJudged
+  records-number S =
+      ap numberIn (first-end (inTurn 0 (packetsIn file) (packetJudged P file S)) _ ended)
+      ∙ packets-judged P file S
+      ∙ ap₂ (λ (fs ns : List ℕ). numberIn (packetsAnswer P fs ns S)) flows-back numbers-back
+
+  past-shape : (S : Sketch) → ((k : ℕ) → k < size P → damagedAt S k ≡ false)
+      → numberIn (refuseAt (size P) (damagedAt S) Damage (packetsJudged P file S)) ≡ numberIn (refuseIf (not (eqb (length fs) (length ns))) Length 0 (packetsAnswer P fs ns S))
+  past-shape S undamaged =
+      ap numberIn (refuse-none (size P) (damagedAt S) Damage (packetsJudged P file S) undamaged)
+      ∙ records-number S
+      ∙ rw (eq-eqb (length fs) (length ns) (able .same))
+
+  pub file-number : (S : Sketch) → ((k : ℕ) → k < size P → damagedAt S k ≡ false) → numberIn (streamAnswer P file S) ≡ numberIn (allAnswer P fs ns S)
+  unfolding streamAnswer allAnswer
+  file-number S undamaged =
+      ap (λ (r : Answer). numberIn (first r (refuseAt (size P) (damagedAt S) Damage (packetsJudged P file S)))) (opening-is (length (S .counts)) (length (S .idsums)))
+      ∙ first-number (shapeAnswer P (length (S .counts)) (length (S .idsums))) _ _ (past-shape S undamaged)
