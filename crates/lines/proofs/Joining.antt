@@ -1,0 +1,54 @@
+-- Texts written one after another, the whole line that they make, and how long the word of an ending is.
+use mathlib.Core.Path.{_≡_, ap, _∙_}
+use mathlib.Core.List.{List, [], _∷_, _++_, append-assoc}
+use Prim.Native.Nat.{ℕ, _+_, _≤_, _<_}
+use native.Mathlib.Omega.{arith}
+use borrow.Author.Tests.{le-leb, lt-leb}
+use lib.ListN.{length, set, length-append}
+use Rattle.files.specs.Bytes.{over}
+use Rattle.files.proofs.Overwriting.{over-store, over-next}
+use Rattle.walk.specs.declared.Ending.{Ending}
+use Rattle.walk.specs.declared.Ending.the-variants.{Clean, Stuck, Spent, NoInverse, Range, Full}
+use Rattle.walk.specs.Endings.{endingWord}
+use Rattle.lines.specs.Texts.{Placed}
+use Rattle.lines.specs.Lines.{Lined}
+
+-- one byte, and a text right after another
+pub placed-byte : (out : List ℕ) (at b : ℕ) → at < length out → Placed (b ∷ []) out at (at + 1) (set out at b)
+placed-byte out at b h = record { next = omega arith; bytes = over-store out at b h }
+
+pub then : {one two out now last : List ℕ} {at next r : ℕ} → at ≤ length out → Placed one out at next now → Placed two now next r last → Placed (one ++ two) out at r last
+then {one = one} {two = two} {out = out} {at = at} {next = next} h p q =
+    record {
+      next = omega (arith, length-append one two);
+      bytes = over-next out one two at next (p .bytes) (q .bytes) h (p .next);
+    }
+
+-- a line from the start on, where there is room for 64 bytes, of three parts or of four, and none where there is no room
+lined : {text xs last : List ℕ} {r : ℕ} (line : List ℕ) → 64 ≤ length xs → Placed text xs 0 r last → text ≡ line → Lined line xs r last
+lined {xs = xs} line h p e =
+    let t = le-leb 64 (length xs) h in
+    record { long = rw t (omega (arith, ap length e)); bytes = rw t (p .bytes ∙ ap (over xs 0) e) }
+
+pub line-of-three : {one two three xs ys zs last : List ℕ} {i j r : ℕ} → 64 ≤ length xs
+    → Placed one xs 0 i ys → Placed two ys i j zs → Placed three zs j r last → Lined (one ++ (two ++ three)) xs r last
+line-of-three {one = one} {two = two} {three = three} h p q s =
+    lined _ h (then (omega arith) (then (omega arith) p q) s) (append-assoc one two three)
+
+pub line-of-four : {one two three four xs ys zs now last : List ℕ} {i j k r : ℕ} → 64 ≤ length xs
+    → Placed one xs 0 i ys → Placed two ys i j zs → Placed three zs j k now → Placed four now k r last → Lined (one ++ (two ++ (three ++ four))) xs r last
+line-of-four {one = one} {two = two} {three = three} {four = four} h p q s t =
+    let start = then (omega arith) (then (omega arith) p q) s in
+    lined _ h (then (omega arith) start t) (append-assoc (one ++ two) three four ∙ append-assoc one two (three ++ four))
+
+pub not-lined : (xs line : List ℕ) → length xs < 64 → Lined line xs 0 xs
+not-lined xs line h = let t = lt-leb 64 (length xs) h in record { long = rw t; bytes = rw t }
+
+-- the longest word of an ending
+pub length-ending : (e : Ending) → length (endingWord e) ≤ 10
+length-ending Clean = omega arith
+length-ending Stuck = omega arith
+length-ending Spent = omega arith
+length-ending NoInverse = omega arith
+length-ending Range = omega arith
+length-ending Full = omega arith

@@ -1,0 +1,4 @@
+-- The laws of decimal numbers and of lines, which the proofs of this crate cite, and examples of both.
+pub mod Digits
+pub mod Joining
+pub mod Examples

@@ -1,0 +1,78 @@
+// The lines of the report. A line is written at the start of the output and its length given. No line is longer than 64 bytes: where
+// the output has no room for so many, nothing is written and 0 given.
+ghost use mathlib.Core.Path.{_≡_};
+ghost use Rattle.params.specs.Answers.{numberOf};
+ghost use Rattle.lines.specs.Lines.{lossLine, leftLine, endLine, refusedLine, Lined};
+use crate::text::put;
+use crate::text::put_ending;
+use crate::text::put_named;
+use crate::text::put_named_signed;
+use params::Why;
+use walk::Ending;
+
+// loss FLOW COUNT
+pub fn loss(out: &mut [u8], flow: u32, count: i32) -> usize
+    ensures { λ r. ⌜ Lined (lossLine flow count) (now (out .entry)) r (now (out .exit)) ⌝ }
+{
+    if out.len() < 64 {
+        return 0;
+    }
+    let mut at = put_named(out, 0, b"loss ", flow as u64);
+    at = put_named_signed(out, at, b" ", count as i64);
+    put(out, at, b"\n")
+}
+
+// left INDEX COUNT IDSUM
+pub fn left(out: &mut [u8], index: u32, count: i32, idsum: u32) -> usize
+    ensures { λ r. ⌜ Lined (leftLine index count idsum) (now (out .entry)) r (now (out .exit)) ⌝ }
+{
+    if out.len() < 64 {
+        return 0;
+    }
+    let mut at = put_named(out, 0, b"left ", index as u64);
+    at = put_named_signed(out, at, b" ", count as i64);
+    at = put_named(out, at, b" ", idsum as u64);
+    put(out, at, b"\n")
+}
+
+// end ENDING pops N net N
+pub fn end(out: &mut [u8], ending: Ending, pops: u32, net: i64) -> usize
+    ensures { λ r. ⌜ Lined (endLine ending pops net) (now (out .entry)) r (now (out .exit)) ⌝ }
+{
+    if out.len() < 64 {
+        return 0;
+    }
+    let mut at = put(out, 0, b"end ");
+    at = put_ending(out, at, ending);
+    at = put_named(out, at, b" pops ", pops as u64);
+    at = put_named_signed(out, at, b" net ", net);
+    put(out, at, b"\n")
+}
+
+fn number(why: Why) -> u64
+    ensures { λ r. ⌜ r ≡ numberOf why ⌝ }
+{
+    match why {
+        Why::Param => 1,
+        Why::Length => 2,
+        Why::Flow => 3,
+        Why::Count => 4,
+        Why::Damage => 5,
+        Why::Range => 6,
+        Why::Mismatch => 7,
+        Why::Form => 8,
+    }
+}
+
+// refused NUMBER at BYTE
+pub fn refused(out: &mut [u8], why: Why, byte: usize) -> usize
+    ensures { λ r. ⌜ Lined (refusedLine why byte) (now (out .entry)) r (now (out .exit)) ⌝ }
+{
+    if out.len() < 64 {
+        return 0;
+    }
+    let told = number(why);
+    let mut at = put_named(out, 0, b"refused ", told);
+    at = put_named(out, at, b" at ", byte as u64);
+    put(out, at, b"\n")
+}
