@@ -1,0 +1,175 @@
+-- An input that the desk accepts is two stream files, one directly after the other, and the desk's sketches are what their reader makes of them.
+use mathlib.Core.Path.{_≡_, refl, sym, ap, _∙_}
+use mathlib.Core.Bool.{Bool, true, false, not, _&&_, true≢false}
+use mathlib.Core.List.{List}
+use Prim.Native.Nat.{ℕ, _+_, _*_, _≤_}
+use native.Mathlib.Omega.{arith}
+use borrow.Author.Tests.{eq-eqb, not-false}
+use lib.Dec.{eqb}
+use lib.ListN.{length, getD, take, drop, length-drop}
+use lib.Seq.{length-take-le, getD-take, getD-drop, drop-drop}
+use Rattle.params.specs.declared.params.Params.{Params}
+use Rattle.params.specs.declared.answers.Why.the-variants.{Param, Mismatch, Form}
+use Rattle.params.specs.declared.answers.Answer.the-variants.{Done}
+use Rattle.params.specs.Answers.{kept}
+use Rattle.params.specs.Params.{goodParams, samePair, sameParams}
+use Rattle.sketch.specs.Sketch.{Sketch, zeros}
+use Rattle.params.proofs.Searches.{and-true, all-below}
+use Rattle.params.proofs.Judging.{first-done, refuse-done}
+use Rattle.files.specs.Bytes.{word}
+use Rattle.files.specs.Records.{bodyLength, recordAt}
+use Rattle.files.specs.Heads.{paramsIn, isHead, headAnswer}
+use Rattle.files.proofs.RecordTrips.{record-whole}
+use Rattle.desk.proofs.Whole.{whole-record}
+use Rattle.streamfile.specs.Streams.{StreamRead}
+use Rattle.desk.specs.declared.states.Stage.{Stage}
+use Rattle.desk.specs.declared.states.Stage.the-variants.{Packets, Head, Over, Refused as Stopped}
+use Rattle.desk.specs.declared.states.Fed.{Fed}
+use Rattle.desk.specs.Desk.{overDue, fewEnough, beginAnswer, beginOf, started, afterTaken, secondAnswer, packetsSketch, inReach, Feeds, finishAnswer}
+use Rattle.desk.proofs.InTheRest.{whole-at, word-at}
+use Rattle.desk.proofs.Taking.{all-taken}
+use Rattle.desk.proofs.SameBytes.{fed-is-read}
+use Rattle.desk.proofs.BothStreams.{firstNumber, secondFile, secondBody, secondNumber, Passed, passed}
+
+-- parameters are the same as themselves
+same-self : (Q : Params) → sameParams Q Q ≡ true
+unfolding sameParams samePair
+same-self Q =
+    let same : (n : ℕ) → eqb n n ≡ true = λ n. eq-eqb n n refl in
+    rw (same (Q .d), same (Q .m)) (all-below 4 (samePair Q Q) (λ k l. rw (same (getD (Q .a) k 0), same (getD (Q .b) k 0))))
+
+-- the parameters in a first part of the input that holds the head
+module _ (xs : List ℕ) (e : ℕ) (long : 38 ≤ e) where
+  word-in-part : (at : ℕ) → at + 4 ≤ 38 → word (take e xs) at ≡ word xs at
+  unfolding word
+  word-in-part at h =
+      rw (getD-take e xs at 0 (omega arith), getD-take e xs (at + 1) 0 (omega arith), getD-take e xs (at + 2) 0 (omega arith), getD-take e xs (at + 3) 0 (omega arith))
+
+  params-in-part : paramsIn (take e xs) ≡ paramsIn xs
+  unfolding paramsIn
+  params-in-part =
+      let byte = getD-take e xs 1 0 (omega arith) in
+      let at : (i : ℕ) → i + 4 ≤ 38 → word (take e xs) i ≡ word xs i = word-in-part in
+      rw (
+        byte,
+        at 2 (omega arith),
+        at 6 (omega arith),
+        at 14 (omega arith),
+        at 22 (omega arith),
+        at 30 (omega arith),
+        at 10 (omega arith),
+        at 18 (omega arith),
+        at 26 (omega arith),
+        at 34 (omega arith),
+      )
+
+-- the input is two streams, each read into a fresh sketch
+pub record TwoStreams (P : Params) (input : List ℕ) (up down : Sketch) : Type 0 where
+  pub split : ℕ
+  pub within : split ≤ length input
+  pub first-read : StreamRead P (take split input) (zeros P) Done up
+  pub second-read : StreamRead P (drop split input) (zeros P) Done down
+
+-- the first head is one of a file, and gives the parameters
+record Begun (P : Params) (input : List ℕ) : Type 0 where
+  head : isHead (recordAt input 0) ≡ true
+  good : goodParams (paramsIn input) ≡ true
+  params : P ≡ paramsIn input
+
+begun : (P : Params) (input : List ℕ) → beginOf input ≡ record { answer = Done; params = P } → Begun P input
+unfolding beginAnswer headAnswer kept
+begun P input e =
+    let done : beginAnswer input ≡ Done = ap (λ h. h .answer) e in
+    let h = refuse-done (not (isHead (recordAt input 0))) Form 0 _ (first-done _ _ done .0) in
+    record {
+      head = not-false _ (h .0);
+      good = not-false _ (refuse-done (not (goodParams (paramsIn input))) Param 0 Done (h .1) .0);
+      params = sym (ap (λ h. h .params) e) ∙ rw done;
+    }
+
+module _ (P : Params) (input : List ℕ) (b : Begun P input) (p : Passed P (drop 38 input) (zeros P) (zeros P)) where
+  abbrev xs : List ℕ
+  xs = drop 38 input
+
+  abbrev n : ℕ
+  n = firstNumber P xs (zeros P) (zeros P)
+
+  abbrev file : List ℕ
+  file = secondFile P xs (zeros P) (zeros P)
+
+  abbrev body : List ℕ
+  body = secondBody P xs (zeros P) (zeros P)
+
+  abbrev m : ℕ
+  m = secondNumber P xs (zeros P) (zeros P)
+
+  good-params : goodParams P ≡ true
+  good-params = rw (b .params) (b .good)
+
+  input-long : 38 ≤ length input
+  unfolding bodyLength
+  input-long = omega (arith, whole-record input 0 1 (b .head) .1)
+
+  first-long : 9 * n + 5 ≤ length xs
+  unfolding bodyLength
+  first-long = omega (arith, whole-record (drop (9 * n) xs) 0 4 (p .first-end) .1, length-drop (9 * n) xs)
+
+  split-within : 38 + (9 * n + 5) ≤ length input
+  split-within = omega (arith, first-long, input-long, length-drop 38 input)
+
+  first-file : StreamRead P (take (38 + (9 * n + 5)) input) (zeros P) Done (afterTaken P xs (zeros P))
+  unfolding bodyLength
+  first-file =
+      let e : ℕ = 38 + (9 * n + 5) in
+      let long : length (take e input) ≡ e = length-take-le e input split-within in
+      let w = whole-record input 0 1 (b .head) in
+      let params : paramsIn (take e input) ≡ paramsIn input = params-in-part input e (omega arith) in
+      fed-is-read P (take e input) xs n long first-long (λ j l. getD-take e input (38 + j) 0 (omega arith) ∙ sym (getD-drop 38 input j 0))
+      (sym (all-taken P xs (zeros P) (p .first-done) .number)) (whole-at xs (9 * n) 4 (omega arith) (p .first-end)) (sym (word-at xs (9 * n) 1) ∙ p .first-said)
+      (record-whole (take e input) 0 1 (getD-take e input 0 0 (omega arith) ∙ w .0) (omega arith) (omega arith))
+      good-params (ap goodParams params ∙ b .good) (ap (sameParams P) (params ∙ sym (b .params)) ∙ same-self P) (p .first-done)
+
+  second-long : length file ≡ 38 + (9 * m + 5)
+  unfolding bodyLength
+  second-long =
+      let w = whole-record (drop (9 * m) body) 0 4 (p .second-end) .1 in
+      omega (arith, w, length-drop (9 * m) body, length-drop 38 file, p .nothing-more, length-drop (9 * m + 5) body)
+
+  second-file : StreamRead P file (zeros P) Done (afterTaken P body (zeros P))
+  unfolding bodyLength secondAnswer
+  second-file =
+      let h = refuse-done (not (goodParams (paramsIn file) && fewEnough (paramsIn file))) Param 0 _ (p .second-same) in
+      let k = refuse-done (not (sameParams P (paramsIn file))) Mismatch 0 Done (h .1) in
+      fed-is-read P file body m second-long (omega (arith, second-long, length-drop 38 file)) (λ j l. sym (getD-drop 38 file j 0))
+      (sym (all-taken P body (zeros P) (p .second-done) .number)) (whole-at body (9 * m) 4 (omega arith) (p .second-end)) (sym (word-at body (9 * m) 1) ∙ p .second-said)
+      (p .second-head) good-params (and-true (goodParams (paramsIn file)) (fewEnough (paramsIn file)) (not-false _ (h .0)) .0) (not-false _ (k .0)) (p .second-done)
+
+  two-streams : TwoStreams P input (afterTaken P xs (zeros P)) (afterTaken P body (zeros P))
+  two-streams =
+      record {
+        split = 38 + (9 * n + 5);
+        within = split-within;
+        first-read = first-file;
+        second-read = rw (← drop-drop (9 * n + 5) 38 input) second-file;
+      }
+
+-- the end of the input finds that nothing more was due
+finished-over : (g : Stage) (at : ℕ) → finishAnswer g at ≡ Done → g ≡ Over
+finished-over Over at e = refl
+finished-over (Stopped w) at e = cc
+finished-over Packets at e = cc
+finished-over Head at e = cc
+
+pub accepted : (P : Params) (input : List ℕ) (r : Fed) (up down : Sketch) → beginOf input ≡ record { answer = Done; params = P }
+    → Feeds P (drop 38 input) (zeros P) (zeros P) started r up down → finishAnswer (r .state .stage) (r .state .at) ≡ Done → TwoStreams P input up down
+unfolding packetsSketch
+accepted P input r up down head fed done = at (inReach (drop 38 input) started) refl
+  where
+    over : (r .state .stage) ≡ Over
+    over = finished-over (r .state .stage) (r .state .at) done
+
+    at : (b : Bool) → inReach (drop 38 input) started ≡ b → TwoStreams P input up down
+    at false far = absurd (true≢false (sym (ap overDue over) ∙ ap (λ s. overDue (s .stage)) (rw far at (fed .state))))
+    at true near =
+        let p = passed P (drop 38 input) (zeros P) (zeros P) (sym (ap (λ s. s .stage) (rw near at (fed .state))) ∙ over) in
+        rw (rw near at (fed .upstream), rw near at (fed .downstream) ∙ p .1) (two-streams P input (begun P input head) (p .0))

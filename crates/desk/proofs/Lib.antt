@@ -1,0 +1,20 @@
+-- The laws of the desk, which the proofs of its functions cite, and its theorems: `Accepted`, `FirstHead` and `Pieces`.
+pub mod Whole
+pub mod Taking
+pub mod HeadAnswers
+pub mod WhatIsDue
+pub mod Reach
+pub mod Onward
+pub mod InTheRest
+pub mod SameBytes
+pub mod Back
+pub mod BothStreams
+pub mod Accepted
+pub mod MoreBytes
+pub mod FirstHead
+pub mod OneRecord
+pub mod Reaching
+pub mod StagesReach
+pub mod PacketsReach
+pub mod AtRest
+pub mod Pieces

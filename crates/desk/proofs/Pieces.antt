@@ -1,0 +1,108 @@
+-- The input may come in pieces: feeding one, and then what it left with the next behind it, is feeding both at once.
+use mathlib.Core.Path.{_≡_, ap}
+use mathlib.Core.Bool.{true, false}
+use mathlib.Core.List.{List, _++_}
+use Prim.Native.Nat.{ℕ, _+_, _-_}
+use native.Mathlib.Omega.{arith}
+use lib.ListN.{drop, length-append, length-drop}
+use Rattle.params.specs.declared.params.Params.{Params}
+use Rattle.sketch.specs.Sketch.{Sketch}
+use Rattle.desk.specs.declared.states.State.{State}
+use Rattle.desk.specs.declared.states.Fed.{Fed}
+use Rattle.desk.specs.Desk.{packetsSketch, rest, inReach, firstPackets, firstEnd, secondHead, secondPackets, secondEnd, fedState, Feeds}
+use Rattle.desk.proofs.Reach.{reached, in-reach}
+use Rattle.desk.proofs.Onward.{Onward, packets-onward, end-onward, head-onward, over-onward, onward-then}
+use Rattle.desk.proofs.OneRecord.{Moment, waits}
+use Rattle.desk.proofs.Reaching.{Reaches, then, one-end, with-more, rest-rest}
+use Rattle.desk.proofs.StagesReach.{end-reach, head-reach, over-reach}
+use Rattle.desk.proofs.PacketsReach.{packets-reach}
+use Rattle.desk.proofs.AtRest.{fed-waits}
+
+abbrev pub moment : State → Sketch → Sketch → Moment
+moment s up down = record { state = s; up = up; down = down }
+
+-- feeding comes to its state and its sketches record by record; the states after each stage are named as in the code
+module _ (P : Params) (bs : List ℕ) (up down : Sketch) (s : State) where
+  abbrev a : State
+  a = firstPackets P bs up down s
+
+  abbrev b : State
+  b = firstEnd P bs up down s
+
+  abbrev c : State
+  c = secondHead P bs up down s
+
+  abbrev d : State
+  d = secondPackets P bs up down s
+
+  abbrev e : State
+  e = secondEnd P bs up down s
+
+  abbrev f : State
+  f = fedState P bs up down s
+
+  abbrev up-left : Sketch
+  up-left = packetsSketch false P bs up s
+
+  abbrev down-left : Sketch
+  down-left = packetsSketch true P (rest s c bs) down c
+
+  -- one stage more
+  further : (t u : State) (k l : Moment) → Onward bs s t → Onward (rest s t bs) t u → Reaches P bs (moment s up down) (rest s t bs) k
+      → Reaches P (rest s t bs) k (rest t u (rest s t bs)) l → Onward bs s u × Reaches P bs (moment s up down) (rest s u bs) l
+  further t u k l h m r q = (onward-then bs s t u h m, then r (rw (rest-rest bs s t u h m) at q))
+
+  fed-reach : Onward bs s f × Reaches P bs (moment s up down) (rest s f bs) (moment f up-left down-left)
+  fed-reach =
+      let at-a = packets-reach P false bs (moment s up down) in
+      let at-b = further a b _ _ (packets-onward false P bs up s) (end-onward (rest s a bs) a) at-a (end-reach P (rest s a bs) (moment a up-left down)) in
+      let at-c = further b c _ _ (at-b .0) (head-onward P (rest s b bs) b) (at-b .1) (head-reach P (rest s b bs) (moment b up-left down)) in
+      let at-d = further c d _ _ (at-c .0) (packets-onward true P (rest s c bs) down c) (at-c .1) (packets-reach P true (rest s c bs) (moment c up-left down)) in
+      let at-e = further d e _ _ (at-d .0) (end-onward (rest s d bs) d) (at-d .1) (end-reach P (rest s d bs) (moment d up-left down-left)) in
+      further e f _ _ (at-e .0) (over-onward (rest s e bs) e) (at-e .1) (over-reach P (rest s e bs) (moment e up-left down-left))
+
+-- what feeding comes to: from s to t, where more bytes are waited for
+record Fully (P : Params) (bs : List ℕ) (up down : Sketch) (s t : State) (up' down' : Sketch) : Type 0 where
+  onward : Onward bs s t
+  come : Reaches P bs (moment s up down) (rest s t bs) (moment t up' down')
+  waited : waits (rest s t bs) t ≡ true
+
+all-fed : (P : Params) (bs : List ℕ) (up down : Sketch) (s : State) → Fully P bs up down s (f P bs up down s) (up-left P bs up down s) (down-left P bs up down s)
+all-fed P bs up down s = let h = fed-reach P bs up down s in record { onward = h .0; come = h .1; waited = fed-waits P bs up down s }
+
+fully : {P : Params} {bs : List ℕ} {up down : Sketch} {s : State} {r : Fed} {up' down' : Sketch} → inReach bs s ≡ true → Feeds P bs up down s r up' down'
+    → Fully P bs up down s (r .state) up' down'
+fully {P} {bs} {up} {down} {s} near fed =
+    rw (rw near at (fed .state), rw near at (fed .upstream), rw near at (fed .downstream)) (all-fed P bs up down s)
+
+-- xs are fed, and then what they leave, with ys behind
+module _ {P : Params} {xs : List ℕ} {up down : Sketch} {s : State} {r : Fed} {up₁ down₁ : Sketch} (ys : List ℕ) (near : inReach (xs ++ ys) s ≡ true)
+    (one : Feeds P xs up down s r up₁ down₁) where
+  abbrev behind : List ℕ
+  behind = drop (r .used) xs ++ ys
+
+  first-fully : Fully P xs up down s (r .state) up₁ down₁
+  first-fully = let h = reached (xs ++ ys) s near in fully (in-reach xs s (omega (arith, length-append xs ys))) one
+
+  second-near : inReach behind (r .state) ≡ true
+  second-near =
+      let h = reached (xs ++ ys) s near in
+      in-reach behind (r .state)
+      (omega (arith, first-fully .onward, one .used, length-append xs ys, length-append (drop (r .used) xs) ys, length-drop (r .used) xs))
+
+  -- that is feeding xs ++ ys: the state and the sketches are the same, and so many bytes were used in all
+  pub pieces : {r₂ : Fed} {up₂ down₂ : Sketch} → Feeds P (drop (r .used) xs ++ ys) up₁ down₁ (r .state) r₂ up₂ down₂
+      → Feeds P (xs ++ ys) up down s record { state = r₂ .state; used = r .used + r₂ .used } up₂ down₂
+  pieces {r₂} {up₂} {down₂} two =
+      let h = first-fully in
+      let k = fully second-near two in
+      let m = all-fed P (xs ++ ys) up down s in
+      let left : drop (r .used) xs ≡ rest s (r .state) xs = ap (λ (i : ℕ). drop i xs) (one .used) in
+      let come : Reaches P (xs ++ ys) (moment s up down) behind (moment (r .state) up₁ down₁) = rw left (with-more ys (h .come)) in
+      let same : moment (r₂ .state) up₂ down₂ ≡ moment (f P (xs ++ ys) up down s) (up-left P (xs ++ ys) up down s) (down-left P (xs ++ ys) up down s) = one-end (then come (k .come)) (m .come) (k .waited) (m .waited) in
+      record {
+        state = rw near (ap (λ k. k .state) same);
+        used = omega (arith, one .used, two .used, h .onward, k .onward);
+        upstream = rw near (ap (λ k. k .up) same);
+        downstream = rw near (ap (λ k. k .down) same);
+      }

@@ -1,0 +1,121 @@
+-- A stream file whose body has the bytes of a list at hand: what was taken from the list is what the stream's reader reads.
+use mathlib.Core.Path.{_≡_, refl, sym, ap, _∙_}
+use mathlib.Core.Bool.{true, false}
+use mathlib.Core.List.{List}
+use Prim.Native.Nat.{ℕ, _+_, _*_, _≤_, _<_}
+use native.Mathlib.Omega.{arith}
+use borrow.Author.Tests.{eq-eqb}
+use lib.IntN.{pos}
+use lib.ListN.{length, getD, length-replicate, getD-replicate}
+use Rattle.params.specs.declared.params.Params.{Params}
+use Rattle.params.specs.declared.answers.Why.the-variants.{Damage}
+use Rattle.params.specs.declared.answers.Answer.the-variants.{Done}
+use Rattle.params.specs.Lists.{from}
+use Rattle.params.specs.Answers.{kept}
+use Rattle.params.specs.Params.{size, goodParams, sameParams, lengthsAnswer}
+use Rattle.sketch.specs.Buckets.{inLimits}
+use Rattle.sketch.specs.Sketch.{Sketch, zeros, damagedAt}
+use Rattle.sketch.specs.Packets.{after}
+use Rattle.sketch.proofs.Tables.{from-same}
+use Rattle.params.proofs.Judging.{first-passed, refuse-none}
+use Rattle.sketch.proofs.ManyPackets.{after-end}
+use Rattle.files.specs.Bytes.{word}
+use Rattle.files.specs.Records.{bodyLength, recordAt, isKind}
+use Rattle.files.specs.Heads.{paramsIn, isHead, openingAnswer}
+use Rattle.files.specs.Turns.{toldAt, packetFrom, packetPlace, endAnswer}
+use Rattle.files.proofs.EndStages.{ended}
+use Rattle.files.proofs.RecordTrips.{record-whole, not-kind}
+use Rattle.files.proofs.Turning.{records-are}
+use Rattle.desk.proofs.Whole.{whole-record}
+use Rattle.files.proofs.Turning.{whole-within, in-turn-done}
+use Rattle.streamfile.specs.Streams.{packetsFrom, flowFrom, numberFrom, flowsFrom, numbersFrom, packetsIn, flowsIn, numbersIn, packetJudged, packetsJudged, streamAnswer, StreamRead}
+use Rattle.streamfile.proofs.Found.{length-flows, length-numbers}
+use Rattle.desk.specs.Desk.{packetTold, taken, takenAnswer, afterTaken}
+use Rattle.desk.proofs.Taking.{AllTaken, all-taken}
+
+-- a fresh sketch has the right lengths and no damage
+module _ (P : Params) where
+  fresh-lengths : lengthsAnswer P (length (zeros P .counts)) (length (zeros P .idsums)) ≡ Done
+  unfolding lengthsAnswer zeros
+  fresh-lengths = rw (eq-eqb _ _ (length-replicate (size P) (pos 0)), eq-eqb _ _ (length-replicate {A = ℕ} (size P) 0))
+
+  fresh-sound : (k : ℕ) → k < size P → damagedAt (zeros P) k ≡ false
+  unfolding zeros inLimits
+  fresh-sound k l = rw (getD-replicate (size P) k (pos 0) (pos 0) l, getD-replicate {A = ℕ} (size P) k 0 0 l)
+
+-- the file fs is a head, n packets and an end, and what stands after the head is what stands in xs
+module _ (P : Params) (fs xs : List ℕ) (n : ℕ) (long : length fs ≡ 38 + (9 * n + 5)) (room : 9 * n + 5 ≤ length xs)
+    (same : (j : ℕ) → j < 9 * n + 5 → getD fs (38 + j) 0 ≡ getD xs j 0) where
+  word-same : (at j : ℕ) → at ≡ 38 + j → j + 4 ≤ 9 * n + 5 → word fs at ≡ word xs j
+  unfolding word
+  word-same at j e h =
+      let byte : (i : ℕ) → i < 4 → getD fs (at + i) 0 ≡ getD xs (j + i) 0 = λ i l. ap (λ (k : ℕ). getD fs k 0) (omega arith) ∙ same (j + i) (omega arith) in
+      let first : getD fs at 0 ≡ getD xs j 0 = ap (λ (k : ℕ). getD fs k 0) e ∙ same j (omega arith) in
+      rw (first, byte 1 (omega arith), byte 2 (omega arith), byte 3 (omega arith))
+
+  whole-same : (kind at j : ℕ) → at ≡ 38 + j → 0 < bodyLength kind → j + 1 + bodyLength kind ≤ 9 * n + 5 → isKind kind (recordAt xs j) ≡ true → isKind kind (recordAt fs at) ≡ true
+  whole-same kind at j e p h w =
+      record-whole fs at kind (ap (λ (k : ℕ). getD fs k 0) e ∙ same j (omega arith) ∙ whole-record xs j kind w .0) p (omega (arith, long))
+
+  -- xs has n packets at hand and then an end
+  module _ (number : packetsFrom 0 xs ≡ n) (end : isKind 4 (recordAt xs (9 * n)) ≡ true) (said : word xs (9 * n + 1) ≡ n) where
+    end-same : isKind 4 (recordAt fs (packetPlace n)) ≡ true
+    unfolding bodyLength
+    end-same = whole-same 4 (packetPlace n) (9 * n) refl (omega arith) (omega arith) end
+
+    number-same : packetsIn fs ≡ n
+    unfolding bodyLength
+    number-same =
+        records-are 2 packetPlace fs n (omega arith)
+        (λ k l. whole-same 2 (packetPlace k) (packetFrom 0 k) (omega arith) (omega arith) (omega arith) (whole-within 2 (packetFrom 0) xs k (omega arith)))
+        (not-kind fs (packetPlace n) 2 (λ e. omega (arith, whole-record fs (packetPlace n) 4 end-same .0)))
+
+    flow-same : (k : ℕ) → k < n → flowFrom 38 fs k ≡ flowFrom 0 xs k
+    flow-same k l = word-same (packetPlace k + 1) (packetFrom 0 k + 1) (omega arith) (omega arith)
+
+    packets-same : (k : ℕ) → k < n → numberFrom 38 fs k ≡ numberFrom 0 xs k
+    packets-same k l = word-same (packetPlace k + 5) (packetFrom 0 k + 5) (omega arith) (omega arith)
+
+    flows-same : flowsIn fs ≡ flowsFrom 0 xs
+    unfolding flowsFrom
+    flows-same =
+        ap (λ (m : ℕ). from 0 m (flowFrom 38 fs)) number-same
+        ∙ from-same 0 n (flowFrom 38 fs) (flowFrom 0 xs) (λ j a b. flow-same j (omega arith))
+        ∙ ap (λ (m : ℕ). from 0 m (flowFrom 0 xs)) (sym number)
+
+    numbers-same : numbersIn fs ≡ numbersFrom 0 xs
+    unfolding numbersFrom
+    numbers-same =
+        ap (λ (m : ℕ). from 0 m (numberFrom 38 fs)) number-same
+        ∙ from-same 0 n (numberFrom 38 fs) (numberFrom 0 xs) (λ j a b. packets-same j (omega arith))
+        ∙ ap (λ (m : ℕ). from 0 m (numberFrom 0 xs)) (sym number)
+
+    module _ (S : Sketch) (done : AllTaken P xs S) where
+      judged-done : (k : ℕ) → k < n → packetJudged P fs S k ≡ Done
+      unfolding packetJudged toldAt packetTold
+      judged-done k l = rw (flow-same k l, packets-same k l, flows-same, numbers-same, done .each k (omega arith))
+
+      records-done : packetsJudged P fs S ≡ Done
+      unfolding packetsJudged
+      records-done =
+          first-passed _ _ (in-turn-done (packetsIn fs) (packetJudged P fs S) (λ j l. judged-done j (omega (arith, number-same))))
+          ∙ ap (λ (m : ℕ). endAnswer fs (packetPlace m) m) number-same
+          ∙ sym (ended fs (packetPlace n) n end-same (word-same (packetPlace n + 1) (9 * n + 1) (omega arith) (omega arith) ∙ said) (omega arith))
+
+      all-same : afterTaken P xs S ≡ after P (flowsIn fs) (numbersIn fs) S
+      unfolding afterTaken
+      all-same =
+          rw (flows-same, numbers-same)
+          (after-end P (flowsFrom 0 xs) (numbersFrom 0 xs) (taken P xs S) S (omega (arith, length-flows 0 xs, done .number)) (omega (arith, length-numbers 0 xs, done .number)))
+
+    -- so a head with the given parameters makes fs a stream that is read into a fresh sketch
+    pub fed-is-read : isHead (recordAt fs 0) ≡ true → goodParams P ≡ true → goodParams (paramsIn fs) ≡ true → sameParams P (paramsIn fs) ≡ true
+        → takenAnswer P xs (zeros P) ≡ Done → StreamRead P fs (zeros P) Done (afterTaken P xs (zeros P))
+    unfolding streamAnswer openingAnswer kept
+    fed-is-read head good goods alike done =
+        let all = all-taken P xs (zeros P) done in
+        let opened : openingAnswer P fs (length (zeros P .counts)) (length (zeros P .idsums)) ≡ Done = rw (head, goods, good, alike) (fresh-lengths P) in
+        record {
+          answer = sym (first-passed _ _ opened ∙ refuse-none (size P) (damagedAt (zeros P)) Damage _ (fresh-sound P) ∙ records-done (zeros P) all);
+          after-all = all-same (zeros P) all;
+        }

@@ -1,0 +1,80 @@
+-- What is due and what stands there: a stage of the reading by what is due, and a record by what was found of it.
+use mathlib.Core.Path.{_≡_, refl, _∙_}
+use mathlib.Core.Bool.{Bool, true, false, not, cond, _&&_}
+use mathlib.Core.List.{List, [], _∷_}
+use Prim.Native.Nat.{ℕ}
+use native.Mathlib.Omega.{arith}
+use types.Run.{OneOf, miss}
+use denote.Enum.Declared.{tagOf}
+use lib.Dec.{eqb, leb}
+use lib.ListN.{length, getD}
+use Rattle.params.specs.declared.params.Params.{Params}
+use Rattle.files.specs.declared.fields.End.{End}
+use Rattle.files.specs.declared.fields.End.the-variants.{Of as EndOf}
+use Rattle.files.specs.Bytes.{word}
+use Rattle.files.specs.Records.{recordAt, isKind}
+use Rattle.files.specs.Layout.{endAt}
+use Rattle.files.proofs.fields.End.{the-type as end-type}
+use Rattle.desk.specs.declared.states.Stage.{Stage}
+use Rattle.desk.specs.declared.states.Stage.the-variants.{Packets, Head, Over, Refused as Stopped}
+use Rattle.desk.specs.declared.states.State.{State}
+use Rattle.desk.specs.declared.stages.Due.{Due}
+use Rattle.desk.specs.declared.stages.Due.the-variants.{Here, NotYet, Other}
+use Rattle.desk.specs.Desk.{packetsDue, headDue, overDue, dueOf, dueEnd, endState, endStage, headState, headStage}
+use Rattle.desk.proofs.states.Stage.{the-type}
+
+-- another stage than the one that a `let .. else` asks for
+pub not-packets : (g : Stage) → OneOf (1 ∷ 2 ∷ 3 ∷ []) (tagOf the-type g) → packetsDue g ≡ false
+not-packets Packets h = absurd (miss (1 ∷ 2 ∷ 3 ∷ []) 0 tt h)
+not-packets Head h = refl
+not-packets Over h = refl
+not-packets (Stopped w) h = refl
+
+pub not-head : (g : Stage) → OneOf (0 ∷ 2 ∷ 3 ∷ []) (tagOf the-type g) → headDue g ≡ false
+not-head Packets h = refl
+not-head Head h = absurd (miss (0 ∷ 2 ∷ 3 ∷ []) 1 tt h)
+not-head Over h = refl
+not-head (Stopped w) h = refl
+
+pub not-over : (g : Stage) → OneOf (0 ∷ 1 ∷ 3 ∷ []) (tagOf the-type g) → overDue g ≡ false
+not-over Packets h = refl
+not-over Head h = refl
+not-over Over h = absurd (miss (0 ∷ 1 ∷ 3 ∷ []) 2 tt h)
+not-over (Stopped w) h = refl
+
+-- a record that was found to be there is whole
+pub here-whole : (kind : ℕ) (bs : List ℕ) → dueOf kind bs ≡ Here → isKind kind (recordAt bs 0) ≡ true
+unfolding dueOf
+here-whole kind bs e = at (leb (length bs) 0) (isKind kind (recordAt bs 0)) (eqb (getD bs 0 0) kind) refl e
+  where
+    at : (x y z : Bool) → isKind kind (recordAt bs 0) ≡ y → cond x NotYet (cond y Here (cond z NotYet Other)) ≡ Here → isKind kind (recordAt bs 0) ≡ true
+    at true y z q h = absurd (let w : _≡_ {A = ℕ} 0 1 = cc in omega arith)
+    at false true z q h = q
+    at false false true q h = absurd (let w : _≡_ {A = ℕ} 0 1 = cc in omega arith)
+    at false false false q h = absurd (let w : _≡_ {A = ℕ} 0 1 = cc in omega arith)
+
+pub end-whole : (bs : List ℕ) → dueEnd bs ≡ Here → isKind 4 (recordAt bs 0) ≡ true
+unfolding dueEnd
+end-whole bs e = at (not (leb (length bs) 0) && eqb (getD bs 0 0) 2) e
+  where
+    at : (b : Bool) → cond b NotYet (dueOf 4 bs) ≡ Here → isKind 4 (recordAt bs 0) ≡ true
+    at true h = absurd (let w : _≡_ {A = ℕ} 0 1 = cc in omega arith)
+    at false h = here-whole 4 bs h
+
+-- what a reader finds of an end that is whole
+pub end-said : (bs : List ℕ) (n : ℕ) → isKind 4 (recordAt bs 0) ≡ true → endAt bs 0 ≡ EndOf n → n ≡ word bs 1
+unfolding endAt
+end-said bs n w e = let said : EndOf (word bs 1) ≡ EndOf n = rw w at e in cc
+
+pub end-not-said : (bs : List ℕ) {r : End} → isKind 4 (recordAt bs 0) ≡ true → r ≡ endAt bs 0 → OneOf (1 ∷ []) (tagOf end-type r) → ⊥
+unfolding endAt
+end-not-said bs {r} w e h = let said : r ≡ EndOf (word bs 1) = rw w at e in miss (1 ∷ []) 0 tt (rw said at h)
+
+-- where packets, or a head, are due, what stands there decides
+pub end-decides : (bs : List ℕ) (s t : State) (d : Due) → s .stage ≡ Packets → d ≡ dueEnd bs → t ≡ endState d bs s → t ≡ endStage bs s
+unfolding endStage
+end-decides bs s t d e q h = h ∙ rw (e, q)
+
+pub head-decides : (P : Params) (bs : List ℕ) (s t : State) (d : Due) → s .stage ≡ Head → d ≡ dueOf 1 bs → t ≡ headState d P bs s → t ≡ headStage P bs s
+unfolding headStage
+head-decides P bs s t d e q h = h ∙ rw (e, q)

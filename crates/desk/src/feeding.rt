@@ -1,0 +1,46 @@
+// Records taken as they come: those of the upstream stream go into one sketch, those of the downstream one into another.
+ghost use mathlib.Core.Path.{_≡_};
+ghost use Rattle.sketch.specs.Sketch.{sketch};
+ghost use Rattle.desk.specs.Desk.{Feeds};
+use crate::stages::end;
+use crate::stages::over;
+use crate::stages::packets;
+use crate::stages::second_head;
+use crate::states::Fed;
+use crate::states::State;
+use crate::states::in_reach;
+use params::Params;
+
+// Takes all whole records of the bytes at hand, whose first is the next of the input, and says how many bytes that used. The
+// rest is to be at hand again, with more behind it, at the next call.
+pub fn feed(
+    p: Params,
+    s: State,
+    up_counts: &mut [i32],
+    up_idsums: &mut [u32],
+    down_counts: &mut [i32],
+    down_idsums: &mut [u32],
+    bytes: &[u8],
+) -> Fed
+    ensures { λ r. ⌜ Feeds p (now (bytes .entry)) (sketch (now («up_counts» .entry)) (now («up_idsums» .entry))) (sketch (now («down_counts» .entry)) (now («down_idsums» .entry))) s r (sketch (now («up_counts» .exit)) (now («up_idsums» .exit))) (sketch (now («down_counts» .exit)) (now («down_idsums» .exit))) ⌝ }
+{
+    if !in_reach(s, bytes.len()) {
+        return Fed { state: s, used: 0 };
+    }
+    let from = s.at;
+    let a = packets(false, p, s, up_counts, up_idsums, bytes);
+    let i = a.at - from;
+    let b = end(a, &bytes[i..]);
+    let j = b.at - from;
+    let c = second_head(p, b, &bytes[j..]);
+    let k = c.at - from;
+    let d = packets(true, p, c, down_counts, down_idsums, &bytes[k..]);
+    let l = d.at - from;
+    let e = end(d, &bytes[l..]);
+    let m = e.at - from;
+    let f = over(e, &bytes[m..]);
+    Fed {
+        state: f,
+        used: f.at - from,
+    }
+}

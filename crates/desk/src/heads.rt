@@ -1,0 +1,72 @@
+// The two heads of the input: the first gives the parameters, and the second must say the same.
+ghost use mathlib.Core.Path.{_≡_};
+ghost use mathlib.Core.Bool.{true};
+ghost use Rattle.params.specs.Params.{goodParams};
+ghost use Rattle.files.specs.Records.{recordAt, isKind};
+ghost use Rattle.files.specs.Heads.{paramsIn, noParams};
+ghost use Rattle.desk.specs.Desk.{fewEnough, beginOf, secondAnswer};
+use files::heads::Headed;
+use files::heads::head;
+use params::Answer;
+use params::Params;
+use params::Why;
+
+// Whether parameters that keep the rules have few enough buckets for a desk.
+fn few_enough(p: Params) -> bool
+    requires { ⌜ goodParams p ≡ true ⌝ }
+    ensures { λ r. ⌜ r ≡ fewEnough p ⌝ }
+{
+    p.size() <= 1536
+}
+
+// What a head that is refused says: no parameters.
+fn refused(why: Why) -> Headed
+    ensures { λ r. ⌜ r ≡ record { answer = Answer.Refused why 0; params = noParams } ⌝ }
+{
+    let none = [0u32; 4];
+    Headed {
+        answer: Answer::Refused(why, 0),
+        params: Params {
+            d: 0,
+            m: 0,
+            a: none,
+            b: none,
+        },
+    }
+}
+
+// Judges the first head of the input, once 38 bytes are at hand or the input has ended.
+pub fn begin(bytes: &[u8]) -> Headed
+    ensures { λ r. ⌜ r ≡ beginOf (now (bytes .entry)) ⌝ }
+{
+    let h = head(bytes);
+    let judged = h.answer;
+    let Answer::Done = judged else {
+        return h;
+    };
+    let p = h.params;
+    if !few_enough(p) {
+        return refused(Why::Param);
+    }
+    h
+}
+
+// Judges a second head that stands first, against the first one's parameters.
+pub(crate) fn judge_second(p: Params, bytes: &[u8]) -> Answer
+    requires { ⌜ isKind 1 (recordAt (now bytes) 0) ≡ true ⌝ }
+    ensures { λ r. ⌜ r ≡ secondAnswer p (paramsIn (now (bytes .entry))) ⌝ }
+{
+    let h = head(bytes);
+    let judged = h.answer;
+    let Answer::Done = judged else {
+        return Answer::Refused(Why::Param, 0);
+    };
+    let q = h.params;
+    if !few_enough(q) {
+        return Answer::Refused(Why::Param, 0);
+    }
+    if !p.same(q) {
+        return Answer::Refused(Why::Mismatch, 0);
+    }
+    Answer::Done
+}

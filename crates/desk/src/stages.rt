@@ -1,0 +1,211 @@
+// The stages of the reading, each where it is due: the packets of a stream and its end, the second head, and nothing more.
+ghost use mathlib.Core.Path.{_≡_};
+ghost use mathlib.Core.Bool.{true};
+ghost use Rattle.sketch.specs.Sketch.{sketch};
+ghost use Rattle.files.specs.Records.{recordAt, isKind};
+ghost use Rattle.desk.specs.Desk.{stageAfter, taken as «taken-of», takenAnswer, afterTaken, dueOf, dueEnd, endState, endStage, headState, headStage, overStage, packetsStage, packetsSketch, inReach};
+use crate::heads::judge_second;
+use crate::states::Stage;
+use crate::states::State;
+use crate::states::stop;
+use files::fields::End;
+use files::fields::Packets;
+use files::fields::end_at;
+use files::fields::packets_at;
+use files::records::is_kind;
+use params::Answer;
+use params::Params;
+use params::Why;
+use sketch::packets::step;
+
+// What stands where a record of a kind is due: it, not yet all of it, or something else.
+pub(crate) enum Due {
+    Here,
+    NotYet,
+    Other,
+}
+
+// How many packets were taken, and why the next was not.
+pub(crate) struct Run {
+    pub taken: usize,
+    pub told: Answer,
+}
+
+// Takes the packet records that stand first, up to one that is refused.
+fn take_packets(p: Params, counts: &mut [i32], idsums: &mut [u32], bytes: &[u8]) -> Run
+    ensures { λ r. ⌜ r ≡ record { taken = «taken-of» p (now (bytes .entry)) (sketch (now (counts .entry)) (now (idsums .entry))); told = takenAnswer p (now (bytes .entry)) (sketch (now (counts .entry)) (now (idsums .entry))) } ⌝ }
+    ensures { λ r. ⌜ sketch (now (counts .exit)) (now (idsums .exit)) ≡ afterTaken p (now (bytes .entry)) (sketch (now (counts .entry)) (now (idsums .entry))) ⌝ }
+{
+    let mut at = 0;
+    let mut taken = 0;
+    loop {
+        let found = packets_at(bytes, at);
+        let Packets::Of(flow, number) = found else {
+            break;
+        };
+        let told = step(false, p, counts, idsums, flow, number);
+        let Answer::Done = told else {
+            return Run { taken, told };
+        };
+        at += 9;
+        taken += 1;
+    }
+    Run {
+        taken,
+        told: Answer::Done,
+    }
+}
+
+// What is due after packets with this answer.
+fn stage_after(told: Answer) -> Stage
+    ensures { λ r. ⌜ r ≡ stageAfter told ⌝ }
+{
+    match told {
+        Answer::Done => Stage::Packets,
+        Answer::Refused(why, _) => Stage::Refused(why),
+    }
+}
+
+// The packets of a stream, the second or the first, where they are due.
+pub(crate) fn packets(
+    second: bool,
+    p: Params,
+    s: State,
+    counts: &mut [i32],
+    idsums: &mut [u32],
+    bytes: &[u8],
+) -> State
+    requires { ⌜ inReach (now bytes) s ≡ true ⌝ }
+    ensures { λ r. ⌜ r ≡ packetsStage second p (now (bytes .entry)) (sketch (now (counts .entry)) (now (idsums .entry))) s ⌝ }
+    ensures { λ r. ⌜ sketch (now (counts .exit)) (now (idsums .exit)) ≡ packetsSketch second p (now (bytes .entry)) (sketch (now (counts .entry)) (now (idsums .entry))) s ⌝ }
+{
+    let stage = s.stage;
+    let Stage::Packets = stage else {
+        return s;
+    };
+    if s.second != second {
+        return s;
+    }
+    let run = take_packets(p, counts, idsums, bytes);
+    let told = run.told;
+    State {
+        stage: stage_after(told),
+        second: s.second,
+        at: s.at + 9 * run.taken,
+        records: s.records + run.taken,
+    }
+}
+
+// What stands first, where a record of a kind is due.
+fn due_of(kind: u8, bytes: &[u8]) -> Due
+    ensures { λ r. ⌜ r ≡ dueOf kind (now (bytes .entry)) ⌝ }
+{
+    if bytes.len() == 0 {
+        return Due::NotYet;
+    }
+    if is_kind(bytes, 0, kind) {
+        return Due::Here;
+    }
+    if bytes[0] != kind {
+        return Due::Other;
+    }
+    Due::NotYet
+}
+
+// The same where packets are due: an end may stand there, and packets that are not whole yet may.
+fn due_end(bytes: &[u8]) -> Due
+    ensures { λ r. ⌜ r ≡ dueEnd (now (bytes .entry)) ⌝ }
+{
+    if bytes.len() == 0 {
+        return Due::NotYet;
+    }
+    if bytes[0] == 2 {
+        return Due::NotYet;
+    }
+    due_of(4, bytes)
+}
+
+// A whole end stands first.
+fn take_end(s: State, bytes: &[u8]) -> State
+    requires { ⌜ (isKind 4 (recordAt (now bytes) 0) ≡ true) × (inReach (now bytes) s ≡ true) ⌝ }
+    ensures { λ r. ⌜ r ≡ endState Due.Here (now (bytes .entry)) s ⌝ }
+{
+    let found = end_at(bytes, 0);
+    let End::Of(number) = found else {
+        return stop(Why::Form, s);
+    };
+    if number as usize != s.records {
+        return stop(Why::Form, s);
+    }
+    State {
+        stage: if s.second { Stage::Over } else { Stage::Head },
+        second: true,
+        at: s.at + 5,
+        records: 0,
+    }
+}
+
+// The end of a stream, where packets are due.
+pub(crate) fn end(s: State, bytes: &[u8]) -> State
+    requires { ⌜ inReach (now bytes) s ≡ true ⌝ }
+    ensures { λ r. ⌜ r ≡ endStage (now (bytes .entry)) s ⌝ }
+{
+    let stage = s.stage;
+    let Stage::Packets = stage else {
+        return s;
+    };
+    let d = due_end(bytes);
+    match d {
+        Due::NotYet => s,
+        Due::Other => stop(Why::Form, s),
+        Due::Here => take_end(s, bytes),
+    }
+}
+
+// A whole head stands first.
+fn take_head(p: Params, s: State, bytes: &[u8]) -> State
+    requires { ⌜ (isKind 1 (recordAt (now bytes) 0) ≡ true) × (inReach (now bytes) s ≡ true) ⌝ }
+    ensures { λ r. ⌜ r ≡ headState Due.Here p (now (bytes .entry)) s ⌝ }
+{
+    let r = judge_second(p, bytes);
+    match r {
+        Answer::Done => State {
+            stage: Stage::Packets,
+            second: true,
+            at: s.at + 38,
+            records: 0,
+        },
+        Answer::Refused(why, _) => stop(why, s),
+    }
+}
+
+// The second head, where it is due.
+pub(crate) fn second_head(p: Params, s: State, bytes: &[u8]) -> State
+    requires { ⌜ inReach (now bytes) s ≡ true ⌝ }
+    ensures { λ r. ⌜ r ≡ headStage p (now (bytes .entry)) s ⌝ }
+{
+    let stage = s.stage;
+    let Stage::Head = stage else {
+        return s;
+    };
+    let d = due_of(1, bytes);
+    match d {
+        Due::NotYet => s,
+        Due::Other => stop(Why::Form, s),
+        Due::Here => take_head(p, s, bytes),
+    }
+}
+
+// Nothing more is due.
+pub(crate) fn over(s: State, bytes: &[u8]) -> State
+    ensures { λ r. ⌜ r ≡ overStage (now (bytes .entry)) s ⌝ }
+{
+    let stage = s.stage;
+    let Stage::Over = stage else {
+        return s;
+    };
+    if 0 < bytes.len() {
+        return stop(Why::Form, s);
+    }
+    s
+}

@@ -1,0 +1,78 @@
+// Where the reading of two streams stands: before the first record, on the way, and at the end of the input.
+ghost use mathlib.Core.Path.{_≡_};
+ghost use mathlib.Core.Bool.{_&&_};
+ghost use Prim.Native.Nat.{_+_};
+ghost use lib.Dec.{ltb};
+ghost use Rattle.desk.specs.Desk.{started, stopped, finishAnswer};
+use params::Answer;
+use params::Why;
+
+// What is due next: packets or the end of a stream, the second head, or nothing more; or why the input is refused.
+pub enum Stage {
+    Packets,
+    Head,
+    Over,
+    Refused(Why),
+}
+
+// What is due, whether that is in the second stream, the offset of the next byte in the whole input, and how many records stood
+// since the head. The offset is that of the record at fault where the input is refused.
+pub struct State {
+    pub stage: Stage,
+    pub second: bool,
+    pub at: usize,
+    pub records: usize,
+}
+
+// A state, and how many bytes were used on the way to it.
+pub struct Fed {
+    pub state: State,
+    pub used: usize,
+}
+
+// The state after the first head.
+pub fn start() -> State
+    ensures { λ r. ⌜ r ≡ started ⌝ }
+{
+    State {
+        stage: Stage::Packets,
+        second: false,
+        at: 38,
+        records: 0,
+    }
+}
+
+// The input is refused for what stands next.
+pub(crate) fn stop(why: Why, s: State) -> State
+    ensures { λ r. ⌜ r ≡ stopped why s ⌝ }
+{
+    State {
+        stage: Stage::Refused(why),
+        second: s.second,
+        at: s.at,
+        records: s.records,
+    }
+}
+
+// Whether 64 bits hold the offsets and the numbers of records that so many bytes can lead to.
+pub(crate) fn in_reach(s: State, len: usize) -> bool
+    ensures { λ r. ⌜ r ≡ (ltb (s .at + len) 18446744073709551616 && ltb (s .records + len) 18446744073709551616) ⌝ }
+{
+    if 18446744073709551615 - s.at < len {
+        return false;
+    }
+    len <= 18446744073709551615 - s.records
+}
+
+// Judges the end of the input: nothing more was due, or the place and the number of what is at fault.
+pub fn finish(s: State) -> Answer
+    ensures { λ r. ⌜ r ≡ finishAnswer (s .stage) (s .at) ⌝ }
+{
+    let stage = s.stage;
+    match stage {
+        Stage::Over => Answer::Done,
+        Stage::Refused(why) => Answer::Refused(why, s.at),
+        Stage::Packets => Answer::Refused(Why::Form, s.at),
+        Stage::Head => Answer::Refused(Why::Form, s.at),
+    }
+}
