@@ -1,9 +1,8 @@
 -- Counts in two's complement, as the code computes them.
-use mathlib.Core.Path.{_≡_, ap, sym, _∙_}
-use mathlib.Core.Bool.{Bool, cond}
-use Prim.Native.Nat.{ℕ, _-_, suc, _≤_, _<_}
+use mathlib.Core.Path.{_≡_}
+use Prim.Native.Nat.{ℕ, _≤_, _<_}
 use borrow.Author.Tests.{lt-ltb, le-ltb}
-use lib.IntN.{ℤ, pos, negsuc, _-ℤ_}
+use lib.IntN.{pos, _-ℤ_}
 use Rattle.files.specs.Bytes.{countOf}
 
 -- 32 bits whose highest is set stand for their number less 2 ^ 32

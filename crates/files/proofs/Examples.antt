@@ -7,7 +7,6 @@ use Rattle.params.specs.declared.answers.Answer.the-variants.{Done}
 use Rattle.params.specs.Lists.{below}
 use Rattle.params.specs.Answers.{kept}
 use Rattle.params.specs.Params.{pairAt, twins, goodSizes, goodParams}
-use Rattle.files.specs.declared.records.Record.{Record}
 use Rattle.files.specs.declared.records.Record.the-variants.{Whole, Unknown, Cut, Missing}
 use Rattle.files.specs.Bytes.{word}
 use Rattle.files.specs.Records.{bodyLength, recordAt, bodyOf}

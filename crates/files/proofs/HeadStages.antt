@@ -1,5 +1,5 @@
 -- The stages of a head: no head, parameters that break a rule, and a head that says something; and of what is judged with it.
-use mathlib.Core.Path.{_≡_, refl, sym, ap, _∙_}
+use mathlib.Core.Path.{_≡_, refl, sym, _∙_}
 use mathlib.Core.Bool.{Bool, true, false, not, _&&_}
 use mathlib.Core.List.{List}
 use Prim.Native.Nat.{ℕ, _≤_}
@@ -16,7 +16,7 @@ use Rattle.files.specs.declared.heads.Headed.{Headed}
 use Rattle.files.specs.declared.records.Record.the-variants.{Whole}
 use Rattle.files.specs.Records.{bodyLength, recordAt}
 use Rattle.files.specs.Heads.{paramsIn, isHead, headAnswer, noParams, headOf, openingAnswer}
-use Rattle.files.proofs.Standing.{Stands, stands-whole}
+use Rattle.files.proofs.Standing.{stands-whole}
 
 module _ (bs : List ℕ) where
   pub not-a-head : isHead (recordAt bs 0) ≡ false → _≡_ {A = Headed} (record { answer = Refused Form 0; params = noParams }) (headOf bs)

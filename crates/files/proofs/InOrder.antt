@@ -1,24 +1,30 @@
--- Refusals of a file's opening and of its end, in the order in which they are judged, and what is told with them.
-use mathlib.Core.Path.{_≡_, refl}
-use mathlib.Core.Bool.{Bool, true, false, not, _&&_}
+-- Refusals of a file's opening, of a record and of a file's end, in the order in which they are judged, and what is told with them; and what a writer tells.
+use mathlib.Core.Path.{_≡_, refl, sym, ap, _∙_}
+use mathlib.Core.Bool.{Bool, true, false, not, cond, _&&_}
 use mathlib.Core.List.{List, [], _∷_}
-use Prim.Native.Nat.{ℕ, _+_, _<_}
+use Prim.Native.Nat.{ℕ, _+_, _-_, _<_}
 use native.Mathlib.Omega.{arith}
 use borrow.Author.Tests.{ltb-true, eqb-true, eqb-false}
-use lib.Dec.{eqb, ltb}
-use lib.ListN.{length}
+use lib.Dec.{eqb, ltb, leb}
+use lib.ListN.{getD, length}
 use Rattle.params.specs.declared.params.Params.{Params}
 use Rattle.params.specs.declared.answers.Why.{Why}
 use Rattle.params.specs.declared.answers.Why.the-variants.{Param, Length, Flow, Count, Damage, Range, Mismatch, Form}
 use Rattle.params.specs.declared.answers.Answer.{Answer}
 use Rattle.params.specs.declared.answers.Answer.the-variants.{Done, Refused}
-use Rattle.params.specs.Answers.{numberIn, indexIn, refuseIf}
+use Rattle.params.specs.Answers.{numberIn, indexIn, refuseIf, kept}
 use Rattle.params.specs.Params.{size, goodParams, sameParams, lengthsAnswer}
+use Rattle.params.proofs.Judging.{number-done}
 use Rattle.params.proofs.InOrder.{firstOf, refuse-number}
+use Rattle.files.specs.declared.records.Record.{Record}
+use Rattle.files.specs.declared.records.Record.the-variants.{Whole, Cut, Unknown, Missing}
+use Rattle.files.specs.declared.writing.Written.{Written}
+use Rattle.files.specs.declared.writing.Written.the-variants.{Refused as NotWritten}
 use Rattle.files.specs.Bytes.{word}
-use Rattle.files.specs.Records.{recordAt, isKind, placeOf}
+use Rattle.files.specs.Records.{bodyLength, recordAt, isKind, placeOf, recordNumber, recordPlace}
 use Rattle.files.specs.Heads.{paramsIn, isHead, openingAnswer}
 use Rattle.files.specs.Turns.{endAnswer}
+use Rattle.files.specs.Writing.{writtenOf, writtenNumber, writtenIndex, writtenLength}
 
 -- what is judged before the records, in this order: the head, the parameters in it and those that are given, whether they differ, and the lent lengths
 abbrev pub openingOrder : List Why
@@ -34,7 +40,8 @@ openingFault P bs c s Count = false
 openingFault P bs c s Damage = false
 openingFault P bs c s Range = false
 
-refuse-start : (b : Bool) (w : Why) (next : Answer) → indexIn next ≡ 0 → indexIn (refuseIf b w 0 next) ≡ 0
+-- a refusal that tells 0
+pub refuse-start : (b : Bool) (w : Why) (next : Answer) → indexIn next ≡ 0 → indexIn (refuseIf b w 0 next) ≡ 0
 refuse-start true w next e = refl
 refuse-start false w next e = e
 
@@ -53,6 +60,41 @@ module _ (P : Params) (bs : List ℕ) (c s : ℕ) where
       (refuse-start (not (sameParams P (paramsIn bs))) Mismatch _
       (refuse-start (not (eqb c (size P) && eqb s (size P))) Length Done refl)))
 
+-- a record that is whole, of whatever kind
+pub record IsWhole (r : Record) : Type 0 where
+  pub kind : ℕ
+  pub next : ℕ
+  pub whole : r ≡ Whole kind next
+
+-- 0 is told exactly where a record is whole
+pub whole-exactly : (r : Record) → (recordNumber r ≡ 0 → IsWhole r) × (IsWhole r → recordNumber r ≡ 0)
+whole-exactly r = (told r, λ s. ap recordNumber (s .whole))
+  where
+    told : (r : Record) → recordNumber r ≡ 0 → IsWhole r
+    told (Whole k next) e = record { kind = k; next = next; whole = refl }
+    told Cut e = absurd (omega arith)
+    told Unknown e = absurd (omega arith)
+    told Missing e = absurd (omega arith)
+
+-- and Form's number where it is not
+pub form-else : (r : Record) → (IsWhole r → ⊥) → recordNumber r ≡ 8
+form-else (Whole k next) n = absurd (n (record { kind = k; next = next; whole = refl }))
+form-else Cut n = refl
+form-else Unknown n = refl
+form-else Missing n = refl
+
+-- with the place of its kind byte, or the file's length where that is due and missing
+pub record-place : (bs : List ℕ) (at : ℕ) → (IsWhole (recordAt bs at) → ⊥) → recordPlace (recordAt bs at) at bs ≡ placeOf bs at
+unfolding recordAt
+record-place bs at = go (leb (length bs) at) (eqb (bodyLength (getD bs at 0)) 0) (leb (length bs - at) (bodyLength (getD bs at 0))) (getD bs at 0) (at + 1 + bodyLength (getD bs at 0))
+  where
+    go : (x y z : Bool) (k next : ℕ) → (IsWhole (cond x Missing (cond y Unknown (cond z Cut (Whole k next)))) → ⊥)
+        → recordPlace (cond x Missing (cond y Unknown (cond z Cut (Whole k next)))) at bs ≡ cond x (length bs) at
+    go true y z k next n = refl
+    go false true z k next n = refl
+    go false false true k next n = refl
+    go false false false k next n = absurd (n (record { kind = k; next = next; whole = refl }))
+
 -- what is at fault where an end is due after n records, and the place told with it
 pub data EndFault (bs : List ℕ) (at n k : ℕ) : Type 0 where
   no-end : isKind 4 (recordAt bs at) ≡ false → k ≡ placeOf bs at → EndFault bs at n k
@@ -69,3 +111,31 @@ end-fault bs at n w k = go (isKind 4 (recordAt bs at)) (eqb (word bs (at + 1)) n
     go true false z kind said after e = (cc, wrong-count kind (eqb-false _ _ said) cc)
     go true true true kind said after e = (cc, byte-after kind (eqb-true _ _ said) (ltb-true _ _ after) cc)
     go true true false kind said after e = absurd (let z : _≡_ {A = ℕ} 0 1 = cc in omega arith)
+
+-- what a writer tells is what was judged, and the length of its file, n, where nothing is refused
+module _ (a : Answer) (n : ℕ) {r : Written} (e : r ≡ writtenOf a n) where
+  pub written-number : writtenNumber r ≡ numberIn a
+  written-number = ap writtenNumber e ∙ told a
+    where
+      told : (x : Answer) → writtenNumber (writtenOf x n) ≡ numberIn x
+      told Done = refl
+      told (Refused w k) = refl
+
+  pub written-index : writtenIndex r ≡ indexIn a
+  written-index = ap writtenIndex e ∙ told a
+    where
+      told : (x : Answer) → writtenIndex (writtenOf x n) ≡ indexIn x
+      told Done = refl
+      told (Refused w k) = refl
+
+  pub written-length : writtenNumber r ≡ 0 → writtenLength r ≡ n
+  written-length z = ap writtenLength (e ∙ ap (λ (x : Answer). writtenOf x n) (number-done a (sym written-number ∙ z)))
+
+  -- where it tells a refusal, the output is as it was
+  pub refused-as-it-was : {w : Why} {k : ℕ} (old new : List ℕ) → r ≡ NotWritten w k → kept a old new ≡ old
+  unfolding kept
+  refused-as-it-was {w} {k} old new refused = told a e
+    where
+      told : (x : Answer) → r ≡ writtenOf x n → kept x old new ≡ old
+      told Done q = absurd (let z : _≡_ {A = ℕ} 0 1 = cc in omega arith)
+      told (Refused v j) q = refl

@@ -7,7 +7,6 @@ use native.Mathlib.Nat.{add-zero}
 use native.Mathlib.Omega.{arith}
 use borrow.Author.Tests.{le-leb, lt-leb, leb-true, leb-false}
 use lib.Dec.{leb}
-use lib.IntN.{ℤ}
 use lib.ListN.{length, take, drop, set, length-append, length-drop, take-append-drop}
 use lib.Seq.{sets, sets-eq, length-take-le, take-at, take-append-seam, drop-append-add, drop-drop}
 use Rattle.params.specs.declared.params.Params.{Params}
@@ -19,25 +18,13 @@ use Rattle.params.specs.Answers.{kept}
 use Rattle.params.proofs.Judging.{kept-new}
 use Rattle.files.specs.declared.writing.Written.the-variants.{Bytes, Refused as NotWritten}
 use Rattle.files.specs.Bytes.{wordBytes, over}
-use Rattle.files.specs.Layout.{headBytes, packetBytes, bucketBytes, endBytes}
+use Rattle.files.specs.Layout.{headBytes, endBytes}
 use Rattle.files.specs.Writing.{written, writtenOf}
 
--- how long each record is
-pub length-wordBytes : (n : ℕ) → length (wordBytes n) ≡ 4
-unfolding wordBytes
-length-wordBytes n = refl
-
+-- how long a head and an end are
 pub length-headBytes : (P : Params) → length (headBytes P) ≡ 38
 unfolding headBytes wordBytes
 length-headBytes P = refl
-
-pub length-packetBytes : (f n : ℕ) → length (packetBytes f n) ≡ 9
-unfolding packetBytes wordBytes
-length-packetBytes f n = refl
-
-pub length-bucketBytes : (k : ℕ) (c : ℤ) (s : ℕ) → length (bucketBytes k c s) ≡ 13
-unfolding bucketBytes wordBytes
-length-bucketBytes k c s = refl
 
 pub length-endBytes : (n : ℕ) → length (endBytes n) ≡ 5
 unfolding endBytes wordBytes

@@ -54,9 +54,6 @@ not-whole Unknown at bs h = ((λ k. refl), refl, refl)
 not-whole Missing at bs h = ((λ k. refl), refl, refl)
 
 -- a whole record of a kind, as its readers find it
-pub kind-whole : (bs : List ℕ) (at k j next : ℕ) → recordAt bs at ≡ Whole j next → isKind k (recordAt bs at) ≡ eqb j k
-kind-whole bs at k j next e = ap (isKind k) e
-
 pub kind-stands : (k : ℕ) (bs : List ℕ) (at : ℕ) → isKind k (recordAt bs at) ≡ true → Stands bs at k (at + 1 + bodyLength k)
 kind-stands k bs at = go (recordAt bs at) refl
   where

@@ -1,6 +1,6 @@
 // The head of a file: its parameters, so that a caller can lend slices of the right lengths.
 ghost use mathlib.Core.Path.{_≡_};
-ghost use Prim.Native.Nat.{ℕ, _≤_};
+ghost use Prim.Native.Nat.{_≤_};
 ghost use lib.ListN.{length};
 ghost use Rattle.files.specs.Heads.{paramsIn, noParams, headOf, openingAnswer};
 use crate::records::Record;

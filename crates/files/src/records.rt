@@ -1,6 +1,6 @@
 // Records: one byte of kind, then a body whose length the kind fixes.
 ghost use mathlib.Core.Path.{_≡_};
-ghost use Prim.Native.Nat.{ℕ, _+_, _≤_};
+ghost use Prim.Native.Nat.{_+_, _≤_};
 ghost use lib.ListN.{length};
 ghost use Rattle.files.specs.Bytes.{word as «word-of»};
 ghost use Rattle.files.specs.Records.{bodyLength, recordAt, isKind, Body};

@@ -1,22 +1,20 @@
 -- Sketches that can be written and files that can be read are each other's: the file of such a sketch is accepted and holds it, and such a file is that of the sketch that it holds.
 use mathlib.Core.Path.{_≡_, refl, sym, ap, ap₂, _∙_}
-use mathlib.Core.Bool.{true, false, not}
 use mathlib.Core.List.{List, _++_, append-assoc}
 use Prim.Native.Nat.{ℕ, _+_, _≤_, _<_}
 use native.Mathlib.Nat.{zero-add}
 use native.Mathlib.Omega.{arith}
-use borrow.Author.Tests.{eq-eqb, le-ltb, not-false}
-use lib.Dec.{ltb}
+use borrow.Author.Tests.{eq-eqb, le-ltb}
 use lib.IntN.{pos}
 use lib.ListN.{length, getD, length-append}
 use lib.Seq.{getD-at}
 use Rattle.params.specs.declared.params.Params.{Params}
-use Rattle.params.specs.declared.answers.Why.the-variants.{Param, Length, Damage}
+use Rattle.params.specs.declared.answers.Why.the-variants.{Damage}
 use Rattle.params.specs.declared.answers.Answer.the-variants.{Done}
-use Rattle.params.specs.Params.{size, goodParams, lengthsAnswer, shapeAnswer}
+use Rattle.params.specs.Params.{size, lengthsAnswer, shapeAnswer}
 use Rattle.sketch.specs.Sketch.{Sketch, sketch, damagedAt, zeros}
-use Rattle.params.proofs.Judging.{first-done, first-passed, refuse-done, refuse-at-done, refuse-none}
-use Rattle.params.proofs.Rules.{good-sized, sized-small, lengths-done}
+use Rattle.params.proofs.Judging.{first-done, first-passed, refuse-none}
+use Rattle.params.proofs.Rules.{good-sized, sized-small}
 use Rattle.files.specs.Bytes.{wordBytes}
 use Rattle.files.specs.Heads.{openingAnswer}
 use Rattle.files.specs.Layout.{headBytes, endBytes}
@@ -26,34 +24,15 @@ use Rattle.files.proofs.RecordTrips.{not-kind, end-written}
 use Rattle.files.proofs.Turning.{in-turn-done, done-in-turn, whole-within, records-are}
 use Rattle.sketchfile.specs.Stored.{bucketsIn, lowest, bucketJudged, bucketsJudged, sketchAnswer, stored, sketchIn}
 use Rattle.sketchfile.specs.Writing.{bucketsBytes, bucketsLeft, sketchBytes, sketchWriting}
-use Rattle.sketchfile.proofs.Written.{left-few, buckets-long}
+use Rattle.sketchfile.proofs.Written.{left-few, buckets-long, Writable}
 use Rattle.sketchfile.proofs.Filling.{filled-all, counts-long, idsums-long, Told, told-none, told-all}
 use Rattle.sketchfile.proofs.Rewriting.{rewritten-all, same-bytes}
-
--- a sketch whose writing is not refused
-pub record Writable (P : Params) (S : Sketch) : Type 0 where
-  pub good : goodParams P ≡ true
-  pub counts : length (S .counts) ≡ size P
-  pub idsums : length (S .idsums) ≡ size P
-  pub undamaged : (k : ℕ) → k < size P → damagedAt S k ≡ false
 
 lengths-good : (P : Params) (c s : ℕ) → c ≡ size P → s ≡ size P → lengthsAnswer P c s ≡ Done
 unfolding lengthsAnswer
 lengths-good P c s e h = rw (eq-eqb c (size P) e, eq-eqb s (size P) h)
 
-pub writing-done : (P : Params) (S : Sketch) (o : ℕ) → sketchWriting P S o ≡ Done → Writable P S
-unfolding sketchWriting shapeAnswer
-writing-done P S o e =
-    let h = first-done (shapeAnswer P (length (S .counts)) (length (S .idsums))) _ e in
-    let k = refuse-done (not (goodParams P)) Param 0 _ (h .0) in
-    let l = lengths-done P (length (S .counts)) (length (S .idsums)) (k .1) in
-    record {
-      good = not-false _ (k .0);
-      counts = l .0;
-      idsums = l .1;
-      undamaged = refuse-at-done (size P) (damagedAt S) Damage Done (refuse-done (ltb o (length (sketchBytes P S))) Length 0 _ (h .1) .1) .0;
-    }
-
+-- a sketch that can be written is, where there is room for its file
 pub writable-done : (P : Params) (S : Sketch) (o : ℕ) → Writable P S → length (sketchBytes P S) ≤ o → sketchWriting P S o ≡ Done
 unfolding sketchWriting shapeAnswer
 writable-done P S o h l =

@@ -5,16 +5,16 @@ use mathlib.Core.List.{List}
 use Prim.Native.Nat.{ℕ, _+_, _≤_, _<_}
 use native.Mathlib.Numerals.{add-one}
 use native.Mathlib.Omega.{arith}
-use borrow.Author.Tests.{le-leb, lt-leb, lt-ltb, le-ltb, ltb-true, not-false}
+use borrow.Author.Tests.{le-leb, lt-leb, leb-true, lt-ltb, le-ltb, ltb-true, not-false}
 use lib.Dec.{leb, ltb}
 use lib.IntN.{ℤ}
 use lib.ListN.{length, set}
 use Rattle.params.specs.declared.params.Params.{Params}
-use Rattle.params.specs.declared.answers.Why.the-variants.{Param, Damage, Mismatch, Form}
+use Rattle.params.specs.declared.answers.Why.the-variants.{Damage, Form}
 use Rattle.params.specs.declared.answers.Answer.{Answer}
 use Rattle.params.specs.declared.answers.Answer.the-variants.{Done, Refused}
 use Rattle.params.specs.Answers.{kept}
-use Rattle.params.specs.Params.{prime, goodParams, sameParams, shapeAnswer}
+use Rattle.params.specs.Params.{prime, shapeAnswer}
 use Rattle.sketch.specs.Buckets.{inLimits, damaged}
 use Rattle.sketch.specs.Sketch.{Sketch, sketch, Freshened}
 use Rattle.params.proofs.Searches.{and-true}
@@ -23,9 +23,10 @@ use Rattle.files.specs.declared.fields.Bucket.{Bucket}
 use Rattle.files.specs.declared.fields.Bucket.the-variants.{Of as BucketOf, No as NoBucket}
 use Rattle.files.specs.Bytes.{word, countOf}
 use Rattle.files.specs.Records.{bodyLength, recordAt, isKind}
-use Rattle.files.specs.Heads.{paramsIn, isHead, openingAnswer}
+use Rattle.files.specs.Heads.{openingAnswer}
 use Rattle.files.specs.Layout.{bucketAt}
 use Rattle.files.specs.Turns.{bucketPlace, endAnswer}
+use Rattle.files.proofs.HeadTrips.{opening-done}
 use Rattle.files.proofs.Standing.{kind-ends}
 use Rattle.files.proofs.Turning.{Come, come-start, come-next, come-end, come-within, in-turn-refused, in-turn-done, done-in-turn}
 use Rattle.sketchfile.specs.Stored.{bucketsIn, bucketIndex, bucketCount, bucketIdsum, allZero, lowest, bucketAnswer, bucketJudged, bucketsJudged, stored, sketchIn}
@@ -53,11 +54,29 @@ module _ (N low at x : ℕ) (c : ℤ) (s : ℕ) where
     unfolding bucketAnswer
     bucket-passed l h e = rw (sound, le-leb low x l, lt-ltb x N h, e)
 
-  pub passed-inside : bucketAnswer N low at x c s ≡ Done → x < N
-  unfolding bucketAnswer
-  passed-inside e =
-      let placed = refuse-done (not (leb low x && ltb x N)) Form at _ (refuse-done (damaged c s) Damage at _ e .1) .0 in
-      ltb-true x N (and-true (leb low x) _ (not-false _ placed) .1)
+-- a bucket record that is not refused
+pub record SoundBucket (N low x : ℕ) (c : ℤ) (s : ℕ) : Type 0 where
+  pub undamaged : damaged c s ≡ false
+  pub rising : low ≤ x
+  pub inside : x < N
+  pub not-zero : allZero c s ≡ false
+
+pub sound-done : {N low x : ℕ} {c : ℤ} {s : ℕ} (at : ℕ) → SoundBucket N low x c s → bucketAnswer N low at x c s ≡ Done
+unfolding bucketAnswer
+sound-done {N} {low} {x} {c} {s} at h = rw (h .undamaged, le-leb low x (h .rising), lt-ltb x N (h .inside), h .not-zero)
+
+pub done-sound : (N low at x : ℕ) (c : ℤ) (s : ℕ) → bucketAnswer N low at x c s ≡ Done → SoundBucket N low x c s
+unfolding bucketAnswer
+done-sound N low at x c s e =
+    let h = refuse-done (damaged c s) Damage at _ e in
+    let k = refuse-done (not (leb low x && ltb x N)) Form at _ (h .1) in
+    let l = and-true (leb low x) (ltb x N) (not-false _ (k .0)) in
+    record {
+      undamaged = h .0;
+      rising = leb-true low x (l .0);
+      inside = ltb-true x N (l .1);
+      not-zero = refuse-done (allZero c s) Form at Done (k .1) .0;
+    }
 
 -- a reader has come to bucket n of the file, which is due at an offset
 pub record Reader (bs : List ℕ) (n at : ℕ) : Type 0 where
@@ -72,6 +91,7 @@ pub record Found (bs : List ℕ) (n at k : ℕ) (c : ℤ) (s : ℕ) : Type 0 whe
   pub index : k ≡ bucketIndex bs n
   pub count : c ≡ bucketCount bs n
   pub idsum : s ≡ bucketIdsum bs n
+  -- cited by no name: `omega` reads it where a reader steps on, so that the offset fits its width and the bytes left grow fewer
   pub before-end : at + 13 ≤ length bs
   pub counted : n < bucketsIn bs
   pub next : Reader bs (n + 1) (at + 13)
@@ -158,12 +178,8 @@ all-stored bs f shaped filled done = rw (done, filled, f .after, f .answer, shap
 pub indexes-inside : (N : ℕ) (bs : List ℕ) → bucketsJudged N bs ≡ Done → (k : ℕ) → k < bucketsIn bs → bucketIndex bs k < N
 unfolding bucketsJudged bucketJudged
 indexes-inside N bs e k l =
-    passed-inside N (lowest bs k) (bucketPlace k) _ _ _ (done-in-turn (bucketsIn bs) (bucketJudged N bs) (first-done _ _ e .0) k l)
+    done-sound N (lowest bs k) (bucketPlace k) _ _ _ (done-in-turn (bucketsIn bs) (bucketJudged N bs) (first-done _ _ e .0) k l) .inside
 
 pub opening-shape : (P : Params) (bs : List ℕ) (c s : ℕ) → openingAnswer P bs c s ≡ Done → shapeAnswer P c s ≡ Done
-unfolding openingAnswer shapeAnswer
-opening-shape P bs c s e =
-    let given = refuse-done (not (isHead (recordAt bs 0))) Form 0 _ e .1 in
-    let good = refuse-done (not (goodParams (paramsIn bs) && goodParams P)) Param 0 _ given in
-    let lengths = refuse-done (not (sameParams P (paramsIn bs))) Mismatch 0 _ (good .1) .1 in
-    rw (and-true (goodParams (paramsIn bs)) _ (not-false _ (good .0)) .1) lengths
+unfolding shapeAnswer
+opening-shape P bs c s e = let opened = opening-done P bs c s e in rw (opened .good) (opened .lengths)

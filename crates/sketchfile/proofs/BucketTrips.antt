@@ -1,8 +1,8 @@
 -- Bucket records there and back, and the records of a stretch of buckets.
 use mathlib.Core.Path.{_≡_, refl, sym, ap, _∙_}
-use mathlib.Core.Bool.{Bool, true, false, cond}
+use mathlib.Core.Bool.{true, cond}
 use mathlib.Core.List.{List, [], _++_, append-assoc}
-use Prim.Native.Nat.{ℕ, zero, suc, _+_, _*_, _≤_, _<_}
+use Prim.Native.Nat.{ℕ, zero, suc, _+_, _≤_, _<_}
 use native.Mathlib.Nat.{zero-add, suc-add}
 use native.Mathlib.Omega.{arith}
 use borrow.Author.Tests.{eqb-true}
@@ -23,7 +23,7 @@ use Rattle.files.proofs.Standing.{kind-ends}
 use Rattle.files.proofs.RoundTrips.{digits-make, word-small, word-then, two-words}
 use Rattle.files.proofs.RecordTrips.{kind-written, word-written, record-read}
 use Rattle.sketchfile.specs.Stored.{allZero}
-use Rattle.sketchfile.specs.Writing.{zeroAt, bucketsBytes, bucketsLeft}
+use Rattle.sketchfile.specs.Writing.{zeroAt, bucketsBytes}
 
 -- a whole bucket record at an offset, by what it says
 pub record Bucketed (bs : List ℕ) (at k : ℕ) (c : ℤ) (s : ℕ) : Type 0 where

@@ -1,31 +1,26 @@
 -- A sketch filled from a file in rising index: its first records tell the buckets below some index, and the others are zero yet.
 use mathlib.Core.Path.{_≡_, refl, sym, ap, _∙_}
-use mathlib.Core.Bool.{Bool, true, false, not, cond, _&&_}
+use mathlib.Core.Bool.{Bool, true, false, cond}
 use mathlib.Core.List.{List, [], _++_, append-assoc}
 use Prim.Native.Nat.{ℕ, zero, suc, _+_, _≤_, _<_}
 use native.Mathlib.Decide.{ℕ-discrete, decLt}
 use native.Mathlib.Omega.{arith}
 use borrow.Author.Count.{below-more}
-use borrow.Author.Tests.{le-leb, leb-true, lt-ltb, ltb-true, not-false}
-use lib.Dec.{leb, ltb}
-use lib.IntN.{ℤ, pos}
+use lib.IntN.{pos}
 use lib.ListN.{length, getD, set, replicate, length-append, length-set, length-replicate, getD-replicate, List·getD-eq-default}
 use lib.Seq.{ext-getD, getD-set-same, getD-set-other}
 use Rattle.params.specs.declared.params.Params.{Params}
-use Rattle.params.specs.declared.answers.Why.the-variants.{Damage, Form}
 use Rattle.params.specs.declared.answers.Answer.the-variants.{Done}
 use Rattle.params.specs.Params.{size}
-use Rattle.sketch.specs.Buckets.{damaged}
 use Rattle.sketch.specs.Sketch.{Sketch, countIn, idsumIn, damagedAt, zeros}
-use Rattle.params.proofs.Searches.{and-true}
-use Rattle.params.proofs.Judging.{refuse-done}
 use Rattle.sketch.proofs.Limits.{whole, limits-fit}
 use Rattle.files.specs.Bytes.{wordBytes}
 use Rattle.files.specs.Records.{recordAt, isKind}
 use Rattle.files.specs.Layout.{bucketBytes}
 use Rattle.files.specs.Turns.{bucketPlace}
-use Rattle.sketchfile.specs.Stored.{bucketIndex, bucketCount, bucketIdsum, allZero, lowest, bucketAnswer, bucketJudged, stored}
+use Rattle.sketchfile.specs.Stored.{bucketIndex, bucketCount, bucketIdsum, lowest, bucketJudged, stored}
 use Rattle.sketchfile.specs.Writing.{zeroAt, bucketsBytes, bucketsLeft}
+use Rattle.sketchfile.proofs.BucketRecords.{SoundBucket, sound-done}
 use Rattle.sketchfile.proofs.BucketTrips.{Bucketed, bucket-written, all-zero}
 
 -- ys is xs below k, and blank from there on
@@ -69,30 +64,6 @@ module _ (P : Params) (bs : List ℕ) where
   unfolding stored zeros
   idsums-long zero = length-replicate (size P) 0
   idsums-long (suc k) = length-set (stored bs k (zeros P) .idsums) (bucketIndex bs k) (bucketIdsum bs k) ∙ idsums-long k
-
--- a bucket record that is not refused
-pub record SoundBucket (N low x : ℕ) (c : ℤ) (s : ℕ) : Type 0 where
-  pub undamaged : damaged c s ≡ false
-  pub rising : low ≤ x
-  pub inside : x < N
-  pub not-zero : allZero c s ≡ false
-
-sound-done : {N low x : ℕ} {c : ℤ} {s : ℕ} (at : ℕ) → SoundBucket N low x c s → bucketAnswer N low at x c s ≡ Done
-unfolding bucketAnswer
-sound-done {N} {low} {x} {c} {s} at h = rw (h .undamaged, le-leb low x (h .rising), lt-ltb x N (h .inside), h .not-zero)
-
-pub done-sound : (N low at x : ℕ) (c : ℤ) (s : ℕ) → bucketAnswer N low at x c s ≡ Done → SoundBucket N low x c s
-unfolding bucketAnswer
-done-sound N low at x c s e =
-    let h = refuse-done (damaged c s) Damage at _ e in
-    let k = refuse-done (not (leb low x && ltb x N)) Form at _ (h .1) in
-    let l = and-true (leb low x) (ltb x N) (not-false _ (k .0)) in
-    record {
-      undamaged = h .0;
-      rising = leb-true low x (l .0);
-      inside = ltb-true x N (l .1);
-      not-zero = refuse-done (allZero c s) Form at Done (k .1) .0;
-    }
 
 -- the first j records of a file are sound and tell the buckets of S below k
 pub record Told (P : Params) (bs : List ℕ) (S : Sketch) (j k : ℕ) : Type 0 where

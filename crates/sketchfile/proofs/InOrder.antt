@@ -1,26 +1,37 @@
--- What is told with each refusal of a sketch file: the head and the lengths come first, then the buckets in turn, then the end.
-use mathlib.Core.Path.{_≡_, sym, ap, _∙_}
+-- What is told with each refusal of a sketch file: the head and the lengths come first, then the buckets in turn, then the end. And what a sketch's writer tells.
+use mathlib.Core.Path.{_≡_, refl, sym, ap, _∙_}
 use mathlib.Core.Bool.{Bool, true, false, not, _&&_, _||_}
 use mathlib.Core.Logic.{⊎-elim}
 use mathlib.Core.List.{List}
-use Prim.Native.Nat.{ℕ, _<_}
+use Prim.Native.Nat.{ℕ, _≤_, _<_}
 use native.Mathlib.Omega.{arith}
+use borrow.Author.Tests.{ltb-true}
 use lib.Dec.{leb, ltb}
+use lib.ListN.{length}
 use Rattle.params.specs.declared.params.Params.{Params}
 use Rattle.params.specs.declared.answers.Why.{Why}
 use Rattle.params.specs.declared.answers.Why.the-variants.{Param, Length, Flow, Count, Damage, Range, Mismatch, Form}
+use Rattle.params.specs.declared.answers.Answer.{Answer}
 use Rattle.params.specs.declared.answers.Answer.the-variants.{Done, Refused}
-use Rattle.params.specs.Answers.{numberOf, numberIn, indexIn, refuseIf}
-use Rattle.params.specs.Params.{size}
+use Rattle.params.specs.Lists.{least}
+use Rattle.params.specs.Answers.{numberOf, numberIn, indexIn, refuseIf, refuseAt, first}
+use Rattle.params.specs.Params.{size, goodParams, lengthsAnswer, shapeAnswer}
 use Rattle.sketch.specs.Buckets.{damaged}
+use Rattle.sketch.specs.Sketch.{Sketch, damagedAt}
 use Rattle.params.proofs.Judging.{first-either}
-use Rattle.params.proofs.InOrder.{order, firstOf, refuse-number, cond-either}
+use Rattle.params.proofs.Lowest.{Lowest, least-lowest}
+use Rattle.params.proofs.InOrder.{order, firstOf, lowest-first, some, refuse-number, refuse-at-number, first-refuse, cond-either}
+use Rattle.sketch.proofs.InOrder.{wrongLength}
+use Rattle.files.specs.declared.writing.Written.{Written}
+use Rattle.files.specs.declared.writing.Written.the-variants.{Refused as NotWritten}
 use Rattle.files.specs.Heads.{openingAnswer}
 use Rattle.files.specs.Turns.{inTurn, bucketPlace, endAnswer}
+use Rattle.files.specs.Writing.{writtenNumber, writtenIndex, writtenLength}
 use Rattle.files.proofs.HeadTrips.{Opened, opening-done}
 use Rattle.files.proofs.Turning.{Earliest, in-turn-earliest, done-in-turn}
-use Rattle.files.proofs.InOrder.{openingOrder, openingFault, opening-number, opening-index, EndFault, end-fault}
+use Rattle.files.proofs.InOrder.{openingOrder, openingFault, opening-number, opening-index, EndFault, end-fault, written-number, written-index, written-length, refused-as-it-was}
 use Rattle.sketchfile.specs.Stored.{bucketsIn, bucketIndex, bucketCount, bucketIdsum, allZero, lowest, bucketAnswer, bucketJudged, bucketsJudged, sketchAnswer}
+use Rattle.sketchfile.specs.Writing.{sketchBytes, sketchWriting, SketchWritten}
 
 -- which faults the j-th record has, in a sketch of N buckets: damage, an index that does not rise or is not below N, or a bucket that is all zero
 abbrev pub bucketFault : ℕ → List ℕ → ℕ → Why → Bool
@@ -90,3 +101,73 @@ module _ (P : Params) (bs : List ℕ) (c s : ℕ) (w : Why) (k : ℕ) where
       (λ h. in-opening (sym (ap numberIn h) ∙ opening-number P bs c s) (sym (ap indexIn h) ∙ opening-index P bs c s))
       (λ h. records-fault (opening-done P bs c s (h .0)) (h .1))
       (first-either (openingAnswer P bs c s) (bucketsJudged (size P) bs) w k e)
+
+-- which faults apply where a sketch is written into an output of o bytes
+abbrev pub writeFault : Params → Sketch → ℕ → Why → Bool
+writeFault P S o Param = not (goodParams P)
+writeFault P S o Length = wrongLength P S || ltb o (length (sketchBytes P S))
+writeFault P S o Damage = some (size P) (damagedAt S)
+writeFault P S o Flow = false
+writeFault P S o Count = false
+writeFault P S o Range = false
+writeFault P S o Mismatch = false
+writeFault P S o Form = false
+
+module _ (P : Params) (S : Sketch) (o : ℕ) where
+  writing-number : numberIn (sketchWriting P S o) ≡ firstOf order (writeFault P S o)
+  unfolding sketchWriting shapeAnswer lengthsAnswer first
+  writing-number = simp (first-refuse, refuse-number, refuse-at-number, cond-either)
+
+  -- the lowest damaged bucket goes with the number of Damage, 0 with any other
+  writing-index : (numberIn (sketchWriting P S o) ≡ 5 → Lowest (size P) (damagedAt S) (indexIn (sketchWriting P S o)))
+      × ((numberIn (sketchWriting P S o) ≡ 5 → ⊥) → indexIn (sketchWriting P S o) ≡ 0)
+  unfolding sketchWriting shapeAnswer lengthsAnswer first refuseAt
+  writing-index = go (not (goodParams P)) (wrongLength P S) (ltb o (length (sketchBytes P S))) (ltb found (size P)) refl
+    where
+      found : ℕ
+      found = least 0 (size P) (damagedAt S)
+
+      answer : (x y z d : Bool) → Answer
+      answer x y z d = first (refuseIf x Param 0 (refuseIf y Length 0 Done)) (refuseIf z Length 0 (refuseIf d Damage found Done))
+
+      go : (x y z d : Bool) → ltb found (size P) ≡ d
+          → (numberIn (answer x y z d) ≡ 5 → Lowest (size P) (damagedAt S) (indexIn (answer x y z d))) × ((numberIn (answer x y z d) ≡ 5 → ⊥) → indexIn (answer x y z d) ≡ 0)
+      go true y z d e = ((λ q. absurd (omega arith)), λ q. refl)
+      go false true z d e = ((λ q. absurd (omega arith)), λ q. refl)
+      go false false true d e = ((λ q. absurd (omega arith)), λ q. refl)
+      go false false false true e = ((λ q. least-lowest (size P) (damagedAt S) (ltb-true _ _ e)), λ q. absurd (q refl))
+      go false false false false e = ((λ q. absurd (omega arith)), λ q. refl)
+
+-- h is what the contract of `write_sketch` gives
+module _ {P : Params} {S : Sketch} {out : List ℕ} {r : Written} {out' : List ℕ} (h : SketchWritten P S out r out') where
+  abbrev judged : Answer
+  judged = sketchWriting P S (length out)
+
+  abbrev long : ℕ
+  long = length (sketchBytes P S)
+
+  -- the first fault that applies decides the number, 0 where none does
+  pub write-sketch-number : writtenNumber r ≡ firstOf order (writeFault P S (length out))
+  write-sketch-number = written-number judged long (h .answer) ∙ writing-number P S (length out)
+
+  -- so no fault that applies has a lower number
+  pub write-sketch-least-number : (w : Why) → writeFault P S (length out) w ≡ true → writtenNumber r ≤ numberOf w
+  write-sketch-least-number w e = rw write-sketch-number (lowest-first (writeFault P S (length out)) refl w e)
+
+  -- with the number of Damage the index is that of the lowest damaged bucket
+  pub write-sketch-lowest : writtenNumber r ≡ 5 → Lowest (size P) (damagedAt S) (writtenIndex r)
+  write-sketch-lowest e =
+      rw (written-index judged long (h .answer)) (writing-index P S (length out) .0 (sym (written-number judged long (h .answer)) ∙ e))
+
+  -- with any other it is 0
+  pub write-sketch-index : (writtenNumber r ≡ 5 → ⊥) → writtenIndex r ≡ 0
+  write-sketch-index n =
+      written-index judged long (h .answer) ∙ writing-index P S (length out) .1 (λ e. n (written-number judged long (h .answer) ∙ e))
+
+  -- where nothing is at fault the file's length is told
+  pub write-sketch-length : writtenNumber r ≡ 0 → writtenLength r ≡ length (sketchBytes P S)
+  write-sketch-length e = written-length judged long (h .answer) e
+
+  -- a refused writer writes nothing
+  pub write-sketch-refused : {w : Why} {k : ℕ} → r ≡ NotWritten w k → out' ≡ out
+  write-sketch-refused e = h .bytes ∙ refused-as-it-was judged long (h .answer) out _ e

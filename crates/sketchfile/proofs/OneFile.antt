@@ -18,14 +18,15 @@ use Rattle.files.specs.Writing.{writtenOf}
 use Rattle.files.proofs.Overwriting.{written-front}
 use Rattle.sketchfile.specs.Stored.{sketchAnswer, sketchIn, SketchRead}
 use Rattle.sketchfile.specs.Writing.{sketchBytes, sketchWriting, SketchWritten}
-use Rattle.sketchfile.proofs.Accepting.{Writable, writing-done, writable-done, file-accepted, file-content, accepted}
+use Rattle.sketchfile.proofs.Written.{Writable, writing-done}
+use Rattle.sketchfile.proofs.Accepting.{writable-done, file-accepted, file-content, accepted}
 
 -- reading the written file gives the sketch back
 pub read-written : {P : Params} {S T T' : Sketch} {out out' : List ℕ} {n : ℕ} {r : Answer} → SketchWritten P S out (Bytes n) out' → SketchRead P (take n out') T r T'
     → length (T .counts) ≡ size P → length (T .idsums) ≡ size P → (r ≡ Done) × (T' ≡ S)
 read-written {P} {S} {T} {T'} {out} {out'} {n} {r} w q c s =
     let wrote = written-front (sketchWriting P S (length out)) out (sketchBytes P S) (w .answer) (w .bytes) in
-    let able = writing-done P S (length out) (wrote .0) in
+    let able = writing-done P S (length out) (wrote .0) .0 in
     let front = wrote .1 in
     let judged = ap (λ (bs : List ℕ). sketchAnswer P bs (length (T .counts)) (length (T .idsums))) front in
     let done : r ≡ Done = q .answer ∙ judged ∙ file-accepted P S able (length (T .counts)) (length (T .idsums)) c s in

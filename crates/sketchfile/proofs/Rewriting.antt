@@ -21,9 +21,10 @@ use Rattle.files.proofs.HeadTrips.{headed-long}
 use Rattle.files.proofs.RecordTrips.{end-read}
 use Rattle.sketchfile.specs.Stored.{bucketIndex, bucketCount, bucketIdsum, allZero, lowest, bucketJudged, stored}
 use Rattle.sketchfile.specs.Writing.{zeroAt, bucketsBytes, bucketsLeft, sketchBytes}
+use Rattle.sketchfile.proofs.BucketRecords.{done-sound}
 use Rattle.sketchfile.proofs.BucketTrips.{bucket-read, no-records, buckets-split, buckets-same}
 use Rattle.sketchfile.proofs.Written.{buckets-long}
-use Rattle.sketchfile.proofs.Filling.{Filled, filled-none, done-sound, counts-long, idsums-long}
+use Rattle.sketchfile.proofs.Filling.{Filled, filled-none, counts-long, idsums-long}
 
 -- buckets that are zero from k on have no records there
 rest-silent : (S : Sketch) (k x : ℕ) → k ≤ x → ((y : ℕ) → k ≤ y → zeroAt S y ≡ true) → bucketsBytes 0 x S ≡ bucketsBytes 0 k S

@@ -1,4 +1,4 @@
--- Sketch files written: the bucket records in turn, how many and how long they are, how long a file is, and what is answered.
+-- Sketch files written: the bucket records in turn, how many and how long they are, how long a file is, what is answered, and what holds where nothing is refused.
 use mathlib.Core.Path.{_≡_, refl, sym, ap, _∙_}
 use mathlib.Core.Bool.{Bool, true, false, not, cond}
 use mathlib.Core.List.{[], _++_}
@@ -14,7 +14,7 @@ use Rattle.params.specs.declared.answers.Answer.the-variants.{Done, Refused}
 use Rattle.params.specs.Answers.{refuseAt}
 use Rattle.params.specs.Params.{size, goodParams, shapeAnswer}
 use Rattle.sketch.specs.Sketch.{Sketch, countIn, idsumIn, damagedAt}
-use Rattle.params.proofs.Judging.{first-done, first-passed, refuse-done}
+use Rattle.params.proofs.Judging.{first-done, first-passed, refuse-done, refuse-at-done}
 use Rattle.params.proofs.Rules.{good-sized, sized-small, shape-done}
 use Rattle.files.specs.Bytes.{wordBytes}
 use Rattle.files.specs.Layout.{bucketBytes}
@@ -81,25 +81,29 @@ module _ (P : Params) (S : Sketch) (o : ℕ) (shaped : shapeAnswer P (length (S 
       let passed : refuseAt (size P) (damagedAt S) Damage Done ≡ sketchWriting P S o = rw (le-ltb o (length (sketchBytes P S)) (omega (arith, long))) (sym (first-passed _ _ shaped)) in
       ap (λ (n : ℕ). refuseAt n (damagedAt S) Damage Done) (shape-done P _ _ shaped .1) ∙ passed
 
--- what holds where nothing is refused
-pub record Passed (P : Params) (S : Sketch) (o : ℕ) : Type 0 where
+-- a sketch whose writing is not refused
+pub record Writable (P : Params) (S : Sketch) : Type 0 where
   pub good : goodParams P ≡ true
-  pub long : length (S .counts) ≡ size P
-  pub same : length (S .counts) ≡ length (S .idsums)
-  pub few : length (S .counts) ≤ 65536
-  pub room : 43 + 13 * bucketsLeft 0 (length (S .counts)) S ≤ o
+  pub counts : length (S .counts) ≡ size P
+  pub idsums : length (S .idsums) ≡ size P
+  pub undamaged : (k : ℕ) → k < size P → damagedAt S k ≡ false
 
-pub sketch-done : (P : Params) (S : Sketch) (o : ℕ) → sketchWriting P S o ≡ Done → Passed P S o
+-- it has few enough buckets
+pub writable-few : {P : Params} {S : Sketch} → Writable P S → length (S .counts) ≤ 65536
+writable-few {P} able = omega (arith, able .counts, sized-small (good-sized P (able .good)))
+
+-- where nothing is refused it is one, and the output has room for its file
+pub writing-done : (P : Params) (S : Sketch) (o : ℕ) → sketchWriting P S o ≡ Done → Writable P S × (43 + 13 * bucketsLeft 0 (length (S .counts)) S ≤ o)
 unfolding sketchWriting shapeAnswer
-sketch-done P S o e =
+writing-done P S o e =
     let h = first-done (shapeAnswer P (length (S .counts)) (length (S .idsums))) _ e in
     let k = refuse-done (ltb o (length (sketchBytes P S))) Length 0 _ (h .1) in
-    let lengths = shape-done P _ _ (h .0) in
-    let good : goodParams P ≡ true = not-false _ (refuse-done (not (goodParams P)) Param 0 _ (h .0) .0) in
-    record {
-      good = good;
-      long = lengths .1;
-      same = omega arith;
-      few = omega (arith, sized-small (good-sized P good));
-      room = omega (arith, ltb-false o (length (sketchBytes P S)) (k .0), long P S o (h .0));
-    }
+    let lengths = shape-done P _ _ (h .0) in (
+      record {
+        good = not-false _ (refuse-done (not (goodParams P)) Param 0 _ (h .0) .0);
+        counts = lengths .1;
+        idsums = lengths .2;
+        undamaged = refuse-at-done (size P) (damagedAt S) Damage Done (k .1) .0;
+      },
+      omega (arith, ltb-false o (length (sketchBytes P S)) (k .0), long P S o (h .0)),
+    )

@@ -2,7 +2,7 @@
 use mathlib.Core.Path.{_≡_}
 use mathlib.Core.Bool.{Bool, not, _&&_}
 use mathlib.Core.List.{List}
-use Prim.Native.Nat.{ℕ, zero, suc, _+_, _*_}
+use Prim.Native.Nat.{ℕ, zero, suc, _+_}
 use lib.IntN.{ℤ}
 use lib.Dec.{eqb, leb, ltb}
 use lib.ListN.{length, set}
@@ -12,9 +12,8 @@ use Rattle.params.specs.declared.answers.Answer.{Answer}
 use Rattle.params.specs.declared.answers.Answer.the-variants.{Done}
 use Rattle.params.specs.Answers.{refuseIf, first, kept}
 use Rattle.params.specs.Params.{size}
-use Rattle.sketch.specs.Buckets.{damaged}
+use Rattle.sketch.specs.Buckets.{isZero, damaged}
 use Rattle.sketch.specs.Sketch.{Sketch, sketch, zeros}
-use Rattle.sketch.specs.Buckets.{isZero}
 use Rattle.files.specs.Bytes.{word, countOf}
 use Rattle.files.specs.Heads.{openingAnswer}
 use Rattle.files.specs.Turns.{inTurn, bucketPlace, recordsOf, endAnswer}

@@ -1,16 +1,18 @@
--- What is told with each refusal of a stream: the head and the lengths come first, then the sketch's damage, then the packets in turn, then the end.
-use mathlib.Core.Path.{_≡_, sym, ap, _∙_}
-use mathlib.Core.Bool.{true, false}
+-- What is told with each refusal of a stream: the head and the lengths come first, then the sketch's damage, then the packets in turn, then the end. And what a stream's writer tells.
+use mathlib.Core.Path.{_≡_, refl, sym, ap, _∙_}
+use mathlib.Core.Bool.{Bool, true, false, not, _&&_, _||_}
 use mathlib.Core.Logic.{⊎-elim}
 use mathlib.Core.List.{List}
-use Prim.Native.Nat.{ℕ, _<_}
+use Prim.Native.Nat.{ℕ, _≤_, _<_}
 use native.Mathlib.Omega.{arith}
+use lib.Dec.{eqb, leb, ltb}
 use lib.ListN.{length}
 use Rattle.params.specs.declared.params.Params.{Params}
 use Rattle.params.specs.declared.answers.Why.{Why}
-use Rattle.params.specs.declared.answers.Why.the-variants.{Damage, Form}
+use Rattle.params.specs.declared.answers.Why.the-variants.{Param, Length, Flow, Count, Damage, Range, Mismatch, Form}
 use Rattle.params.specs.declared.answers.Answer.{Answer}
 use Rattle.params.specs.declared.answers.Answer.the-variants.{Done, Refused}
+use Rattle.params.specs.Lists.{below}
 use Rattle.params.specs.Answers.{numberOf, numberIn, indexIn, refuseAt}
 use Rattle.params.specs.Params.{size, goodParams}
 use Rattle.sketch.specs.Sketch.{Sketch, damagedAt}
@@ -18,14 +20,18 @@ use Rattle.sketch.specs.Packets.{stepAnswer, Accepted}
 use Rattle.params.proofs.Judging.{first-either}
 use Rattle.sketch.proofs.Steps.{move-good}
 use Rattle.params.proofs.Lowest.{Lowest, refuse-at}
-use Rattle.params.proofs.InOrder.{order, firstOf}
+use Rattle.params.proofs.InOrder.{order, firstOf, lowest-first, refuse-number, cond-either}
 use Rattle.sketch.proofs.InOrder.{moveFault, move-number}
+use Rattle.files.specs.declared.writing.Written.{Written}
+use Rattle.files.specs.declared.writing.Written.the-variants.{Refused as NotWritten}
 use Rattle.files.specs.Heads.{openingAnswer}
 use Rattle.files.specs.Turns.{toldAt, inTurn, packetPlace, endAnswer}
+use Rattle.files.specs.Writing.{writtenNumber, writtenIndex, writtenLength}
 use Rattle.files.proofs.HeadTrips.{Opened, opening-done}
 use Rattle.files.proofs.Turning.{Earliest, in-turn-earliest, done-in-turn}
-use Rattle.files.proofs.InOrder.{openingOrder, openingFault, opening-number, opening-index, EndFault, end-fault}
+use Rattle.files.proofs.InOrder.{openingOrder, openingFault, opening-number, opening-index, EndFault, end-fault, refuse-start, written-number, written-index, written-length, refused-as-it-was}
 use Rattle.streamfile.specs.Streams.{packetsIn, packetFlow, packetNumber, flowsIn, numbersIn, afterFirst, packetJudged, packetsJudged, streamAnswer}
+use Rattle.streamfile.specs.Writing.{streamBytes, flowAt, numberAt, streamWriting, StreamWritten}
 use Rattle.streamfile.proofs.Accepting.{judged-accepted}
 
 module _ (P : Params) (bs : List ℕ) (S : Sketch) (w : Why) (k : ℕ) where
@@ -89,3 +95,56 @@ module _ (P : Params) (bs : List ℕ) (S : Sketch) (w : Why) (k : ℕ) where
       (λ h. in-opening (sym (ap numberIn h) ∙ opening-number P bs c s) (sym (ap indexIn h) ∙ opening-index P bs c s))
       (λ h. past-opening (opening-done P bs c s (h .0)) (h .1))
       (first-either (openingAnswer P bs c s) _ w k e)
+
+-- which faults apply where packets are written into an output of o bytes
+abbrev pub writeFault : Params → List ℕ → List ℕ → ℕ → Why → Bool
+writeFault P fs ns o Param = not (goodParams P)
+writeFault P fs ns o Length = not (eqb (length fs) (length ns) && leb (length fs) 65536) || ltb o (length (streamBytes P fs ns))
+writeFault P fs ns o Flow = not (below (length fs) (flowAt P fs))
+writeFault P fs ns o Count = not (below (length ns) (numberAt ns))
+writeFault P fs ns o Damage = false
+writeFault P fs ns o Range = false
+writeFault P fs ns o Mismatch = false
+writeFault P fs ns o Form = false
+
+module _ (P : Params) (fs ns : List ℕ) (o : ℕ) where
+  writing-number : numberIn (streamWriting P fs ns o) ≡ firstOf order (writeFault P fs ns o)
+  unfolding streamWriting
+  writing-number = simp (refuse-number, cond-either)
+
+  writing-index : indexIn (streamWriting P fs ns o) ≡ 0
+  unfolding streamWriting
+  writing-index =
+      refuse-start (not (goodParams P)) Param _
+      (refuse-start (not (eqb (length fs) (length ns) && leb (length fs) 65536)) Length _
+      (refuse-start (ltb o (length (streamBytes P fs ns))) Length _
+      (refuse-start (not (below (length fs) (flowAt P fs))) Flow _
+      (refuse-start (not (below (length ns) (numberAt ns))) Count Done refl))))
+
+-- h is what the contract of `write_stream` gives
+module _ {P : Params} {fs ns out : List ℕ} {r : Written} {out' : List ℕ} (h : StreamWritten P fs ns out r out') where
+  abbrev judged : Answer
+  judged = streamWriting P fs ns (length out)
+
+  abbrev long : ℕ
+  long = length (streamBytes P fs ns)
+
+  -- the first fault that applies decides the number, 0 where none does
+  pub write-stream-number : writtenNumber r ≡ firstOf order (writeFault P fs ns (length out))
+  write-stream-number = written-number judged long (h .answer) ∙ writing-number P fs ns (length out)
+
+  -- so no fault that applies has a lower number
+  pub write-stream-least-number : (w : Why) → writeFault P fs ns (length out) w ≡ true → writtenNumber r ≤ numberOf w
+  write-stream-least-number w e = rw write-stream-number (lowest-first (writeFault P fs ns (length out)) refl w e)
+
+  -- 0 is told with it
+  pub write-stream-index : writtenIndex r ≡ 0
+  write-stream-index = written-index judged long (h .answer) ∙ writing-index P fs ns (length out)
+
+  -- where nothing is at fault the file's length is told
+  pub write-stream-length : writtenNumber r ≡ 0 → writtenLength r ≡ length (streamBytes P fs ns)
+  write-stream-length e = written-length judged long (h .answer) e
+
+  -- a refused writer writes nothing
+  pub write-stream-refused : {w : Why} {k : ℕ} → r ≡ NotWritten w k → out' ≡ out
+  write-stream-refused e = h .bytes ∙ refused-as-it-was judged long (h .answer) out _ e

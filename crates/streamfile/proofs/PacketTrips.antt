@@ -4,7 +4,7 @@ use mathlib.Core.Bool.{true}
 use mathlib.Core.List.{List, [], _∷_, _++_, append-assoc}
 use Prim.Native.Nat.{ℕ, zero, suc, _+_, _*_, _<_}
 use native.Mathlib.Omega.{arith}
-use lib.ListN.{getD, length, take, drop, length-append}
+use lib.ListN.{getD, length, take, drop}
 use lib.Seq.{take-add, drop-drop}
 use Rattle.params.specs.Lists.{from}
 use Rattle.files.specs.Bytes.{word, wordBytes}
@@ -14,7 +14,6 @@ use Rattle.files.specs.Turns.{packetPlace}
 use Rattle.files.proofs.Standing.{kind-ends}
 use Rattle.files.proofs.RoundTrips.{digits-make, two-words}
 use Rattle.files.proofs.RecordTrips.{kind-written, word-written, record-read}
-use Rattle.files.proofs.Overwriting.{length-packetBytes}
 use Rattle.streamfile.specs.Streams.{packetFlow, packetNumber}
 use Rattle.streamfile.specs.Writing.{packetsBytes}
 use Rattle.streamfile.proofs.Found.{There}
@@ -33,15 +32,6 @@ pub packet-read : (bs : List ℕ) (at : ℕ) → ((k : ℕ) → getD bs k 0 < 25
 unfolding packetBytes bodyLength
 packet-read bs at small h =
     let long = kind-ends 2 bs at h in record-read bs at 2 _ h (two-words bs small (at + 1) (at + 5) (omega arith) (omega arith))
-
--- each takes 9 bytes
-pub packets-long : (fs ns : List ℕ) → length fs ≡ length ns → length (packetsBytes fs ns) ≡ 9 * length fs
-unfolding packetsBytes
-packets-long [] ns e = refl
-packets-long (f ∷ fs) [] e = absurd (omega arith)
-packets-long (f ∷ fs) (n ∷ ns) e =
-    let rest = packets-long fs ns (omega arith) in
-    length-append (packetBytes f n) (packetsBytes fs ns) ∙ omega (arith, length-packetBytes f n)
 
 -- packet k stands between those before it and those after it
 pub packet-among : (fs ns : List ℕ) (k : ℕ) → k < length fs → k < length ns

@@ -1,15 +1,15 @@
 -- Packets that can be written as a stream: their file holds them, and is read as they are inserted.
 use mathlib.Core.Path.{_≡_, sym, ap, ap₂, _∙_}
-use mathlib.Core.Bool.{true, false, not, _&&_}
+use mathlib.Core.Bool.{true, false, not}
 use mathlib.Core.List.{List, _++_, append-assoc}
 use Prim.Native.Nat.{ℕ, suc, _+_, _*_, _≤_, _<_}
 use native.Mathlib.Omega.{arith}
-use borrow.Author.Tests.{lt-ltb, ltb-true, le-ltb, le-leb, leb-true, eqb-true, eq-eqb, not-false}
-use lib.Dec.{eqb, leb, ltb}
+use borrow.Author.Tests.{lt-ltb, ltb-true, le-leb, leb-true, eq-eqb, not-false}
+use lib.Dec.{eqb, leb}
 use lib.ListN.{length, getD, take, drop, length-append}
 use lib.Seq.{ext-getD, getD-at, length-take-le}
 use Rattle.params.specs.declared.params.Params.{Params}
-use Rattle.params.specs.declared.answers.Why.the-variants.{Param, Length, Flow, Count, Damage}
+use Rattle.params.specs.declared.answers.Why.the-variants.{Length, Flow, Count, Damage}
 use Rattle.params.specs.declared.answers.Answer.{Answer}
 use Rattle.params.specs.declared.answers.Answer.the-variants.{Done}
 use Rattle.params.specs.Lists.{below}
@@ -29,10 +29,11 @@ use Rattle.files.proofs.RecordTrips.{not-kind, end-written}
 use Rattle.files.proofs.Turning.{records-are}
 use Rattle.streamfile.specs.Streams.{packetsIn, flowsIn, numbersIn, afterFirst, packetJudged, packetsJudged, streamAnswer}
 use Rattle.streamfile.specs.Writing.{packetsBytes, streamBytes, flowAt, numberAt, streamWriting}
+use Rattle.streamfile.proofs.Written.{packets-long, stream-long, Passed, writing-passed, stream-passed}
 use Rattle.streamfile.proofs.Found.{There, length-flows, length-numbers, flow-is, number-is}
 use Rattle.streamfile.proofs.Accepting.{StreamDone}
 use Rattle.streamfile.proofs.AsInserted.{packets-judged}
-use Rattle.streamfile.proofs.PacketTrips.{packet-written, packets-long, packet-among}
+use Rattle.streamfile.proofs.PacketTrips.{packet-written, packet-among}
 
 -- packets whose writing is not refused
 pub record Sendable (P : Params) (fs ns : List ℕ) : Type 0 where
@@ -43,18 +44,15 @@ pub record Sendable (P : Params) (fs ns : List ℕ) : Type 0 where
   pub numbers : (k : ℕ) → k < length ns → (1 ≤ getD ns k 0) × (getD ns k 0 < prime)
 
 pub sending-done : (P : Params) (fs ns : List ℕ) (o : ℕ) → streamWriting P fs ns o ≡ Done → Sendable P fs ns
-unfolding streamWriting flowAt numberAt
+unfolding flowAt numberAt
 sending-done P fs ns o e =
-    let h = refuse-done (not (goodParams P)) Param 0 _ e in
-    let k = refuse-done (not (eqb (length fs) (length ns) && leb (length fs) 65536)) Length 0 _ (h .1) in
-    let l = and-true (eqb (length fs) (length ns)) _ (not-false _ (k .0)) in
-    let m = refuse-done (ltb o (length (streamBytes P fs ns))) Length 0 _ (k .1) in
-    let f = refuse-done (not (below (length fs) (flowAt P fs))) Flow 0 _ (m .1) in
+    let passed = writing-passed P fs ns o e in
+    let f = refuse-done (not (below (length fs) (flowAt P fs))) Flow 0 _ (sym (stream-passed P fs ns o passed) ∙ e) in
     let n = refuse-done (not (below (length ns) (numberAt ns))) Count 0 Done (f .1) in
     record {
-      good = not-false _ (h .0);
-      same = eqb-true _ _ (l .0);
-      few = leb-true _ _ (l .1);
+      good = passed .good;
+      same = passed .same;
+      few = passed .few;
       flows = λ x i. ltb-true _ _ (below-at (length fs) x (flowAt P fs) (not-false _ (f .0)) i);
       numbers = λ x i.
           let q = and-true (leb 1 (getD ns x 0)) _ (below-at (length ns) x (numberAt ns) (not-false _ (n .0)) i) in
@@ -62,11 +60,12 @@ sending-done P fs ns o e =
     }
 
 pub sendable-done : (P : Params) (fs ns : List ℕ) (o : ℕ) → Sendable P fs ns → length (streamBytes P fs ns) ≤ o → streamWriting P fs ns o ≡ Done
-unfolding streamWriting flowAt numberAt
+unfolding flowAt numberAt
 sendable-done P fs ns o h l =
+    let passed : Passed P fs ns o = record { good = h .good; same = h .same; few = h .few; room = omega (arith, stream-long P fs ns (h .same)) } in
     let flows = all-below (length fs) (flowAt P fs) (λ k i. lt-ltb _ _ (h .flows k i)) in
     let numbers = all-below (length ns) (numberAt ns) (λ k i. let n = h .numbers k i in rw (le-leb _ _ (n .0), lt-ltb _ _ (n .1))) in
-    rw (h .good, eq-eqb _ _ (h .same), le-leb _ _ (h .few), le-ltb o _ l, flows, numbers)
+    stream-passed P fs ns o passed ∙ rw (flows, numbers)
 
 -- so are those that were read from a stream, if they are not too many
 pub read-sendable : {P : Params} {bs : List ℕ} {S : Sketch} → StreamDone P bs S → packetsIn bs ≤ 65536 → Sendable P (flowsIn bs) (numbersIn bs)

@@ -1,5 +1,5 @@
 -- The stages of reading a stream: a bad opening, a damaged sketch, and the records.
-use mathlib.Core.Path.{_≡_, refl, sym, ap, ap₂, _∙_}
+use mathlib.Core.Path.{_≡_, refl, sym, _∙_}
 use mathlib.Core.Bool.{cond}
 use mathlib.Core.List.{List}
 use Prim.Native.Nat.{ℕ, _≤_, _<_}
@@ -11,7 +11,7 @@ use Rattle.params.specs.declared.answers.Why.the-variants.{Damage}
 use Rattle.params.specs.declared.answers.Answer.{Answer}
 use Rattle.params.specs.declared.answers.Answer.the-variants.{Done, Refused}
 use Rattle.params.specs.Lists.{least}
-use Rattle.params.specs.Answers.{refuseAt, kept}
+use Rattle.params.specs.Answers.{kept}
 use Rattle.params.specs.Params.{size}
 use Rattle.sketch.specs.Sketch.{Sketch, damagedAt}
 use Rattle.sketch.specs.Packets.{after}

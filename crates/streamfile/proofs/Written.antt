@@ -28,6 +28,7 @@ pub packets-next : (fs ns : List ℕ) (i : ℕ) → i < length fs → i < length
 unfolding packetsBytes
 packets-next fs ns i h k = rw (drop-cons fs i 0 h, drop-cons ns i 0 k, add-one i)
 
+-- each takes 9 bytes
 pub packets-long : (fs ns : List ℕ) → length fs ≡ length ns → length (packetsBytes fs ns) ≡ 9 * length fs
 unfolding packetsBytes packetBytes wordBytes
 packets-long [] ns e = refl
@@ -45,9 +46,9 @@ pub record Passed (P : Params) (fs ns : List ℕ) (o : ℕ) : Type 0 where
   pub few : length fs ≤ 65536
   pub room : 43 + 9 * length fs ≤ o
 
-pub stream-done : (P : Params) (fs ns : List ℕ) (o : ℕ) → streamWriting P fs ns o ≡ Done → Passed P fs ns o
+pub writing-passed : (P : Params) (fs ns : List ℕ) (o : ℕ) → streamWriting P fs ns o ≡ Done → Passed P fs ns o
 unfolding streamWriting
-stream-done P fs ns o e =
+writing-passed P fs ns o e =
     let h = refuse-done (not (goodParams P)) Param 0 _ e in
     let k = refuse-done (not (eqb (length fs) (length ns) && leb (length fs) 65536)) Length 0 _ (h .1) in
     let l = refuse-done (ltb o (length (streamBytes P fs ns))) Length 0 _ (k .1) in

@@ -1,6 +1,6 @@
 // A stream file read into a lent sketch: its packets are inserted in turn.
 ghost use mathlib.Core.Path.{_≡_};
-ghost use Prim.Native.Nat.{ℕ, _≤_};
+ghost use Prim.Native.Nat.{_≤_};
 ghost use Rattle.sketch.specs.Sketch.{sketch};
 ghost use Rattle.sketch.specs.Packets.{Unwound};
 ghost use Rattle.files.specs.Turns.{toldAt};

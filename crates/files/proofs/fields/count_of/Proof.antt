@@ -1,6 +1,5 @@
 -- `files::fields::count_of` meets its contract: what is computed below zero fits both widths.
 use mathlib.Core.Path.{_≡_, ap, subst⁻¹, _∙_}
-use Prim.Native.Nat.{ℕ}
 use native.Mathlib.Omega.{arith}
 use lib.IntN.{ℤ, pos, _-ℤ_}
 use mir.Facts.{toZ-ofZ, toZ-pos, sfits-toZ, sfits-widen}

@@ -4,7 +4,7 @@ use mathlib.Core.Bool.{true}
 use denote.Ref.{now}
 use borrow.Author.Needs.{needs}
 use Rattle.params.specs.declared.answers.Answer.the-variants.{Done}
-use Rattle.params.specs.Params.{goodParams, sameParams, lengthsAnswer, shapeAnswer}
+use Rattle.params.specs.Params.{goodParams, sameParams, shapeAnswer}
 use Rattle.params.proofs.Searches.{test-held, test-failed}
 use Rattle.params.proofs.Judging.{kept-new}
 use Rattle.files.specs.Heads.{paramsIn, headAnswer}

@@ -1,5 +1,4 @@
 -- `files::heads::params` meets its contract.
-use mathlib.Core.Path.{_≡_}
 use mathlib.Core.List.{[], _∷_}
 use native.Mathlib.Omega.{arith}
 use lib.ListN.{getD}

@@ -1,10 +1,9 @@
 -- `files::records::body` meets its contract.
-use mathlib.Core.Path.{_≡_, refl, sym, ap, _∙_}
-use Prim.Native.Nat.{ℕ, _+_}
+use mathlib.Core.Path.{refl, sym, _∙_}
 use native.Mathlib.Nat.{add-zero}
 use native.Mathlib.Omega.{arith}
 use denote.Ref.{now}
-use Rattle.files.specs.Records.{recordAt, bodyOf, bodyStart}
+use Rattle.files.specs.Records.{bodyOf, bodyStart}
 use Rattle.files.proofs.Standing.{Stands, stands-whole, not-whole}
 use borrow.Author.Needs.{needs}
 use Rattle.files.proofs.records.body.Statement.{statement}

@@ -1,5 +1,4 @@
 -- `sketchfile::buckets::all_zero` meets its contract.
-use mathlib.Core.Path.{_≡_}
 use Rattle.field.proofs.Casts.{zero-of-bits, bits-of-zero}
 use Rattle.sketch.proofs.Zeros.{is-zero, not-zero}
 use Rattle.sketchfile.proofs.buckets.all_zero.Statement.{statement}

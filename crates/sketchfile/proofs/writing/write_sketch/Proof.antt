@@ -1,6 +1,6 @@
 -- `sketchfile::writing::write_sketch` meets its contract: where nothing is refused, a head, the records and an end are written one after the other.
 use mathlib.Core.Path.{_≡_, sym, _∙_}
-use Prim.Native.Nat.{_+_, _*_, _-_, _/_}
+use Prim.Native.Nat.{_+_, _*_, _-_, _/_, _≤_}
 use native.Mathlib.Omega.{arith}
 use borrow.Author.Needs.{needs}
 use denote.Ref.{now}
@@ -9,12 +9,14 @@ use Rattle.params.specs.Params.{size}
 use Rattle.sketch.specs.Sketch.{sketch}
 use Rattle.files.proofs.Overwriting.{over-file, told-bytes, told-why, held-new, held-old}
 use Rattle.sketchfile.specs.Writing.{bucketsBytes, bucketsLeft, sketchBytes}
-use Rattle.sketchfile.proofs.Written.{Passed, left-few, buckets-long, sketch-long, sketch-done}
+use Rattle.sketchfile.proofs.Written.{left-few, buckets-long, sketch-long, Writable, writable-few, writing-done}
 use Rattle.sketchfile.proofs.writing.write_sketch.Statement.{statement}
 use Rattle.sketchfile.proofs.writing.write_sketch.Tie as tie
 
-passed : (c : tie.After-enum-told) → let a = c .before .before .before .before .before .args in Passed (a .p) (sketch (now (a .counts)) (now (a .idsums))) (length (now (a .out)))
-passed c = sketch-done _ _ _ (sym (c .before .before .judge .ensures) ∙ c .enum-told .given .1)
+passed : (c : tie.After-enum-told) → let a = c .before .before .before .before .before .args in
+    let S = sketch (now (a .counts)) (now (a .idsums)) in
+    Writable (a .p) S × (43 + 13 * bucketsLeft 0 (length (now (a .counts))) S ≤ length (now (a .out)))
+passed c = writing-done _ _ _ (sym (c .before .before .judge .ensures) ∙ c .enum-told .given .1)
 
 judge-requires : tie.Need-judge-requires
 judge-requires c κs = search needs
@@ -26,7 +28,7 @@ put-head-requires : tie.Need-put-head-requires
 put-head-requires c κs = search needs
 
 put-all-requires : tie.Need-put-all-requires
-put-all-requires c κs = let h = passed (c .before .before .before .before .before) in ((h .same, h .few), omega arith)
+put-all-requires c κs = let h = passed (c .before .before .before .before .before) in ((h .0 .counts ∙ sym (h .0 .idsums), writable-few (h .0)), omega (arith, h .1))
 
 sub-n : tie.Need-sub-n
 sub-n c = search needs
@@ -36,13 +38,13 @@ cast-put-end c =
     let t = c .before .before .before .before .before .before .before .before .before in
     let a = t .before .before .before .before .before .args in
     let h = passed t in
-    omega (arith, left-few (sketch (now (a .counts)) (now (a .idsums))) 0 (length (now (a .counts))))
+    omega (arith, writable-few (h .0), left-few (sketch (now (a .counts)) (now (a .idsums))) 0 (length (now (a .counts))))
 
 put-end-requires : tie.Need-put-end-requires
 put-end-requires c κs = search needs
 
 add-t17 : tie.Need-add-t17
-add-t17 c = omega (arith, passed (c .before .before .before .before .before .before .before .before .before .before .before .before))
+add-t17 c = omega (arith, passed (c .before .before .before .before .before .before .before .before .before .before .before .before) .1)
 
 enum-known-r : tie.Need-enum-known-r
 enum-known-r c = search needs
@@ -58,13 +60,13 @@ returns c =
     let S = sketch (now (a .counts)) (now (a .idsums)) in
     let h = passed t in
     let records = c .before .before .before .before .before .before .put-all in
-    let end : records .result ≡ 38 + 13 * bucketsLeft 0 (size (a .p)) S = rw (h .long) at (records .ensures .0) in
+    let end : records .result ≡ 38 + 13 * bucketsLeft 0 (size (a .p)) S = rw (h .0 .counts) at (records .ensures .0) in
     let count : (records .result - 38) / 13 ≡ bucketsLeft 0 (size (a .p)) S = omega arith in
     let judged = t .before .before .judge .ensures in
     let written =
-    over-file (a .p) (now (a .out)) (bucketsBytes 0 (size (a .p)) S) (bucketsLeft 0 (size (a .p)) S) (records .result) (h .good) (omega (arith, buckets-long S 0 (size (a .p)))) (omega arith)
+    over-file (a .p) (now (a .out)) (bucketsBytes 0 (size (a .p)) S) (bucketsLeft 0 (size (a .p)) S) (records .result) (h .0 .good) (omega (arith, buckets-long S 0 (size (a .p)))) (omega (arith, h .0 .counts, h .1))
     (c .before .before .before .before .before .before .before .before .before .before .put-head .ensures)
-    (rw (h .long) at (records .ensures .1))
+    (rw (h .0 .counts) at (records .ensures .1))
     (rw count at (c .before .before .put-end .ensures)) in
     record {
       answer = told-bytes judged _ _ (t .enum-told .given .1) (omega (arith, sketch-long (a .p) S));

@@ -1,12 +1,12 @@
 -- `streamfile::reading::read_records` meets its contract. The invariant: n packets went in, and what they made stands in the sketch.
-use mathlib.Core.Path.{_≡_, refl, sym, ap, subst, _∙_}
+use mathlib.Core.Path.{_≡_, refl, sym, ap, _∙_}
 use mathlib.Core.Bool.{false}
-use Prim.Native.Nat.{_+_, _-_, _*_, _≤_}
+use Prim.Native.Nat.{_-_}
 use native.Mathlib.Omega.{arith}
 use lib.ListN.{length}
 use denote.Ref.{now}
 use borrow.Author.Needs.{needs}
-use Rattle.sketch.specs.Sketch.{Sketch, sketch}
+use Rattle.sketch.specs.Sketch.{sketch}
 use Rattle.params.proofs.Judging.{kept-old, kept-new}
 use Rattle.sketch.proofs.ManyPackets.{stepped-long}
 use Rattle.files.specs.Records.{recordAt, isKind}

@@ -1,5 +1,4 @@
 -- `streamfile::reading::told_at` meets its contract.
-use mathlib.Core.Path.{_≡_, sym, ap}
 use borrow.Author.Needs.{needs}
 use Rattle.files.specs.Turns.{toldAt}
 use Rattle.streamfile.proofs.reading.told_at.Statement.{statement}

@@ -1,9 +1,9 @@
 -- `streamfile::reading::withdraw_packets` meets its contract. The invariant: the sketch is what the first i packets made of the one they went into.
-use mathlib.Core.Path.{_≡_, refl, sym, ap, _∙_}
+use mathlib.Core.Path.{_≡_, refl, sym, _∙_}
 use mathlib.Core.Bool.{true≢false}
-use Prim.Native.Nat.{ℕ, _-_, _≤_, _<_}
+use Prim.Native.Nat.{_-_, _≤_, _<_}
 use native.Mathlib.Omega.{arith}
-use lib.ListN.{length, getD, take}
+use lib.ListN.{length, take}
 use denote.Ref.{now}
 use borrow.Author.Needs.{needs}
 use Rattle.sketch.specs.Sketch.{Sketch, sketch}
@@ -12,7 +12,7 @@ use Rattle.sketch.proofs.ManyPackets.{stepped-long, unwind}
 use Rattle.files.specs.Turns.{packetPlace}
 use Rattle.files.proofs.Turning.{whole-within}
 use Rattle.streamfile.specs.Streams.{flowsIn, numbersIn, packetsIn}
-use Rattle.streamfile.proofs.Found.{There, packets-there, packets-not-there, packet-within, length-flows, length-numbers, flow-is, number-is}
+use Rattle.streamfile.proofs.Found.{packets-there, packets-not-there, packet-within, length-flows, length-numbers, flow-is, number-is}
 use Rattle.streamfile.proofs.reading.withdraw_packets.Statement.{statement}
 use Rattle.streamfile.proofs.reading.withdraw_packets.Tie as tie
 

@@ -7,12 +7,12 @@ use denote.Ref.{now}
 use lib.ListN.{length}
 use Rattle.files.proofs.Overwriting.{over-file, told-bytes, told-why, held-new, held-old}
 use Rattle.streamfile.specs.Writing.{packetsBytes, streamBytes}
-use Rattle.streamfile.proofs.Written.{Passed, packets-long, stream-long, stream-done}
+use Rattle.streamfile.proofs.Written.{Passed, packets-long, stream-long, writing-passed}
 use Rattle.streamfile.proofs.writing.write_stream.Statement.{statement}
 use Rattle.streamfile.proofs.writing.write_stream.Tie as tie
 
 passed : (c : tie.After-enum-told) → let a = c .before .before .before .before .before .before .args in Passed (a .p) (now (a .flows)) (now (a .numbers)) (length (now (a .out)))
-passed c = stream-done _ _ _ _ (sym (c .before .before .judge .ensures) ∙ c .enum-told .given .1)
+passed c = writing-passed _ _ _ _ (sym (c .before .before .judge .ensures) ∙ c .enum-told .given .1)
 
 judge-requires : tie.Need-judge-requires
 judge-requires c κs = search needs
