@@ -11,7 +11,7 @@ use crate::states::State;
 use crate::states::in_reach;
 use params::Params;
 
-// Takes all whole records of the bytes at hand, whose first is the next of the input, and says how many bytes that used. The
+// Takes all whole records of the bytes at hand, up to one at fault; their first byte is the next of the input. Says how many bytes that used. The
 // rest is to be at hand again, with more behind it, at the next call.
 pub fn feed(
     p: Params,
