@@ -1,0 +1,49 @@
+-- Two streams that were read into fresh sketches are settled without a refusal: of their subtraction comes no RANGE. How the walk then ends is not said here.
+use mathlib.Core.Path.{_≡_, sym}
+use mathlib.Core.Bool.{true, _&&_}
+use mathlib.Core.List.{List}
+use Prim.Native.Nat.{ℕ, _≤_}
+use borrow.Author.Tests.{eq-eqb, le-leb}
+use lib.Dec.{eqb, leb}
+use lib.ListN.{length}
+use Rattle.params.specs.declared.params.Params.{Params}
+use Rattle.params.specs.declared.answers.Answer.the-variants.{Done}
+use Rattle.params.specs.Params.{size, goodParams, lengthsAnswer, shapeAnswer}
+use Rattle.sketch.specs.Sketch.{Sketch, zeros}
+use Rattle.sums.specs.Sums.{combineAnswer}
+use Rattle.walk.proofs.Promises.{Whole}
+use Rattle.streamfile.specs.Streams.{StreamRead}
+use Rattle.streamfile.proofs.FreshStreams.{Grown, fresh-grown}
+use Rattle.settle.specs.Settling.{settleAnswer}
+use Rattle.settle.proofs.Differences.{never-refused}
+use Rattle.settle.proofs.Settled.{well-lent, lent-first}
+
+grown-whole : {P : Params} {S : Sketch} → Grown P S → Whole P S
+grown-whole g = record { counts-long = g .counts-long; idsums-long = g .idsums-long; undamaged = g .undamaged }
+
+-- nothing is wrong with the shape of a sketch of the right lengths, nor with what is lent beside it
+shape-good : (P : Params) (c s : ℕ) → goodParams P ≡ true → c ≡ size P → s ≡ size P → shapeAnswer P c s ≡ Done
+unfolding shapeAnswer lengthsAnswer
+shape-good P c s good h k = rw (good, eq-eqb c (size P) h, eq-eqb s (size P) k)
+
+lent-fits : (N flows numbers queue marks : ℕ) → flows ≡ numbers → flows ≤ 65536 → queue ≡ N → marks ≡ N
+    → (eqb queue N && eqb marks N && eqb flows numbers && leb flows 65536) ≡ true
+lent-fits N flows numbers queue marks e l h k = rw (eq-eqb queue N h, eq-eqb marks N k, eq-eqb flows numbers e, le-leb flows 65536 l)
+
+-- S and T are what the two streams left, each in a sketch of its own
+module _ {P : Params} {a b : List ℕ} {S T : Sketch} (up : StreamRead P a (zeros P) Done S) (down : StreamRead P b (zeros P) Done T) where
+  -- packets only add, so no count is below 0 in either, and no difference of two such counts leaves the limits
+  pub streams-subtract : combineAnswer true P P S T ≡ Done
+  streams-subtract =
+      let s = fresh-grown up in
+      let t = fresh-grown down in
+      never-refused P S T (s .good) (grown-whole s) (grown-whole t) (s .none-below) (t .none-below)
+
+  -- with table slices of one length of at most 65536, and a queue and marks of the sketch's size, nothing is left to refuse
+  pub streams-settle : (flows numbers queue marks : ℕ) → flows ≡ numbers → flows ≤ 65536 → queue ≡ size P → marks ≡ size P
+      → settleAnswer P S T flows numbers queue marks ≡ Done
+  streams-settle flows numbers queue marks e l h k =
+      let s = fresh-grown up in
+      let shaped = shape-good P (length (S .counts)) (length (S .idsums)) (s .good) (s .counts-long) (s .idsums-long) in
+      let lent = well-lent P (length (S .counts)) (length (S .idsums)) flows numbers queue marks shaped (lent-fits (size P) flows numbers queue marks e l h k) in
+      sym (lent-first P S T flows numbers queue marks Done (sym lent) (sym streams-subtract))
