@@ -1,7 +1,7 @@
 //! The independent report program: an upstream stream file and, directly after it, a downstream one from
 //! standard input; the lost flows, what is left and the ending to standard output.
 //!
-//! It is written from document 01 and shares nothing with the proved library, so that the two can be compared. Where
+//! It is written from the scope and shares nothing with the proved library, so that the two can be compared. Where
 //! that document can be read in two ways it takes the readings of docs/DECISIONS.md. It is plain rather than lean: it holds
 //! the whole input, and looks at every bucket before every pop.
 

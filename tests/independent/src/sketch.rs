@@ -22,7 +22,7 @@ pub enum Fault {
 pub struct Params {
     pub d: i64,
     pub m: i64,
-    /// There is always room for four; pair i of document 01 is `pairs[i - 1]`.
+    /// There is always room for four; pair i of the scope is `pairs[i - 1]`.
     pub pairs: [(i64, i64); 4],
 }
 
