@@ -2,3 +2,4 @@
 pub mod Decimal
 pub mod Texts
 pub mod Lines
+pub mod Reports

@@ -1,6 +1,6 @@
 -- The lines of the report, as bytes of ASCII: words and numbers with one space between them, and a newline.
 use mathlib.Core.Path.{_≡_}
-use mathlib.Core.Bool.{cond}
+use mathlib.Core.Bool.{Bool, cond}
 use mathlib.Core.List.{List, [], _∷_, _++_}
 use Prim.Native.Nat.{ℕ}
 use lib.IntN.{ℤ}
@@ -57,7 +57,11 @@ endLine e p n = end ++ (endingWord e ++ (pops ++ (decimal p ++ (net ++ (signedDe
 unfoldable pub refusedLine : Why → ℕ → List ℕ
 refusedLine w k = refused ++ (decimal (numberOf w) ++ (at ++ (decimal k ++ newline)))
 
--- a line written at the start of the output, which must have room for 64 bytes, more than any line has; else nothing is
-pub record Lined (line out : List ℕ) (r : ℕ) (out' : List ℕ) : Type 0 where
-  pub long : r ≡ cond (leb 64 (length out)) (length line) 0
-  pub bytes : out' ≡ cond (leb 64 (length out)) (over out 0 line) out
+-- a text written at the start of the output, or nothing, and 0 told
+pub record Lined (fits : Bool) (text out : List ℕ) (r : ℕ) (out' : List ℕ) : Type 0 where
+  pub long : r ≡ cond fits (length text) 0
+  pub bytes : out' ≡ cond fits (over out 0 text) out
+
+-- no line is longer than 64 bytes, and so many must be there for each
+abbrev pub lineFits : List ℕ → Bool
+lineFits out = leb 64 (length out)

@@ -2,7 +2,7 @@
 // the output has no room for so many, nothing is written and 0 given.
 ghost use mathlib.Core.Path.{_≡_};
 ghost use Rattle.params.specs.Answers.{numberOf};
-ghost use Rattle.lines.specs.Lines.{lossLine, leftLine, endLine, refusedLine, Lined};
+ghost use Rattle.lines.specs.Lines.{lossLine, leftLine, endLine, refusedLine, lineFits, Lined};
 use crate::text::put;
 use crate::text::put_ending;
 use crate::text::put_named;
@@ -12,7 +12,7 @@ use walk::Ending;
 
 // loss FLOW COUNT
 pub fn loss(out: &mut [u8], flow: u32, count: i32) -> usize
-    ensures { λ r. ⌜ Lined (lossLine flow count) (now (out .entry)) r (now (out .exit)) ⌝ }
+    ensures { λ r. ⌜ Lined (lineFits (now (out .entry))) (lossLine flow count) (now (out .entry)) r (now (out .exit)) ⌝ }
 {
     if out.len() < 64 {
         return 0;
@@ -23,8 +23,8 @@ pub fn loss(out: &mut [u8], flow: u32, count: i32) -> usize
 }
 
 // left INDEX COUNT IDSUM
-pub fn left(out: &mut [u8], index: u32, count: i32, idsum: u32) -> usize
-    ensures { λ r. ⌜ Lined (leftLine index count idsum) (now (out .entry)) r (now (out .exit)) ⌝ }
+pub fn left(out: &mut [u8], index: usize, count: i32, idsum: u32) -> usize
+    ensures { λ r. ⌜ Lined (lineFits (now (out .entry))) (leftLine index count idsum) (now (out .entry)) r (now (out .exit)) ⌝ }
 {
     if out.len() < 64 {
         return 0;
@@ -37,7 +37,7 @@ pub fn left(out: &mut [u8], index: u32, count: i32, idsum: u32) -> usize
 
 // end ENDING pops N net N
 pub fn end(out: &mut [u8], ending: Ending, pops: u32, net: i64) -> usize
-    ensures { λ r. ⌜ Lined (endLine ending pops net) (now (out .entry)) r (now (out .exit)) ⌝ }
+    ensures { λ r. ⌜ Lined (lineFits (now (out .entry))) (endLine ending pops net) (now (out .entry)) r (now (out .exit)) ⌝ }
 {
     if out.len() < 64 {
         return 0;
@@ -66,7 +66,7 @@ fn number(why: Why) -> u64
 
 // refused NUMBER at BYTE
 pub fn refused(out: &mut [u8], why: Why, byte: usize) -> usize
-    ensures { λ r. ⌜ Lined (refusedLine why byte) (now (out .entry)) r (now (out .exit)) ⌝ }
+    ensures { λ r. ⌜ Lined (lineFits (now (out .entry))) (refusedLine why byte) (now (out .entry)) r (now (out .exit)) ⌝ }
 {
     if out.len() < 64 {
         return 0;

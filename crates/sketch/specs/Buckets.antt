@@ -26,3 +26,7 @@ weight f n = residue prime (pos (n * f))
 -- a count that is 0
 abbrev pub isZero : ℤ → Bool
 isZero z = eqb (natAbs z) 0
+
+-- a bucket that is all zero
+abbrev pub allZero : ℤ → ℕ → Bool
+allZero c s = isZero c && eqb s 0

@@ -8,7 +8,7 @@ ghost use Rattle.field.specs.Residue.{residue};
 ghost use Rattle.params.specs.Lists.{least};
 ghost use Rattle.params.specs.Params.{prime};
 ghost use Rattle.sketch.specs.Sketch.{sketch, damagedAt};
-ghost use Rattle.sketch.specs.Buckets.{inLimits, plusMinus, weight as «weight-of»};
+ghost use Rattle.sketch.specs.Buckets.{inLimits, plusMinus, weight as «weight-of», allZero};
 use params::PRIME;
 
 // Whether a number lies within a count's limits.
@@ -26,6 +26,16 @@ pub fn sound(c: i32, s: u32) -> bool
         return false;
     }
     s < PRIME
+}
+
+// Whether a bucket is all zero.
+pub fn all_zero(c: i32, s: u32) -> bool
+    ensures { λ r. ⌜ r ≡ allZero c s ⌝ }
+{
+    if c != 0 {
+        return false;
+    }
+    s == 0
 }
 
 // The lowest index of a bucket outside its limits, or the number of buckets; 0 for slices of different lengths.

@@ -15,7 +15,7 @@ use Rattle.params.specs.declared.answers.Answer.{Answer}
 use Rattle.params.specs.declared.answers.Answer.the-variants.{Done, Refused}
 use Rattle.params.specs.Answers.{kept}
 use Rattle.params.specs.Params.{prime, shapeAnswer}
-use Rattle.sketch.specs.Buckets.{inLimits, damaged}
+use Rattle.sketch.specs.Buckets.{allZero, inLimits, damaged}
 use Rattle.sketch.specs.Sketch.{Sketch, sketch, Freshened}
 use Rattle.params.proofs.Searches.{and-true}
 use Rattle.params.proofs.Judging.{Refusal, first-refused, first-passed, first-done, refuse-done}
@@ -29,7 +29,7 @@ use Rattle.files.specs.Turns.{bucketPlace, endAnswer}
 use Rattle.files.proofs.HeadTrips.{opening-done}
 use Rattle.files.proofs.Standing.{kind-ends}
 use Rattle.files.proofs.Turning.{Come, come-start, come-next, come-end, come-within, in-turn-refused, in-turn-done, done-in-turn}
-use Rattle.sketchfile.specs.Stored.{bucketsIn, bucketIndex, bucketCount, bucketIdsum, allZero, lowest, bucketAnswer, bucketJudged, bucketsJudged, stored, sketchIn}
+use Rattle.sketchfile.specs.Stored.{bucketsIn, bucketIndex, bucketCount, bucketIdsum, lowest, bucketAnswer, bucketJudged, bucketsJudged, stored, sketchIn}
 
 -- what is refused of one bucket, by its stages
 module _ (N low at x : ℕ) (c : ℤ) (s : ℕ) where

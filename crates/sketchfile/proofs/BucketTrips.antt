@@ -22,7 +22,7 @@ use Rattle.files.specs.Layout.{bucketBytes}
 use Rattle.files.proofs.Standing.{kind-ends}
 use Rattle.files.proofs.RoundTrips.{digits-make, word-small, word-then, two-words}
 use Rattle.files.proofs.RecordTrips.{kind-written, word-written, record-read}
-use Rattle.sketchfile.specs.Stored.{allZero}
+use Rattle.sketch.specs.Buckets.{allZero}
 use Rattle.sketchfile.specs.Writing.{zeroAt, bucketsBytes}
 
 -- a whole bucket record at an offset, by what it says

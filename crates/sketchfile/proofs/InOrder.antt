@@ -16,7 +16,7 @@ use Rattle.params.specs.declared.answers.Answer.the-variants.{Done, Refused}
 use Rattle.params.specs.Lists.{least}
 use Rattle.params.specs.Answers.{numberOf, numberIn, indexIn, refuseIf, refuseAt, first}
 use Rattle.params.specs.Params.{size, goodParams, lengthsAnswer, shapeAnswer}
-use Rattle.sketch.specs.Buckets.{damaged}
+use Rattle.sketch.specs.Buckets.{allZero, damaged}
 use Rattle.sketch.specs.Sketch.{Sketch, damagedAt}
 use Rattle.params.proofs.Judging.{first-either}
 use Rattle.params.proofs.Lowest.{Lowest, least-lowest}
@@ -30,7 +30,7 @@ use Rattle.files.specs.Writing.{writtenNumber, writtenIndex, writtenLength}
 use Rattle.files.proofs.HeadTrips.{Opened, opening-done}
 use Rattle.files.proofs.Turning.{Earliest, in-turn-earliest, done-in-turn}
 use Rattle.files.proofs.InOrder.{openingOrder, openingFault, opening-number, opening-index, EndFault, end-fault, written-number, written-index, written-length, refused-as-it-was}
-use Rattle.sketchfile.specs.Stored.{bucketsIn, bucketIndex, bucketCount, bucketIdsum, allZero, lowest, bucketAnswer, bucketJudged, bucketsJudged, sketchAnswer}
+use Rattle.sketchfile.specs.Stored.{bucketsIn, bucketIndex, bucketCount, bucketIdsum, lowest, bucketAnswer, bucketJudged, bucketsJudged, sketchAnswer}
 use Rattle.sketchfile.specs.Writing.{sketchBytes, sketchWriting, SketchWritten}
 
 -- which faults the j-th record has, in a sketch of N buckets: damage, an index that does not rise or is not below N, or a bucket that is all zero

@@ -12,14 +12,14 @@ use lib.Seq.{getD-set-same, getD-set-other, take-add, length-take-le}
 use Rattle.params.specs.declared.params.Params.{Params}
 use Rattle.params.specs.declared.answers.Answer.the-variants.{Done}
 use Rattle.params.specs.Params.{size}
-use Rattle.sketch.specs.Buckets.{inLimits, damaged}
+use Rattle.sketch.specs.Buckets.{allZero, inLimits, damaged}
 use Rattle.sketch.specs.Sketch.{Sketch, sketch, countIn, idsumIn, damagedAt, zeros}
 use Rattle.files.specs.Records.{recordAt, isKind}
 use Rattle.files.specs.Layout.{headBytes, bucketBytes, endBytes}
 use Rattle.files.specs.Turns.{bucketPlace, endAnswer}
 use Rattle.files.proofs.HeadTrips.{headed-long}
 use Rattle.files.proofs.RecordTrips.{end-read}
-use Rattle.sketchfile.specs.Stored.{bucketIndex, bucketCount, bucketIdsum, allZero, lowest, bucketJudged, stored}
+use Rattle.sketchfile.specs.Stored.{bucketIndex, bucketCount, bucketIdsum, lowest, bucketJudged, stored}
 use Rattle.sketchfile.specs.Writing.{zeroAt, bucketsBytes, bucketsLeft, sketchBytes}
 use Rattle.sketchfile.proofs.BucketRecords.{done-sound}
 use Rattle.sketchfile.proofs.BucketTrips.{bucket-read, no-records, buckets-split, buckets-same}

@@ -12,7 +12,7 @@ use Rattle.params.specs.declared.answers.Answer.{Answer}
 use Rattle.params.specs.declared.answers.Answer.the-variants.{Done}
 use Rattle.params.specs.Answers.{refuseIf, first, kept}
 use Rattle.params.specs.Params.{size}
-use Rattle.sketch.specs.Buckets.{isZero, damaged}
+use Rattle.sketch.specs.Buckets.{allZero, damaged}
 use Rattle.sketch.specs.Sketch.{Sketch, sketch, zeros}
 use Rattle.files.specs.Bytes.{word, countOf}
 use Rattle.files.specs.Heads.{openingAnswer}
@@ -30,10 +30,6 @@ bucketCount bs k = countOf (word bs (bucketPlace k + 5))
 
 abbrev pub bucketIdsum : List ℕ → ℕ → ℕ
 bucketIdsum bs k = word bs (bucketPlace k + 9)
-
--- a bucket that is all zero
-abbrev pub allZero : ℤ → ℕ → Bool
-allZero c s = isZero c && eqb s 0
 
 -- the lowest index that the k-th record may have: above that of the record before it
 unfoldable pub lowest : List ℕ → ℕ → ℕ

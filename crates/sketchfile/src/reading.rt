@@ -4,7 +4,6 @@ ghost use Prim.Native.Nat.{ℕ, _<_};
 ghost use lib.ListN.{length};
 ghost use Rattle.sketch.specs.Sketch.{sketch};
 ghost use Rattle.sketchfile.specs.Stored.{bucketsIn, bucketIndex, bucketAnswer, bucketsJudged, stored, SketchRead};
-use crate::buckets::all_zero;
 use files::ends::end;
 use files::fields::Bucket;
 use files::fields::bucket_at;
@@ -12,6 +11,7 @@ use files::heads::opening;
 use params::Answer;
 use params::Params;
 use params::Why;
+use sketch::buckets::all_zero;
 use sketch::buckets::sound;
 use sketch::packets::fresh;
 

@@ -5,7 +5,6 @@ ghost use lib.ListN.{length};
 ghost use Rattle.sketch.specs.Sketch.{sketch};
 ghost use Rattle.files.specs.Bytes.{over};
 ghost use Rattle.sketchfile.specs.Writing.{bucketsBytes, bucketsLeft, sketchWriting, SketchWritten};
-use crate::buckets::all_zero;
 use files::writing::Written;
 use files::writing::put_bucket;
 use files::writing::put_end;
@@ -13,6 +12,7 @@ use files::writing::put_head;
 use params::Answer;
 use params::Params;
 use params::Why;
+use sketch::buckets::all_zero;
 use sketch::buckets::first_damaged;
 
 // How many buckets are not all zero.

@@ -3,7 +3,7 @@ use native.Mathlib.Omega.{arith}
 use mir.Facts.{sfits-widen}
 use Rattle.field.proofs.Casts.{widened, widens}
 use Rattle.lines.specs.Lines.{leftLine}
-use Rattle.lines.proofs.Digits.{length-short, length-read}
+use Rattle.lines.proofs.Digits.{length-decimal, length-short, length-read}
 use Rattle.lines.proofs.Joining.{line-of-four, not-lined}
 use borrow.Author.Needs.{needs}
 use Rattle.lines.proofs.lines.left.Statement.{statement}
@@ -16,7 +16,7 @@ slice-aggregate-put-named : tie.Need-slice-aggregate-put-named
 slice-aggregate-put-named c = search needs
 
 put-named-requires : tie.Need-put-named-requires
-put-named-requires c κs = omega (arith, length-short (c .before .before .before .before .args .index) (omega arith))
+put-named-requires c κs = omega (arith, length-decimal (c .before .before .before .before .args .index) (omega arith))
 
 slice-aggregate-put-named-signed : tie.Need-slice-aggregate-put-named-signed
 slice-aggregate-put-named-signed c = search needs
@@ -25,7 +25,7 @@ cast-put-named-signed : tie.Need-cast-put-named-signed
 cast-put-named-signed c = widens (c .before .before .before .before .before .before .before .before .before .fits .count)
 
 put-named-signed-requires : tie.Need-put-named-signed-requires
-put-named-signed-requires c κs = let s = c .before .before .before .before .before .before .before .before .before in omega (arith, length-short (s .args .index) (omega arith))
+put-named-signed-requires c κs = let s = c .before .before .before .before .before .before .before .before .before in omega (arith, length-decimal (s .args .index) (omega arith))
 
 slice-aggregate-put-named-2 : tie.Need-slice-aggregate-put-named-2
 slice-aggregate-put-named-2 c = search needs
@@ -33,7 +33,7 @@ slice-aggregate-put-named-2 c = search needs
 put-named-requires-2 : tie.Need-put-named-requires-2
 put-named-requires-2 c κs =
     let s = c .before .before .before .before .before .before .before .before .before .before .before .before .before .before in
-    omega (arith, length-short (s .args .index) (omega arith), length-read (widened (s .fits .count)) (sfits-widen tt (s .fits .count)), length-short (s .args .idsum) (omega arith))
+    omega (arith, length-decimal (s .args .index) (omega arith), length-read (widened (s .fits .count)) (sfits-widen tt (s .fits .count)), length-short (s .args .idsum) (omega arith))
 
 slice-aggregate-put : tie.Need-slice-aggregate-put
 slice-aggregate-put c = search needs
@@ -41,7 +41,7 @@ slice-aggregate-put c = search needs
 put-requires : tie.Need-put-requires
 put-requires c κs =
     let s = c .before .before .before .before .before .before .before .before .before .before .before .before .before .before .before .before .before .before .before in
-    omega (arith, length-short (s .args .index) (omega arith), length-read (widened (s .fits .count)) (sfits-widen tt (s .fits .count)), length-short (s .args .idsum) (omega arith))
+    omega (arith, length-decimal (s .args .index) (omega arith), length-read (widened (s .fits .count)) (sfits-widen tt (s .fits .count)), length-short (s .args .idsum) (omega arith))
 
 same-length : tie.Need-same-length
 same-length c = search needs

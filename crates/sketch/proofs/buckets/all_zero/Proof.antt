@@ -1,8 +1,8 @@
--- `sketchfile::buckets::all_zero` meets its contract.
+-- `sketch::buckets::all_zero` meets its contract.
 use Rattle.field.proofs.Casts.{zero-of-bits, bits-of-zero}
 use Rattle.sketch.proofs.Zeros.{is-zero, not-zero}
-use Rattle.sketchfile.proofs.buckets.all_zero.Statement.{statement}
-use Rattle.sketchfile.proofs.buckets.all_zero.Tie as tie
+use Rattle.sketch.proofs.buckets.all_zero.Statement.{statement}
+use Rattle.sketch.proofs.buckets.all_zero.Tie as tie
 
 returns : tie.Need-returns
 returns c = rw (not-zero _ (λ e. c .if1 .taken (bits-of-zero _ e)))

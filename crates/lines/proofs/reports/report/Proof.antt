@@ -1,0 +1,88 @@
+-- `lines::reports::report` meets its contract: the lines of the table, those of what is left, and the end, one after another.
+use mathlib.Core.Path.{_≡_, sym, _∙_}
+use mathlib.Core.Bool.{true}
+use native.Mathlib.Omega.{arith}
+use Prim.Native.Nat.{_+_, _-_, _*_, _≤_}
+use borrow.Rule.Slice.PartMut.{putMid}
+use denote.Ref.{now}
+use lib.ListN.{length}
+use mir.Facts.{toZ-ofZ}
+use borrow.Author.Needs.{needs}
+use borrow.Author.Tests.{not-true, not-false}
+use Rattle.lines.specs.Lines.{endLine}
+use Rattle.lines.specs.Reports.{reportText, reportFits}
+use Rattle.lines.specs.Texts.{Placed}
+use Rattle.lines.proofs.Joining.{text-of-three, not-written}
+use Rattle.lines.proofs.Reporting.{length-end, line-in-the-rest, fitting}
+use Rattle.lines.proofs.reports.report.Statement.{statement}
+use Rattle.lines.proofs.reports.report.Tie as tie
+
+-- the report fits, and what that means
+room : (c : tie.Else1) → let a = c .before .before .before .before .before .args in
+    reportFits (length (now (a .out))) (length (now (a .flows))) (length (now (a .numbers))) (a .entries) (length (now (a .counts))) (length (now (a .idsums))) ≡ true
+room c = sym (c .before .fits2 .ensures) ∙ not-false _ (c .if1 .left)
+
+within : (c : tie.Else1) → let a = c .before .before .before .before .before .args in
+    (a .entries ≤ length (now (a .flows))) × (a .entries ≤ length (now (a .numbers))) × (length (now (a .idsums)) ≡ length (now (a .counts))) × (64 * (a .entries + length (now (a .counts)) + 1) ≤ length (now (a .out)))
+within c =
+    let a = c .before .before .before .before .before .args in
+    fitting (length (now (a .out))) (length (now (a .flows))) (length (now (a .numbers))) (a .entries) (length (now (a .counts))) (length (now (a .idsums))) (room c)
+
+fits-requires : tie.Need-fits-requires
+fits-requires c κs = search needs
+
+returns : tie.Need-returns
+returns c = not-written _ _ (sym (c .before .fits2 .ensures) ∙ not-true _ (c .if1 .taken))
+
+put-losses-requires : tie.Need-put-losses-requires
+put-losses-requires c κs = let f = within (c .before) in (omega (arith, f), (f .0, f .1))
+
+put-lefts-requires : tie.Need-put-lefts-requires
+put-lefts-requires c κs = let f = within (c .before .before .before .before .before) in (omega (arith, f), f .2)
+
+sub-end : tie.Need-sub-end
+sub-end c = let f = within (c .before .before .before .before .before .before .before .before) in omega (arith, f)
+
+part-end-start : tie.Need-part-end-start
+part-end-start c = let f = within (c .before .before .before .before .before .before .before .before) in omega (arith, f)
+
+part-end-end : tie.Need-part-end-end
+part-end-end c = search needs
+
+end-requires : tie.Need-end-requires
+end-requires c κs = search needs
+
+same-length : tie.Need-same-length
+same-length c = search needs
+
+-- the end's line, after all others
+last-line : (c : tie.After-slice-known4) → let lefts = c .before .before .before .before .before .before .put-lefts in let a = c .before .before .before .before .before .before .before .before .before .before .before .before .before .before .before .before .before .args in
+    Placed (endLine (a .ending) (a .pops) (a .net)) (lefts .last .0) (lefts .result) (lefts .result + c .before .before .end .result) (putMid (lefts .result) (length (lefts .last .0) - lefts .result) (lefts .last .0) (c .before .before .end .last .0))
+    × (lefts .result + c .before .before .end .result ≤ lefts .result + 64)
+last-line c =
+    let s = c .before .before .before .before .before .before .before .before .before .before .before .before .before .before .before .before .before in
+    let f = within (c .before .before .before .before .before .before .before .before .before .before .before .before) in
+    line-in-the-rest _ _ _ _ (omega (arith, f)) (length-end _ _ _ (omega arith) (s .fits .net)) (rw (toZ-ofZ (s .fits .net)) at (c .before .before .end .ensures))
+
+returns-2 : tie.Need-returns-2
+unfolding reportText
+returns-2 c = text-of-three (room (c .before .before .before .before .before .before .before .before .before .before .before .before)) (c .before .before .before .before .before .before .before .before .before .before .put-losses .ensures .0) (c .before .before .before .before .before .before .put-lefts .ensures .0) (last-line c .0)
+
+add-result : tie.Need-add-result
+add-result c = let f = within (c .before .before .before .before .before .before .before .before .before .before .before .before) in omega (arith, f, last-line c .1)
+
+pub report-spec : {M : Type 1} → statement M
+report-spec =
+    tie.close
+    (tie.spec
+    fits-requires
+    returns
+    put-losses-requires
+    put-lefts-requires
+    sub-end
+    part-end-start
+    part-end-end
+    end-requires
+    add-result
+    same-length
+    returns-2)
