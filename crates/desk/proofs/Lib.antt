@@ -1,4 +1,4 @@
--- The laws of the desk, which the proofs of its functions cite, and its theorems: `Accepted`, `FirstHead` and `Pieces`.
+-- The laws of the desk, which the proofs of its functions cite, and its theorems: `Accepted`, `FirstHead`, `Pieces`, `AnyPieces` and `Unfinished`.
 pub mod Whole
 pub mod Taking
 pub mod HeadAnswers
@@ -18,3 +18,5 @@ pub mod StagesReach
 pub mod PacketsReach
 pub mod AtRest
 pub mod Pieces
+pub mod AnyPieces
+pub mod Unfinished

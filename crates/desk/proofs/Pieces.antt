@@ -2,9 +2,9 @@
 use mathlib.Core.Path.{_≡_, ap}
 use mathlib.Core.Bool.{true, false}
 use mathlib.Core.List.{List, _++_}
-use Prim.Native.Nat.{ℕ, _+_, _-_}
+use Prim.Native.Nat.{ℕ, _+_, _-_, _≤_}
 use native.Mathlib.Omega.{arith}
-use lib.ListN.{drop, length-append, length-drop}
+use lib.ListN.{length, drop, length-append, length-drop}
 use Rattle.params.specs.declared.params.Params.{Params}
 use Rattle.sketch.specs.Sketch.{Sketch}
 use Rattle.desk.specs.declared.states.State.{State}
@@ -74,6 +74,16 @@ fully : {P : Params} {bs : List ℕ} {up down : Sketch} {s : State} {r : Fed} {u
     → Fully P bs up down s (r .state) up' down'
 fully {P} {bs} {up} {down} {s} near fed =
     rw (rw near at (fed .state), rw near at (fed .upstream), rw near at (fed .downstream)) (all-fed P bs up down s)
+
+-- no more bytes are used than are at hand
+pub used-within : {P : Params} {bs : List ℕ} {up down : Sketch} {s : State} {r : Fed} {up' down' : Sketch} → inReach bs s ≡ true → Feeds P bs up down s r up' down'
+    → r .used ≤ length bs
+used-within near fed = omega (arith, fully near fed .onward, fed .used)
+
+-- and of those that are left more are waited for, if the input is not refused
+pub fed-waiting : {P : Params} {bs : List ℕ} {up down : Sketch} {s : State} {r : Fed} {up' down' : Sketch} → inReach bs s ≡ true → Feeds P bs up down s r up' down'
+    → waits (drop (r .used) bs) (r .state) ≡ true
+fed-waiting {bs = bs} {r = r} near fed = rw (fed .used) (fully near fed .waited)
 
 -- xs are fed, and then what they leave, with ys behind
 module _ {P : Params} {xs : List ℕ} {up down : Sketch} {s : State} {r : Fed} {up₁ down₁ : Sketch} (ys : List ℕ) (near : inReach (xs ++ ys) s ≡ true)
