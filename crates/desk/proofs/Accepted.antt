@@ -4,17 +4,17 @@ use mathlib.Core.Bool.{Bool, true, false, not, _&&_, true≢false}
 use mathlib.Core.List.{List}
 use Prim.Native.Nat.{ℕ, _+_, _*_, _≤_}
 use native.Mathlib.Omega.{arith}
-use borrow.Author.Tests.{eq-eqb, not-false}
-use lib.Dec.{eqb}
+use borrow.Author.Tests.{not-false}
 use lib.ListN.{length, getD, take, drop, length-drop}
 use lib.Seq.{length-take-le, getD-take, getD-drop, drop-drop}
 use Rattle.params.specs.declared.params.Params.{Params}
 use Rattle.params.specs.declared.answers.Why.the-variants.{Param, Mismatch, Form}
 use Rattle.params.specs.declared.answers.Answer.the-variants.{Done}
 use Rattle.params.specs.Answers.{kept}
-use Rattle.params.specs.Params.{goodParams, samePair, sameParams}
+use Rattle.params.specs.Params.{goodParams, sameParams}
 use Rattle.sketch.specs.Sketch.{Sketch, zeros}
-use Rattle.params.proofs.Searches.{and-true, all-below}
+use Rattle.params.proofs.Searches.{and-true}
+use Rattle.params.proofs.SameParams.{same-itself}
 use Rattle.params.proofs.Judging.{first-done, refuse-done}
 use Rattle.files.specs.Bytes.{word}
 use Rattle.files.specs.Records.{bodyLength, recordAt}
@@ -30,13 +30,6 @@ use Rattle.desk.proofs.InTheRest.{whole-at, word-at}
 use Rattle.desk.proofs.Taking.{all-taken}
 use Rattle.desk.proofs.SameBytes.{fed-is-read}
 use Rattle.desk.proofs.BothStreams.{firstNumber, secondFile, secondBody, secondNumber, Passed, passed}
-
--- parameters are the same as themselves
-same-self : (Q : Params) → sameParams Q Q ≡ true
-unfolding sameParams samePair
-same-self Q =
-    let same : (n : ℕ) → eqb n n ≡ true = λ n. eq-eqb n n refl in
-    rw (same (Q .d), same (Q .m)) (all-below 4 (samePair Q Q) (λ k l. rw (same (getD (Q .a) k 0), same (getD (Q .b) k 0))))
 
 -- the parameters in a first part of the input that holds the head
 module _ (xs : List ℕ) (e : ℕ) (long : 38 ≤ e) where
@@ -127,7 +120,7 @@ module _ (P : Params) (input : List ℕ) (b : Begun P input) (p : Passed P (drop
       fed-is-read P (take e input) xs n long first-long (λ j l. getD-take e input (38 + j) 0 (omega arith) ∙ sym (getD-drop 38 input j 0))
       (sym (all-taken P xs (zeros P) (p .first-done) .number)) (whole-at xs (9 * n) 4 (omega arith) (p .first-end)) (sym (word-at xs (9 * n) 1) ∙ p .first-said)
       (record-whole (take e input) 0 1 (getD-take e input 0 0 (omega arith) ∙ w .0) (omega arith) (omega arith))
-      good-params (ap goodParams params ∙ b .good) (ap (sameParams P) (params ∙ sym (b .params)) ∙ same-self P) (p .first-done)
+      good-params (ap goodParams params ∙ b .good) (ap (sameParams P) (params ∙ sym (b .params)) ∙ same-itself P) (p .first-done)
 
   second-long : length file ≡ 38 + (9 * m + 5)
   unfolding bodyLength

@@ -1,8 +1,8 @@
 -- A line written into the rest of the output, how long lines are, and the lines of a report one after another.
 use mathlib.Core.Path.{_≡_, refl, sym, ap, _∙_}
 use mathlib.Core.Bool.{Bool, true, false, cond}
-use mathlib.Core.List.{List, [], _∷_, _++_, append-nil}
-use Prim.Native.Nat.{ℕ, suc, _+_, _-_, _*_, _/_, _^_, _≤_, _<_}
+use mathlib.Core.List.{List, [], _∷_, _++_, append-nil, append-assoc}
+use Prim.Native.Nat.{ℕ, zero, suc, _+_, _-_, _*_, _/_, _^_, _≤_, _<_}
 use native.Mathlib.Nat.{zero-add}
 use native.Mathlib.Numerals.{add-one}
 use native.Mathlib.Omega.{arith}
@@ -106,3 +106,14 @@ fitting out flows numbers entries counts idsums e =
     let three = and-true _ (eqb idsums counts) (both .0) in
     let two = and-true (leb entries flows) (leb entries numbers) (three .0) in
     (leb-true _ _ (two .0), leb-true _ _ (two .1), eqb-true _ _ (three .1), leb-true _ _ (both .1))
+
+-- the lines of slices whose first slots hold a table are the lines of its entries
+pub losses-first : (f : ℕ) (n : ℤ) (fs : List ℕ) (ns : List ℤ) (k : ℕ) → lossLines (f ∷ fs) (n ∷ ns) (suc k) ≡ lossLine f n ++ lossLines fs ns k
+unfolding lossLines
+losses-first f n fs ns zero = sym (append-nil (lossLine f n))
+losses-first f n fs ns (suc k) =
+    ap (λ ys. ys ++ lossLine (getD fs k 0) (getD ns k (pos 0))) (losses-first f n fs ns k) ∙ append-assoc (lossLine f n) (lossLines fs ns k) _
+
+pub losses-none : (fs : List ℕ) (ns : List ℤ) → lossLines fs ns 0 ≡ []
+unfolding lossLines
+losses-none fs ns = refl

@@ -1,12 +1,14 @@
 -- A report's text: the lines of the table, of what is left and of the ending, in this order.
 use mathlib.Core.Bool.{Bool, cond, _&&_}
-use mathlib.Core.List.{List, [], _++_}
+use mathlib.Core.List.{List, [], _∷_, _++_}
 use Prim.Native.Nat.{ℕ, zero, suc, _+_, _*_}
 use lib.IntN.{ℤ, pos}
 use lib.Dec.{eqb, leb}
 use lib.ListN.{length, getD}
 use Rattle.sketch.specs.Buckets.{allZero}
+use Rattle.sketch.specs.Sketch.{Entry}
 use Rattle.walk.specs.declared.Ending.{Ending}
+use Rattle.walk.specs.Walk.{Outcome, close, net}
 use Rattle.lines.specs.Lines.{lossLine, leftLine, endLine}
 
 -- a line for each of the table's first n entries
@@ -26,6 +28,17 @@ leftLines cs ss (suc k) = leftLines cs ss k ++ leftIfAny k (getD cs k (pos 0)) (
 -- the table fs and ns with n entries, the buckets cs and ss that are left, and how the walk ended
 unfoldable pub reportText : List ℕ → List ℤ → ℕ → List ℤ → List ℕ → Ending → ℕ → ℤ → List ℕ
 reportText fs ns n cs ss e pops net = lossLines fs ns n ++ (leftLines cs ss (length cs) ++ endLine e pops net)
+
+-- the report of a walk: its table after the close, what it left, and its ending
+unfoldable pub entryLines : List Entry → List ℕ
+entryLines [] = []
+entryLines (e ∷ es) = lossLine (e .flow) (e .number) ++ entryLines es
+
+unfoldable pub walkText : Outcome → List ℕ
+walkText o =
+    entryLines (close (o .table))
+    ++ (leftLines (o .left .counts) (o .left .idsums) (length (o .left .counts))
+    ++ endLine (o .ending) (o .pops) (net (close (o .table))))
 
 -- whether the entries are within the table, each bucket has both fields, and there is room for 64 bytes a line
 abbrev pub reportFits : ℕ → ℕ → ℕ → ℕ → ℕ → ℕ → Bool

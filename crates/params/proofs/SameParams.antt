@@ -1,17 +1,24 @@
--- Under the same parameters each flow stands in the same buckets.
-use mathlib.Core.Path.{_≡_, refl, ap, ap₂, _∙_, fun-ext}
+-- Parameters are the same as themselves, and under the same parameters each flow stands in the same buckets.
+use mathlib.Core.Path.{_≡_, refl, sym, ap, ap₂, _∙_, fun-ext}
 use mathlib.Core.Bool.{Bool, true, false, _&&_}
 use Prim.Native.Nat.{ℕ, _*_, _/_, _%_, _<_}
 use native.Mathlib.Omega.{arith}
-use borrow.Author.Tests.{ltb-true, eqb-true}
+use borrow.Author.Tests.{ltb-true, eqb-true, eq-eqb}
 use lib.Dec.{eqb, ltb}
 use lib.ListN.{getD}
 use Rattle.params.specs.declared.params.Params.{Params}
 use Rattle.params.specs.Lists.{below}
 use Rattle.params.specs.Params.{size, goodParams, samePair, sameParams}
 use Rattle.params.specs.Places.{stand, standsIn, stands}
-use Rattle.params.proofs.Searches.{and-true, below-at}
-use Rattle.params.proofs.Rules.{good-sized}
+use Rattle.params.proofs.Searches.{and-true, below-at, all-below}
+use Rattle.params.proofs.Rules.{good-sized, pairs-decide}
+
+-- parameters are the same as themselves
+pub same-itself : (P : Params) → sameParams P P ≡ true
+unfolding samePair
+same-itself P =
+    sym (pairs-decide P P refl refl)
+    ∙ all-below 4 (samePair P P) (λ i l. rw (eq-eqb (getD (P .a) i 0) (getD (P .a) i 0) refl, eq-eqb (getD (P .b) i 0) (getD (P .b) i 0) refl))
 
 -- two sets of parameters that the test finds the same
 module _ (P Q : Params) (same : sameParams P Q ≡ true) where

@@ -17,11 +17,10 @@ use Rattle.params.specs.declared.answers.Answer.the-variants.{Done}
 use Rattle.params.specs.declared.answers.Why.the-variants.{Damage, Range}
 use Rattle.params.specs.Lists.{mapFrom}
 use Rattle.params.specs.Answers.{first}
-use Rattle.params.specs.Params.{prime, size, goodParams, samePair, sameParams, lengthsAnswer}
-use Rattle.params.proofs.Searches.{all-below}
+use Rattle.params.specs.Params.{prime, size, goodParams, lengthsAnswer}
+use Rattle.params.proofs.SameParams.{same-itself}
 use Rattle.params.proofs.Changes.{length-mapFrom, getD-mapFrom}
 use Rattle.params.proofs.Judging.{first-passed, refuse-none}
-use Rattle.params.proofs.Rules.{pairs-decide}
 use Rattle.sketch.specs.Buckets.{inLimits}
 use Rattle.sketch.specs.Sketch.{Sketch, countIn, idsumIn, damagedAt}
 use Rattle.sketch.proofs.Idsums.{prime-pos}
@@ -64,13 +63,7 @@ pub never-range : (S T : Sketch) (k : ℕ) → pos 0 ≤ℤ countIn S k → pos 
 unfolding leaves
 never-range S T k h j l m = ap not (less-within (countIn S k) (countIn T k) h j l m)
 
--- parameters are the same as themselves, and with the right lengths nothing is wrong with the shapes
-same-itself : (P : Params) → sameParams P P ≡ true
-unfolding samePair
-same-itself P =
-    sym (pairs-decide P P refl refl)
-    ∙ all-below 4 (samePair P P) (λ i l. rw (eq-eqb (getD (P .a) i 0) (getD (P .a) i 0) refl, eq-eqb (getD (P .b) i 0) (getD (P .b) i 0) refl))
-
+-- with the right lengths nothing is wrong with the shapes
 shapes-good : (P : Params) (c s e t : ℕ) → goodParams P ≡ true → c ≡ size P → s ≡ size P → e ≡ size P → t ≡ size P → shapesAnswer P P c s e t ≡ Done
 unfolding shapesAnswer lengthsAnswer first
 shapes-good P c s e t good h k l m =

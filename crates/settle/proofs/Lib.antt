@@ -2,3 +2,4 @@
 pub mod Differences
 pub mod Settled
 pub mod TwoStreams
+pub mod Reported

@@ -131,3 +131,17 @@ module _ (P : Params) (S T : Sketch) (fs : List ℕ) (ns : List ℤ) (q ms : Lis
           queue = kept-done _ told _ q _ j done (p .queue);
           marks = kept-done _ told _ ms _ j done (p .marks);
         }
+
+  -- the other way: where nothing is refused, what is settled is the difference peeled, and all that is promised of peeling holds of it
+  pub settled-is-peeled : {x : Peeled} {S' : Sketch} {fs' : List ℕ} {ns' : List ℤ} {q' ms' : List ℕ} → told ≡ Done → Settles P S T fs ns q ms x S' fs' ns' q' ms'
+      → Peels P (8 * size P) (combined true S T) fs ns q ms x S' fs' ns' q' ms'
+  settled-is-peeled done s =
+      let j = settled-peels P S T (length fs) (length ns) (length q) (length ms) done in
+      record {
+        answer = s .answer ∙ ap (λ (x : Answer). peeledOf x walked) (done ∙ sym j);
+        left = kept-done told _ S _ _ done j (s .left);
+        flows = kept-done told _ fs fs _ done j (s .flows);
+        numbers = kept-done told _ ns ns _ done j (s .numbers);
+        queue = kept-done told _ q q _ done j (s .queue);
+        marks = kept-done told _ ms ms _ done j (s .marks);
+      }

@@ -1,18 +1,24 @@
--- Two streams that were read into fresh sketches are settled without a refusal: of their subtraction comes no RANGE. How the walk then ends is not said here.
-use mathlib.Core.Path.{_≡_, sym}
+-- Two streams that were read into fresh sketches: of their subtraction comes no RANGE, nothing else is refused, and the difference depends on the parameters and net counts alone.
+use mathlib.Core.Path.{_≡_, refl, sym}
 use mathlib.Core.Bool.{true, _&&_}
 use mathlib.Core.List.{List}
 use Prim.Native.Nat.{ℕ, _≤_}
 use borrow.Author.Tests.{eq-eqb, le-leb}
 use lib.Dec.{eqb, leb}
-use lib.ListN.{length}
+use lib.IntN.{ℤ, pos, _-ℤ_}
+use lib.ListN.{length, length-replicate}
 use Rattle.params.specs.declared.params.Params.{Params}
 use Rattle.params.specs.declared.answers.Answer.the-variants.{Done}
 use Rattle.params.specs.Params.{size, goodParams, lengthsAnswer, shapeAnswer}
-use Rattle.sketch.specs.Sketch.{Sketch, zeros}
-use Rattle.sums.specs.Sums.{combineAnswer}
+use Rattle.params.specs.Answers.{kept}
+use Rattle.sketch.specs.Sketch.{Sketch, Entry, zeros, Freshened}
+use Rattle.sketch.specs.Packets.{entriesOf}
+use Rattle.sums.specs.Sums.{combineAnswer, combined}
+use Rattle.sums.specs.History.{History, freshly, net}
+use Rattle.sums.proofs.Histories.{difference-by-nets}
 use Rattle.walk.proofs.Promises.{Whole}
-use Rattle.streamfile.specs.Streams.{StreamRead}
+use Rattle.streamfile.specs.Streams.{flowsIn, numbersIn, StreamRead}
+use Rattle.streamfile.proofs.AsInserted.{reading-on}
 use Rattle.streamfile.proofs.FreshStreams.{Grown, fresh-grown}
 use Rattle.settle.specs.Settling.{settleAnswer}
 use Rattle.settle.proofs.Differences.{never-refused}
@@ -47,3 +53,23 @@ module _ {P : Params} {a b : List ℕ} {S T : Sketch} (up : StreamRead P a (zero
       let shaped = shape-good P (length (S .counts)) (length (S .idsums)) (s .good) (s .counts-long) (s .idsums-long) in
       let lent = well-lent P (length (S .counts)) (length (S .idsums)) flows numbers queue marks shaped (lent-fits (size P) flows numbers queue marks e l h k) in
       sym (lent-first P S T flows numbers queue marks Done (sym lent) (sym streams-subtract))
+
+-- how many packets of a flow two streams differ by
+abbrev pub packetsOf : List ℕ → List Entry
+packetsOf bs = entriesOf (flowsIn bs) (numbersIn bs)
+
+abbrev pub lost : List ℕ → List ℕ → ℕ → ℤ
+lost a b f = net (packetsOf a) f -ℤ net (packetsOf b) f
+
+-- a stream that was read into a fresh sketch is the history of its packets
+fresh-history : {P : Params} {bs : List ℕ} {S : Sketch} → StreamRead P bs (zeros P) Done S → History P (packetsOf bs) S
+unfolding kept zeros
+fresh-history {P} r =
+    let good = fresh-grown r .good in
+    let fresh : Freshened P (zeros P) Done (zeros P) = record { answer = sym (shape-good P _ _ good (length-replicate (size P) (pos 0)) (length-replicate {A = ℕ} (size P) 0)); after = refl } in
+    reading-on (freshly {S = zeros P} fresh) r
+
+-- the difference is settled by the parameters and by how many packets of each flow were lost
+pub by-net-counts : {P : Params} {a b a' b' : List ℕ} {S T S' T' : Sketch} → StreamRead P a (zeros P) Done S → StreamRead P b (zeros P) Done T → StreamRead P a' (zeros P) Done S'
+    → StreamRead P b' (zeros P) Done T' → ((f : ℕ) → lost a b f ≡ lost a' b' f) → combined true S T ≡ combined true S' T'
+by-net-counts a b a' b' = difference-by-nets (fresh-history a) (fresh-history b) (fresh-history a') (fresh-history b')

@@ -1,0 +1,116 @@
+-- What a report says: of an input that the desk accepts, the lines are those of the walk over the difference of its two streams.
+use mathlib.Core.Path.{_≡_, sym, ap, _∙_}
+use mathlib.Core.Bool.{true}
+use mathlib.Core.List.{List, [], _∷_, _++_}
+use Prim.Native.Nat.{ℕ, _*_, _≤_}
+use native.Mathlib.Omega.{arith}
+use lib.IntN.{ℤ, pos}
+use lib.ListN.{length, take, drop}
+use Rattle.params.specs.declared.params.Params.{Params}
+use Rattle.params.specs.declared.answers.Answer.{Answer}
+use Rattle.params.specs.declared.answers.Answer.the-variants.{Done}
+use Rattle.params.specs.Params.{size}
+use Rattle.sketch.specs.Sketch.{Sketch, Entry, zeros}
+use Rattle.sums.specs.Sums.{combined}
+use Rattle.walk.specs.Walk.{Outcome, walk, close, net}
+use Rattle.walk.specs.Purity.{ruleOf}
+use Rattle.peel.specs.declared.peeling.Figures.{Figures}
+use Rattle.peel.specs.declared.peeling.Peeled.{Peeled}
+use Rattle.peel.specs.declared.peeling.Peeled.the-variants.{Ended, Refused as NotPeeled}
+use Rattle.peel.specs.Peel.{figuresOf, peeledOf, flowsOf, numbersOf, padded}
+use Rattle.lines.specs.Lines.{lossLine, endLine}
+use Rattle.lines.specs.Reports.{lossLines, leftLines, entryLines, reportText, walkText}
+use Rattle.lines.proofs.Reporting.{losses-first, losses-none}
+use Rattle.params.proofs.Judging.{kept-new}
+use Rattle.params.proofs.Rules.{good-sized, sized-small}
+use Rattle.streamfile.proofs.FreshStreams.{fresh-grown}
+use Rattle.desk.specs.declared.states.Fed.{Fed}
+use Rattle.desk.specs.Desk.{beginOf, started, Feeds, finishAnswer}
+use Rattle.desk.proofs.Accepted.{TwoStreams, accepted}
+use Rattle.settle.specs.Settling.{settleJudged, settleWalked, Settles}
+use Rattle.settle.proofs.TwoStreams.{streams-settle, lost, by-net-counts}
+
+-- slices that begin with a table have its lines
+table-lines : (es : List Entry) (fs : List ℕ) (ns : List ℤ) → lossLines (flowsOf es ++ fs) (numbersOf es ++ ns) (length es) ≡ entryLines es
+unfolding flowsOf numbersOf entryLines
+table-lines [] fs ns = losses-none fs ns
+table-lines (e ∷ es) fs ns =
+    losses-first (e .flow) (e .number) (flowsOf es ++ fs) (numbersOf es ++ ns) (length es) ∙ ap (λ ys. lossLine (e .flow) (e .number) ++ ys) (table-lines es fs ns)
+
+-- the text that is written of a walk's figures, of what it left and of the slices that hold its table
+walk-text : (o : Outcome) (n m : ℕ) → let es = close (o .table) in let g = figuresOf o in
+    reportText (padded n 0 (flowsOf es)) (padded m (pos 0) (numbersOf es)) (g .entries) (o .left .counts) (o .left .idsums) (g .ending) (g .pops) (g .net) ≡ walkText o
+unfolding reportText walkText padded
+walk-text o n m =
+    ap (λ ys. ys ++ (leftLines (o .left .counts) (o .left .idsums) (length (o .left .counts)) ++ endLine (o .ending) (o .pops) (net (close (o .table)))))
+    (table-lines (close (o .table)) _ _)
+
+abbrev figuresIn : Peeled → Figures → Figures
+figuresIn (Ended g) h = g
+figuresIn (NotPeeled w k) h = h
+
+-- a report as the desk makes it: the first head is judged, the records behind it are fed to two fresh sketches, and at the end of the input
+-- nothing more is due; the difference is settled with slices of the sketch's size, and the text written of what that leaves
+pub record Reported (P : Params) (input text : List ℕ) : Type 0 where
+  pub up : Sketch
+  pub down : Sketch
+  pub fed : Fed
+  pub head : beginOf input ≡ record { answer = Done; params = P }
+  pub feeding : Feeds P (drop 38 input) (zeros P) (zeros P) started fed up down
+  pub finished : finishAnswer (fed .state .stage) (fed .state .at) ≡ Done
+  pub flows : List ℕ
+  pub numbers : List ℤ
+  pub queue : List ℕ
+  pub marks : List ℕ
+  pub lent : (length flows ≡ size P) × (length numbers ≡ size P) × (length queue ≡ size P) × (length marks ≡ size P)
+  pub figures : Figures
+  pub left : Sketch
+  pub table-flows : List ℕ
+  pub table-numbers : List ℤ
+  pub cleared-queue : List ℕ
+  pub cleared-marks : List ℕ
+  pub settled : Settles P up down flows numbers queue marks (Ended figures) left table-flows table-numbers cleared-queue cleared-marks
+  pub written : text ≡ reportText table-flows table-numbers (figures .entries) (left .counts) (left .idsums) (figures .ending) (figures .pops) (figures .net)
+
+module _ {P : Params} {input text : List ℕ} (r : Reported P input text) where
+  -- the two streams that the input is
+  pub streams : TwoStreams P input (r .up) (r .down)
+  streams = accepted P input (r .fed) (r .up) (r .down) (r .head) (r .feeding) (r .finished)
+
+  abbrev pub difference : Sketch
+  difference = combined true (r .up) (r .down)
+
+  small : size P ≤ 65536
+  small = sized-small (good-sized P (fresh-grown (streams .first-read) .good))
+
+  abbrev told : Answer
+  told = settleJudged P (r .up) (r .down) (r .flows) (r .numbers) (r .queue) (r .marks)
+
+  abbrev outcome : Outcome
+  outcome = settleWalked P (r .up) (r .down) (r .flows) (r .numbers) (r .queue) (r .marks)
+
+  not-refused : told ≡ Done
+  not-refused =
+      streams-settle (streams .first-read) (streams .second-read) _ _ _ _ (r .lent .0 ∙ sym (r .lent .1)) (omega (arith, r .lent .0, small)) (r .lent .2) (r .lent .3)
+
+  -- the text is that of the walk over their difference, with 8 * d * m pops and d * m slots
+  pub report-of-walk : text ≡ walkText (walk (ruleOf P) (size P) (8 * size P) difference)
+  report-of-walk =
+      let g = r .figures in
+      let s = r .settled in
+      let flows-are : r .table-flows ≡ padded (length (r .flows)) 0 (flowsOf (close (outcome .table))) = s .flows ∙ sym (kept-new told _ _ not-refused) in
+      let numbers-are : r .table-numbers ≡ padded (length (r .numbers)) (pos 0) (numbersOf (close (outcome .table))) = s .numbers ∙ sym (kept-new told _ _ not-refused) in
+      let left-is : r .left ≡ outcome .left = s .left ∙ sym (kept-new told _ _ not-refused) in
+      let figures-are : g ≡ figuresOf outcome = ap (λ x. figuresIn x g) (s .answer ∙ ap (λ x. peeledOf x outcome) not-refused) in
+      let read : reportText (r .table-flows) (r .table-numbers) (g .entries) (r .left .counts) (r .left .idsums) (g .ending) (g .pops) (g .net) ≡ walkText outcome =
+      rw (flows-are, numbers-are, left-is, figures-are) (walk-text outcome (length (r .flows)) (length (r .numbers)))
+      in
+      r .written ∙ read ∙ ap (λ n. walkText (walk (ruleOf P) n (8 * size P) difference)) (r .lent .0)
+
+-- so two inputs of the same parameters, whose streams differ by the same packets of each flow, have the same report
+pub same-report : {P : Params} {input text input' text' : List ℕ} (r : Reported P input text) (r' : Reported P input' text')
+    → ((f : ℕ) → lost (take (streams r .split) input) (drop (streams r .split) input) f ≡ lost (take (streams r' .split) input') (drop (streams r' .split) input') f) → text ≡ text'
+same-report {P} r r' e =
+    report-of-walk r
+    ∙ ap (λ D. walkText (walk (ruleOf P) (size P) (8 * size P) D)) (by-net-counts (streams r .first-read) (streams r .second-read) (streams r' .first-read) (streams r' .second-read) e)
+    ∙ sym (report-of-walk r')
