@@ -23,7 +23,7 @@ use Rattle.files.proofs.HeadTrips.{headed-long, opening-written, opening-done, 
 use Rattle.files.proofs.RecordTrips.{not-kind, end-written}
 use Rattle.files.proofs.Turning.{in-turn-done, done-in-turn, whole-within, records-are}
 use Rattle.sketchfile.specs.Stored.{bucketsIn, lowest, bucketJudged, bucketsJudged, sketchAnswer, stored, sketchIn}
-use Rattle.sketchfile.specs.Writing.{bucketsBytes, bucketsLeft, sketchBytes, sketchWriting}
+use Rattle.sketchfile.specs.Writing.{bucketsBytes, usedBuckets, sketchBytes, sketchWriting}
 use Rattle.sketchfile.proofs.Written.{left-few, buckets-long, Writable}
 use Rattle.sketchfile.proofs.Filling.{filled-all, counts-long, idsums-long, Told, told-none, told-all}
 use Rattle.sketchfile.proofs.Rewriting.{rewritten-all, same-bytes}
@@ -45,7 +45,7 @@ module _ (P : Params) (S : Sketch) (able : Writable P S) where
   file = sketchBytes P S
 
   abbrev number : ℕ
-  number = bucketsLeft 0 (size P) S
+  number = usedBuckets 0 (size P) S
 
   abbrev before : List ℕ
   before = headBytes P ++ bucketsBytes 0 (size P) S

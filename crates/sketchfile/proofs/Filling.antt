@@ -19,7 +19,7 @@ use Rattle.files.specs.Records.{recordAt, isKind}
 use Rattle.files.specs.Layout.{bucketBytes}
 use Rattle.files.specs.Turns.{bucketPlace}
 use Rattle.sketchfile.specs.Stored.{bucketIndex, bucketCount, bucketIdsum, lowest, bucketJudged, stored}
-use Rattle.sketchfile.specs.Writing.{zeroAt, bucketsBytes, bucketsLeft}
+use Rattle.sketchfile.specs.Writing.{zeroAt, bucketsBytes, usedBuckets}
 use Rattle.sketchfile.proofs.BucketRecords.{SoundBucket, sound-done}
 use Rattle.sketchfile.proofs.BucketTrips.{Bucketed, bucket-written, all-zero}
 
@@ -118,8 +118,8 @@ module _ (P : Params) (bs : List ℕ) (S : Sketch) where
     told-step : (n k j : ℕ) (before : List ℕ) (b : Bool) → zeroAt S k ≡ b → length before ≡ bucketPlace j
         → bs ≡ before ++ ((cond b [] (bucketBytes k (countIn S k) (idsumIn S k)) ++ bucketsBytes (suc k) n S) ++ rest) → k < size P → Told P bs S j k
         → ((j : ℕ) (before : List ℕ) → length before ≡ bucketPlace j → bs ≡ before ++ (bucketsBytes (suc k) n S ++ rest) → Told P bs S j (suc k)
-        → Told P bs S (j + bucketsLeft (suc k) n S) (size P))
-        → Told P bs S (j + (cond b 0 1 + bucketsLeft (suc k) n S)) (size P)
+        → Told P bs S (j + usedBuckets (suc k) n S) (size P))
+        → Told P bs S (j + (cond b 0 1 + usedBuckets (suc k) n S)) (size P)
     unfolding bucketBytes wordBytes
     told-step n k j before true z e q l t ih = told-same (omega arith) refl (ih j before e q (told-zero j k z t))
     told-step n k j before false z e q l t ih =
@@ -134,8 +134,8 @@ module _ (P : Params) (bs : List ℕ) (S : Sketch) where
         (told-next j k l (undamaged k l) z b t))
 
     pub told-all : (n k j : ℕ) (before : List ℕ) → length before ≡ bucketPlace j → bs ≡ before ++ (bucketsBytes k n S ++ rest) → k + n ≡ size P → Told P bs S j k
-        → Told P bs S (j + bucketsLeft k n S) (size P)
-    unfolding bucketsBytes bucketsLeft
+        → Told P bs S (j + usedBuckets k n S) (size P)
+    unfolding bucketsBytes usedBuckets
     told-all zero k j before e q l t = told-same (omega arith) (omega arith) t
     told-all (suc n) k j before e q l t =
         told-step n k j before (zeroAt S k) refl e q (omega arith) t (λ i longer f g u. told-all n (suc k) i longer f g (omega arith) u)

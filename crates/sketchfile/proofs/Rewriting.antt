@@ -20,7 +20,7 @@ use Rattle.files.specs.Turns.{bucketPlace, endAnswer}
 use Rattle.files.proofs.HeadTrips.{headed-long}
 use Rattle.files.proofs.RecordTrips.{end-read}
 use Rattle.sketchfile.specs.Stored.{bucketIndex, bucketCount, bucketIdsum, lowest, bucketJudged, stored}
-use Rattle.sketchfile.specs.Writing.{zeroAt, bucketsBytes, bucketsLeft, sketchBytes}
+use Rattle.sketchfile.specs.Writing.{zeroAt, bucketsBytes, usedBuckets, sketchBytes}
 use Rattle.sketchfile.proofs.BucketRecords.{done-sound}
 use Rattle.sketchfile.proofs.BucketTrips.{bucket-read, no-records, buckets-split, buckets-same}
 use Rattle.sketchfile.proofs.Written.{buckets-long}
@@ -130,6 +130,6 @@ module _ (P : Params) (bs : List ℕ) (small : (k : ℕ) → getD bs k 0 < 256) 
       let quiet = rest-silent T k (size P) (r .inside) (r .rest-zero) in
       let before : headBytes P ++ records ≡ take (bucketPlace n) bs = ap (λ (xs : List ℕ). headBytes P ++ xs) quiet ∙ r .bytes in
       let long : 38 + length records ≡ bucketPlace n = sym (headed-long P records) ∙ ap length before ∙ length-take-le (bucketPlace n) bs (omega (arith, end .0)) in
-      let left : bucketsLeft 0 (size P) T ≡ n = omega (arith, buckets-long T 0 (size P)) in
-      sym (append-assoc (headBytes P) records (endBytes (bucketsLeft 0 (size P) T)))
+      let left : usedBuckets 0 (size P) T ≡ n = omega (arith, buckets-long T 0 (size P)) in
+      sym (append-assoc (headBytes P) records (endBytes (usedBuckets 0 (size P) T)))
       ∙ ap₂ {C = List ℕ} _++_ before (ap endBytes left ∙ end .1) ∙ take-append-drop (bucketPlace n) bs

@@ -19,25 +19,25 @@ use Rattle.params.proofs.Rules.{good-sized, sized-small, shape-done}
 use Rattle.files.specs.Bytes.{wordBytes}
 use Rattle.files.specs.Layout.{bucketBytes}
 use Rattle.files.proofs.Overwriting.{length-file}
-use Rattle.sketchfile.specs.Writing.{zeroAt, bucketsBytes, bucketsLeft, sketchBytes, sketchWriting}
+use Rattle.sketchfile.specs.Writing.{zeroAt, bucketsBytes, usedBuckets, sketchBytes, sketchWriting}
 
 module _ (S : Sketch) where
-  pub left-few : (k n : ℕ) → bucketsLeft k n S ≤ n
-  unfolding bucketsLeft
+  pub left-few : (k n : ℕ) → usedBuckets k n S ≤ n
+  unfolding usedBuckets
   left-few k zero = omega arith
   left-few k (suc n) = go (zeroAt S k) (left-few (suc k) n)
     where
-      go : (b : Bool) → bucketsLeft (suc k) n S ≤ n → cond b 0 1 + bucketsLeft (suc k) n S ≤ suc n
+      go : (b : Bool) → usedBuckets (suc k) n S ≤ n → cond b 0 1 + usedBuckets (suc k) n S ≤ suc n
       go true h = omega arith
       go false h = omega arith
 
-  pub buckets-long : (k n : ℕ) → length (bucketsBytes k n S) ≡ 13 * bucketsLeft k n S
-  unfolding bucketsBytes bucketsLeft bucketBytes wordBytes
+  pub buckets-long : (k n : ℕ) → length (bucketsBytes k n S) ≡ 13 * usedBuckets k n S
+  unfolding bucketsBytes usedBuckets bucketBytes wordBytes
   buckets-long k zero = refl
   buckets-long k (suc n) = go (zeroAt S k) (buckets-long (suc k) n)
     where
-      go : (b : Bool) → length (bucketsBytes (suc k) n S) ≡ 13 * bucketsLeft (suc k) n S
-          → length (cond b [] (bucketBytes k (countIn S k) (idsumIn S k)) ++ bucketsBytes (suc k) n S) ≡ 13 * (cond b 0 1 + bucketsLeft (suc k) n S)
+      go : (b : Bool) → length (bucketsBytes (suc k) n S) ≡ 13 * usedBuckets (suc k) n S
+          → length (cond b [] (bucketBytes k (countIn S k) (idsumIn S k)) ++ bucketsBytes (suc k) n S) ≡ 13 * (cond b 0 1 + usedBuckets (suc k) n S)
       go true h = omega arith
       go false h = omega arith
 
@@ -62,20 +62,20 @@ module _ (S : Sketch) where
         → bucketsBytes k (n - k) S ≡ bucketBytes k (countIn S k) (idsumIn S k) ++ bucketsBytes (k + 1) (n - (k + 1)) S
     used-next k h e = rw e at (next-left k h)
 
-pub sketch-long : (P : Params) (S : Sketch) → length (sketchBytes P S) ≡ 43 + 13 * bucketsLeft 0 (size P) S
+pub sketch-long : (P : Params) (S : Sketch) → length (sketchBytes P S) ≡ 43 + 13 * usedBuckets 0 (size P) S
 unfolding sketchBytes
-sketch-long P S = omega (arith, length-file P (bucketsBytes 0 (size P) S) (bucketsLeft 0 (size P) S), buckets-long S 0 (size P))
+sketch-long P S = omega (arith, length-file P (bucketsBytes 0 (size P) S) (usedBuckets 0 (size P) S), buckets-long S 0 (size P))
 
 -- where the parameters and the lengths of the slices are right
 module _ (P : Params) (S : Sketch) (o : ℕ) (shaped : shapeAnswer P (length (S .counts)) (length (S .idsums)) ≡ Done) where
-  long : length (sketchBytes P S) ≡ 43 + 13 * bucketsLeft 0 (length (S .counts)) S
+  long : length (sketchBytes P S) ≡ 43 + 13 * usedBuckets 0 (length (S .counts)) S
   long = rw (shape-done P _ _ shaped .1) (sketch-long P S)
 
-  pub sketch-short : o < 43 + 13 * bucketsLeft 0 (length (S .counts)) S → Refused Length 0 ≡ sketchWriting P S o
+  pub sketch-short : o < 43 + 13 * usedBuckets 0 (length (S .counts)) S → Refused Length 0 ≡ sketchWriting P S o
   unfolding sketchWriting
   sketch-short h = rw (lt-ltb o (length (sketchBytes P S)) (omega (arith, long))) (sym (first-passed _ _ shaped))
 
-  pub sketch-passed : 43 + 13 * bucketsLeft 0 (length (S .counts)) S ≤ o → refuseAt (length (S .counts)) (damagedAt S) Damage Done ≡ sketchWriting P S o
+  pub sketch-passed : 43 + 13 * usedBuckets 0 (length (S .counts)) S ≤ o → refuseAt (length (S .counts)) (damagedAt S) Damage Done ≡ sketchWriting P S o
   unfolding sketchWriting
   sketch-passed h =
       let passed : refuseAt (size P) (damagedAt S) Damage Done ≡ sketchWriting P S o = rw (le-ltb o (length (sketchBytes P S)) (omega (arith, long))) (sym (first-passed _ _ shaped)) in
@@ -93,7 +93,7 @@ pub writable-few : {P : Params} {S : Sketch} → Writable P S → length (S .cou
 writable-few {P} able = omega (arith, able .counts, sized-small (good-sized P (able .good)))
 
 -- where nothing is refused it is one, and the output has room for its file
-pub writing-done : (P : Params) (S : Sketch) (o : ℕ) → sketchWriting P S o ≡ Done → Writable P S × (43 + 13 * bucketsLeft 0 (length (S .counts)) S ≤ o)
+pub writing-done : (P : Params) (S : Sketch) (o : ℕ) → sketchWriting P S o ≡ Done → Writable P S × (43 + 13 * usedBuckets 0 (length (S .counts)) S ≤ o)
 unfolding sketchWriting shapeAnswer
 writing-done P S o e =
     let h = first-done (shapeAnswer P (length (S .counts)) (length (S .idsums))) _ e in

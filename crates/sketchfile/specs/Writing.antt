@@ -27,13 +27,13 @@ unfoldable pub bucketsBytes : ℕ → ℕ → Sketch → List ℕ
 bucketsBytes k zero S = []
 bucketsBytes k (suc n) S = cond (zeroAt S k) [] (bucketBytes k (countIn S k) (idsumIn S k)) ++ bucketsBytes (suc k) n S
 
-unfoldable pub bucketsLeft : ℕ → ℕ → Sketch → ℕ
-bucketsLeft k zero S = 0
-bucketsLeft k (suc n) S = cond (zeroAt S k) 0 1 + bucketsLeft (suc k) n S
+unfoldable pub usedBuckets : ℕ → ℕ → Sketch → ℕ
+usedBuckets k zero S = 0
+usedBuckets k (suc n) S = cond (zeroAt S k) 0 1 + usedBuckets (suc k) n S
 
 -- the one file of a sketch
 unfoldable pub sketchBytes : Params → Sketch → List ℕ
-sketchBytes P S = headBytes P ++ (bucketsBytes 0 (size P) S ++ endBytes (bucketsLeft 0 (size P) S))
+sketchBytes P S = headBytes P ++ (bucketsBytes 0 (size P) S ++ endBytes (usedBuckets 0 (size P) S))
 
 -- the parameters and the lengths, of the output, o, too, then damage anywhere
 unfoldable pub sketchWriting : Params → Sketch → ℕ → Answer

@@ -4,7 +4,7 @@ ghost use Prim.Native.Nat.{_+_, _*_, _≤_};
 ghost use lib.ListN.{length};
 ghost use Rattle.sketch.specs.Sketch.{sketch};
 ghost use Rattle.files.specs.Bytes.{over};
-ghost use Rattle.sketchfile.specs.Writing.{bucketsBytes, bucketsLeft, sketchWriting, SketchWritten};
+ghost use Rattle.sketchfile.specs.Writing.{bucketsBytes, usedBuckets, sketchWriting, SketchWritten};
 use files::writing::Written;
 use files::writing::put_bucket;
 use files::writing::put_end;
@@ -18,7 +18,7 @@ use sketch::buckets::first_damaged;
 // How many buckets are not all zero.
 fn used(counts: &[i32], idsums: &[u32]) -> usize
     requires { ⌜ length (now counts) ≡ length (now idsums) ⌝ }
-    ensures { λ r. ⌜ (r ≡ bucketsLeft 0 (length (now (counts .entry))) (sketch (now (counts .entry)) (now (idsums .entry)))) × (r ≤ length (now (counts .entry))) ⌝ }
+    ensures { λ r. ⌜ (r ≡ usedBuckets 0 (length (now (counts .entry))) (sketch (now (counts .entry)) (now (idsums .entry)))) × (r ≤ length (now (counts .entry))) ⌝ }
 {
     let mut n = 0;
     let mut k = 0;
@@ -52,8 +52,8 @@ fn judge(p: Params, counts: &[i32], idsums: &[u32], room: usize) -> Answer
 // The bucket records, after the head; gives the offset after them.
 fn put_all(out: &mut [u8], counts: &[i32], idsums: &[u32]) -> usize
     requires { ⌜ (length (now counts) ≡ length (now idsums)) × (length (now counts) ≤ 65536) ⌝ }
-    requires { ⌜ 38 + 13 * bucketsLeft 0 (length (now counts)) (sketch (now counts) (now idsums)) ≤ length (now out) ⌝ }
-    ensures { λ r. ⌜ r ≡ 38 + 13 * bucketsLeft 0 (length (now (counts .entry))) (sketch (now (counts .entry)) (now (idsums .entry))) ⌝ }
+    requires { ⌜ 38 + 13 * usedBuckets 0 (length (now counts)) (sketch (now counts) (now idsums)) ≤ length (now out) ⌝ }
+    ensures { λ r. ⌜ r ≡ 38 + 13 * usedBuckets 0 (length (now (counts .entry))) (sketch (now (counts .entry)) (now (idsums .entry))) ⌝ }
     ensures { λ r. ⌜ now (out .exit) ≡ over (now (out .entry)) 38 (bucketsBytes 0 (length (now (counts .entry))) (sketch (now (counts .entry)) (now (idsums .entry)))) ⌝ }
 {
     let mut at = 38;

@@ -31,7 +31,7 @@ use Rattle.files.proofs.HeadTrips.{Opened, opening-done}
 use Rattle.files.proofs.Turning.{Earliest, in-turn-earliest, done-in-turn}
 use Rattle.files.proofs.InOrder.{openingOrder, openingFault, opening-number, opening-index, EndFault, end-fault, refuse-start, written-number, written-index, written-length, refused-as-it-was}
 use Rattle.streamfile.specs.Streams.{packetsIn, packetFlow, packetNumber, flowsIn, numbersIn, afterFirst, packetJudged, packetsJudged, streamAnswer}
-use Rattle.streamfile.specs.Writing.{streamBytes, flowAt, numberAt, streamWriting, StreamWritten}
+use Rattle.streamfile.specs.Writing.{streamBytes, isFlowAt, isNumberAt, streamWriting, StreamWritten}
 use Rattle.streamfile.proofs.Accepting.{judged-accepted}
 
 module _ (P : Params) (bs : List ℕ) (S : Sketch) (w : Why) (k : ℕ) where
@@ -100,8 +100,8 @@ module _ (P : Params) (bs : List ℕ) (S : Sketch) (w : Why) (k : ℕ) where
 abbrev pub writeFault : Params → List ℕ → List ℕ → ℕ → Why → Bool
 writeFault P fs ns o Param = not (goodParams P)
 writeFault P fs ns o Length = not (eqb (length fs) (length ns) && leb (length fs) 65536) || ltb o (length (streamBytes P fs ns))
-writeFault P fs ns o Flow = not (below (length fs) (flowAt P fs))
-writeFault P fs ns o Count = not (below (length ns) (numberAt ns))
+writeFault P fs ns o Flow = not (below (length fs) (isFlowAt P fs))
+writeFault P fs ns o Count = not (below (length ns) (isNumberAt ns))
 writeFault P fs ns o Damage = false
 writeFault P fs ns o Range = false
 writeFault P fs ns o Mismatch = false
@@ -118,8 +118,8 @@ module _ (P : Params) (fs ns : List ℕ) (o : ℕ) where
       refuse-start (not (goodParams P)) Param _
       (refuse-start (not (eqb (length fs) (length ns) && leb (length fs) 65536)) Length _
       (refuse-start (ltb o (length (streamBytes P fs ns))) Length _
-      (refuse-start (not (below (length fs) (flowAt P fs))) Flow _
-      (refuse-start (not (below (length ns) (numberAt ns))) Count Done refl))))
+      (refuse-start (not (below (length fs) (isFlowAt P fs))) Flow _
+      (refuse-start (not (below (length ns) (isNumberAt ns))) Count Done refl))))
 
 -- h is what the contract of `write_stream` gives
 module _ {P : Params} {fs ns out : List ℕ} {r : Written} {out' : List ℕ} (h : StreamWritten P fs ns out r out') where

@@ -28,7 +28,7 @@ use Rattle.files.proofs.HeadTrips.{headed-long, opening-written}
 use Rattle.files.proofs.RecordTrips.{not-kind, end-written}
 use Rattle.files.proofs.Turning.{records-are}
 use Rattle.streamfile.specs.Streams.{packetsIn, flowsIn, numbersIn, afterFirst, packetJudged, packetsJudged, streamAnswer}
-use Rattle.streamfile.specs.Writing.{packetsBytes, streamBytes, flowAt, numberAt, streamWriting}
+use Rattle.streamfile.specs.Writing.{packetsBytes, streamBytes, isFlowAt, isNumberAt, streamWriting}
 use Rattle.streamfile.proofs.Written.{packets-long, stream-long, Passed, writing-passed, stream-passed}
 use Rattle.streamfile.proofs.Found.{There, length-flows, length-numbers, flow-is, number-is}
 use Rattle.streamfile.proofs.Accepting.{StreamDone}
@@ -44,27 +44,27 @@ pub record Sendable (P : Params) (fs ns : List ℕ) : Type 0 where
   pub numbers : (k : ℕ) → k < length ns → (1 ≤ getD ns k 0) × (getD ns k 0 < prime)
 
 pub sending-done : (P : Params) (fs ns : List ℕ) (o : ℕ) → streamWriting P fs ns o ≡ Done → Sendable P fs ns
-unfolding flowAt numberAt
+unfolding isFlowAt isNumberAt
 sending-done P fs ns o e =
     let passed = writing-passed P fs ns o e in
-    let f = refuse-done (not (below (length fs) (flowAt P fs))) Flow 0 _ (sym (stream-passed P fs ns o passed) ∙ e) in
-    let n = refuse-done (not (below (length ns) (numberAt ns))) Count 0 Done (f .1) in
+    let f = refuse-done (not (below (length fs) (isFlowAt P fs))) Flow 0 _ (sym (stream-passed P fs ns o passed) ∙ e) in
+    let n = refuse-done (not (below (length ns) (isNumberAt ns))) Count 0 Done (f .1) in
     record {
       good = passed .good;
       same = passed .same;
       few = passed .few;
-      flows = λ x i. ltb-true _ _ (below-at (length fs) x (flowAt P fs) (not-false _ (f .0)) i);
+      flows = λ x i. ltb-true _ _ (below-at (length fs) x (isFlowAt P fs) (not-false _ (f .0)) i);
       numbers = λ x i.
-          let q = and-true (leb 1 (getD ns x 0)) _ (below-at (length ns) x (numberAt ns) (not-false _ (n .0)) i) in
+          let q = and-true (leb 1 (getD ns x 0)) _ (below-at (length ns) x (isNumberAt ns) (not-false _ (n .0)) i) in
           (leb-true _ _ (q .0), ltb-true _ _ (q .1));
     }
 
 pub sendable-done : (P : Params) (fs ns : List ℕ) (o : ℕ) → Sendable P fs ns → length (streamBytes P fs ns) ≤ o → streamWriting P fs ns o ≡ Done
-unfolding flowAt numberAt
+unfolding isFlowAt isNumberAt
 sendable-done P fs ns o h l =
     let passed : Passed P fs ns o = record { good = h .good; same = h .same; few = h .few; room = omega (arith, stream-long P fs ns (h .same)) } in
-    let flows = all-below (length fs) (flowAt P fs) (λ k i. lt-ltb _ _ (h .flows k i)) in
-    let numbers = all-below (length ns) (numberAt ns) (λ k i. let n = h .numbers k i in rw (le-leb _ _ (n .0), lt-ltb _ _ (n .1))) in
+    let flows = all-below (length fs) (isFlowAt P fs) (λ k i. lt-ltb _ _ (h .flows k i)) in
+    let numbers = all-below (length ns) (isNumberAt ns) (λ k i. let n = h .numbers k i in rw (le-leb _ _ (n .0), lt-ltb _ _ (n .1))) in
     stream-passed P fs ns o passed ∙ rw (flows, numbers)
 
 -- so are those that were read from a stream, if they are not too many

@@ -20,7 +20,7 @@ use Rattle.params.proofs.Judging.{refuse-done}
 use Rattle.files.specs.Bytes.{wordBytes}
 use Rattle.files.specs.Layout.{packetBytes}
 use Rattle.files.proofs.Overwriting.{length-file}
-use Rattle.streamfile.specs.Writing.{packetsBytes, streamBytes, flowAt, numberAt, streamWriting}
+use Rattle.streamfile.specs.Writing.{packetsBytes, streamBytes, isFlowAt, isNumberAt, streamWriting}
 
 -- of the records from the i-th on, the first
 pub packets-next : (fs ns : List ℕ) (i : ℕ) → i < length fs → i < length ns
@@ -63,7 +63,7 @@ writing-passed P fs ns o e =
 
 -- the flows and the numbers decide then
 pub stream-passed : (P : Params) (fs ns : List ℕ) (o : ℕ) → Passed P fs ns o
-    → streamWriting P fs ns o ≡ refuseIf (not (below (length fs) (flowAt P fs))) Flow 0 (refuseIf (not (below (length ns) (numberAt ns))) Count 0 Done)
+    → streamWriting P fs ns o ≡ refuseIf (not (below (length fs) (isFlowAt P fs))) Flow 0 (refuseIf (not (below (length ns) (isNumberAt ns))) Count 0 Done)
 unfolding streamWriting
 stream-passed P fs ns o h =
     rw (h .good, eq-eqb _ _ (h .same), le-leb _ _ (h .few), le-ltb o (length (streamBytes P fs ns)) (omega (arith, h .room, stream-long P fs ns (h .same))))

@@ -27,11 +27,11 @@ unfoldable pub streamBytes : Params → List ℕ → List ℕ → List ℕ
 streamBytes P fs ns = headBytes P ++ (packetsBytes fs ns ++ endBytes (length fs))
 
 -- every flow is one, and every number is one of packets
-unfoldable pub flowAt : Params → List ℕ → ℕ → Bool
-flowAt P fs k = isFlow P (getD fs k 0)
+unfoldable pub isFlowAt : Params → List ℕ → ℕ → Bool
+isFlowAt P fs k = isFlow P (getD fs k 0)
 
-unfoldable pub numberAt : List ℕ → ℕ → Bool
-numberAt ns k = leb 1 (getD ns k 0) && ltb (getD ns k 0) prime
+unfoldable pub isNumberAt : List ℕ → ℕ → Bool
+isNumberAt ns k = leb 1 (getD ns k 0) && ltb (getD ns k 0) prime
 
 -- the parameters, the lengths of the lists and of the output, o, then all flows and all numbers
 unfoldable pub streamWriting : Params → List ℕ → List ℕ → ℕ → Answer
@@ -39,8 +39,8 @@ streamWriting P fs ns o =
     refuseIf (not (goodParams P)) Param 0
     (refuseIf (not (eqb (length fs) (length ns) && leb (length fs) 65536)) Length 0
     (refuseIf (ltb o (length (streamBytes P fs ns))) Length 0
-    (refuseIf (not (below (length fs) (flowAt P fs))) Flow 0
-    (refuseIf (not (below (length ns) (numberAt ns))) Count 0
+    (refuseIf (not (below (length fs) (isFlowAt P fs))) Flow 0
+    (refuseIf (not (below (length ns) (isNumberAt ns))) Count 0
     Done))))
 
 pub record StreamWritten (P : Params) (fs ns out : List ℕ) (r : Written) (out' : List ℕ) : Type 0 where

@@ -4,7 +4,7 @@ ghost use Prim.Native.Nat.{_+_, _*_, _≤_};
 ghost use lib.ListN.{length};
 ghost use Rattle.params.specs.Lists.{below};
 ghost use Rattle.files.specs.Bytes.{over};
-ghost use Rattle.streamfile.specs.Writing.{packetsBytes, flowAt, numberAt, streamWriting, StreamWritten};
+ghost use Rattle.streamfile.specs.Writing.{packetsBytes, isFlowAt, isNumberAt, streamWriting, StreamWritten};
 use files::writing::Written;
 use files::writing::put_end;
 use files::writing::put_head;
@@ -16,7 +16,7 @@ use params::Why;
 
 // Whether every flow is one.
 fn all_flows(p: Params, flows: &[u32]) -> bool
-    ensures { λ r. ⌜ r ≡ below (length (now (flows .entry))) (flowAt p (now (flows .entry))) ⌝ }
+    ensures { λ r. ⌜ r ≡ below (length (now (flows .entry))) (isFlowAt p (now (flows .entry))) ⌝ }
 {
     let mut i = 0;
     while i < flows.len() {
@@ -30,7 +30,7 @@ fn all_flows(p: Params, flows: &[u32]) -> bool
 
 // Whether every number is one of packets.
 fn all_numbers(numbers: &[u32]) -> bool
-    ensures { λ r. ⌜ r ≡ below (length (now (numbers .entry))) (numberAt (now (numbers .entry))) ⌝ }
+    ensures { λ r. ⌜ r ≡ below (length (now (numbers .entry))) (isNumberAt (now (numbers .entry))) ⌝ }
 {
     let mut i = 0;
     while i < numbers.len() {

@@ -12,7 +12,7 @@ use Rattle.field.proofs.Casts.{back}
 use Rattle.sketch.specs.Sketch.{sketch}
 use Rattle.files.specs.Bytes.{wordBytes}
 use Rattle.files.specs.Layout.{bucketBytes}
-use Rattle.sketchfile.specs.Writing.{zeroAt, bucketsBytes, bucketsLeft}
+use Rattle.sketchfile.specs.Writing.{zeroAt, bucketsBytes, usedBuckets}
 use Rattle.sketchfile.proofs.Written.{left-few, buckets-long, all-left, none-left, zero-next, used-next}
 use Rattle.sketchfile.proofs.writing.used.Statement.{statement}
 use Rattle.sketchfile.proofs.writing.used.Tie as tie
@@ -80,7 +80,7 @@ returns c =
     let a = c .before .before .before .args in
     let S = sketch (now (a .counts)) (now (a .idsums)) in
     let n = length (now (a .counts)) in
-    let count : l .n ≡ bucketsLeft 0 n S = omega (arith, ap length (none-left S n (l .k) (c .loop-test .left)), buckets-long S 0 n) in
+    let count : l .n ≡ usedBuckets 0 n S = omega (arith, ap length (none-left S n (l .k) (c .loop-test .left)), buckets-long S 0 n) in
     (count, omega (arith, left-few S 0 n))
 
 pub used-spec : {M : Type 1} → statement M

@@ -10,7 +10,7 @@ use lib.Dec.{ltb}
 use lib.ListN.{length, getD}
 use Rattle.params.specs.Params.{prime}
 use Rattle.params.proofs.Searches.{all-below, below-fails}
-use Rattle.streamfile.specs.Writing.{flowAt}
+use Rattle.streamfile.specs.Writing.{isFlowAt}
 use Rattle.streamfile.proofs.writing.all_flows.Statement.{statement}
 use Rattle.streamfile.proofs.writing.all_flows.Tie as tie
 
@@ -30,7 +30,7 @@ shared-slice-read-if1 : tie.Need-shared-slice-read-if1 Inv-loop μ-loop
 shared-slice-read-if1 c = search needs
 
 returns : tie.Need-returns Inv-loop μ-loop
-unfolding flowAt
+unfolding isFlowAt
 returns c = sym (below-fails _ (c .before .before .before .loop .i) _ (c .before .before .loop-test .taken) (le-ltb _ _ (c .if1 .taken)))
 
 add-i : tie.Need-add-i Inv-loop μ-loop
@@ -43,7 +43,7 @@ loop-again : tie.Need-loop-again Inv-loop μ-loop
 loop-again c = (search needs, below-more _ _ (c .before .before .before .loop .inv .1) (lt-ltb _ _ (c .if1 .left)))
 
 returns-2 : tie.Need-returns-2 Inv-loop μ-loop
-unfolding flowAt
+unfolding isFlowAt
 returns-2 c = sym (all-below _ _ (λ k h. c .before .loop .inv .1 k (omega arith)))
 
 pub all-flows-spec : {M : Type 1} → statement M

@@ -8,12 +8,12 @@ use borrow.Author.Needs.{needs}
 use borrow.Author.Tests.{le-leb, lt-leb, lt-ltb, le-ltb}
 use lib.ListN.{length}
 use Rattle.params.proofs.Searches.{all-below, below-fails}
-use Rattle.streamfile.specs.Writing.{numberAt}
+use Rattle.streamfile.specs.Writing.{isNumberAt}
 use Rattle.streamfile.proofs.writing.all_numbers.Statement.{statement}
 use Rattle.streamfile.proofs.writing.all_numbers.Tie as tie
 
 abbrev Inv-loop : tie.InvT-loop
-Inv-loop numbers i₀ i = (i ≤ length numbers) × ((k : ℕ) → k < i → numberAt numbers k ≡ true)
+Inv-loop numbers i₀ i = (i ≤ length numbers) × ((k : ℕ) → k < i → isNumberAt numbers k ≡ true)
 
 abbrev μ-loop : tie.MeasureT-loop
 μ-loop numbers i₀ i = length numbers - i
@@ -28,7 +28,7 @@ shared-slice-read-if1 : tie.Need-shared-slice-read-if1 Inv-loop μ-loop
 shared-slice-read-if1 c = search needs
 
 returns : tie.Need-returns Inv-loop μ-loop
-unfolding numberAt
+unfolding isNumberAt
 returns c = sym (below-fails _ (c .before .before .before .loop .i) _ (c .before .before .loop-test .taken) (simp (lt-leb 1 _ (c .if1 .taken))))
 
 mul-if2 : tie.Need-mul-if2 Inv-loop μ-loop
@@ -38,7 +38,7 @@ shared-slice-read-if2 : tie.Need-shared-slice-read-if2 Inv-loop μ-loop
 shared-slice-read-if2 c = search needs
 
 returns-2 : tie.Need-returns-2 Inv-loop μ-loop
-unfolding numberAt
+unfolding isNumberAt
 returns-2 c =
     sym (below-fails _ (c .before .before .before .before .before .loop .i) _ (c .before .before .before .before .loop-test .taken) (simp (le-leb 1 _ (c .before .before .if1 .left), le-ltb _ _ (c .if2 .taken))))
 
@@ -49,7 +49,7 @@ loop-less : tie.Need-loop-less Inv-loop μ-loop
 loop-less c = search needs
 
 loop-again : tie.Need-loop-again Inv-loop μ-loop
-unfolding numberAt
+unfolding isNumberAt
 loop-again c =
     (search needs, below-more _ _ (c .before .before .before .before .before .loop .inv .1) (simp (le-leb 1 _ (c .before .before .if1 .left), lt-ltb _ _ (c .if2 .left))))
 
