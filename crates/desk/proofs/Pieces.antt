@@ -21,45 +21,45 @@ use Rattle.desk.proofs.AtRest.{fed-waits}
 abbrev pub moment : State → Sketch → Sketch → Moment
 moment s up down = record { state = s; up = up; down = down }
 
--- feeding comes to its state and its sketches record by record; the states after each stage are named as in the code
+-- feeding comes to its state and its sketches record by record; the states after each stage
 module _ (P : Params) (bs : List ℕ) (up down : Sketch) (s : State) where
-  abbrev a : State
-  a = firstPackets P bs up down s
+  abbrev first-packets : State
+  first-packets = firstPackets P bs up down s
 
-  abbrev b : State
-  b = firstEnd P bs up down s
+  abbrev first-end : State
+  first-end = firstEnd P bs up down s
 
-  abbrev c : State
-  c = secondHead P bs up down s
+  abbrev headed : State
+  headed = secondHead P bs up down s
 
-  abbrev d : State
-  d = secondPackets P bs up down s
+  abbrev second-packets : State
+  second-packets = secondPackets P bs up down s
 
-  abbrev e : State
-  e = secondEnd P bs up down s
+  abbrev second-end : State
+  second-end = secondEnd P bs up down s
 
-  abbrev f : State
-  f = fedState P bs up down s
+  abbrev last : State
+  last = fedState P bs up down s
 
   abbrev up-left : Sketch
   up-left = packetsSketch false P bs up s
 
   abbrev down-left : Sketch
-  down-left = packetsSketch true P (rest s c bs) down c
+  down-left = packetsSketch true P (rest s headed bs) down headed
 
   -- one stage more
   further : (t u : State) (k l : Moment) → Onward bs s t → Onward (rest s t bs) t u → Reaches P bs (moment s up down) (rest s t bs) k
       → Reaches P (rest s t bs) k (rest t u (rest s t bs)) l → Onward bs s u × Reaches P bs (moment s up down) (rest s u bs) l
   further t u k l h m r q = (onward-then bs s t u h m, then r (rw (rest-rest bs s t u h m) at q))
 
-  fed-reach : Onward bs s f × Reaches P bs (moment s up down) (rest s f bs) (moment f up-left down-left)
+  fed-reach : Onward bs s last × Reaches P bs (moment s up down) (rest s last bs) (moment last up-left down-left)
   fed-reach =
-      let at-a = packets-reach P false bs (moment s up down) in
-      let at-b = further a b _ _ (packets-onward false P bs up s) (end-onward (rest s a bs) a) at-a (end-reach P (rest s a bs) (moment a up-left down)) in
-      let at-c = further b c _ _ (at-b .0) (head-onward P (rest s b bs) b) (at-b .1) (head-reach P (rest s b bs) (moment b up-left down)) in
-      let at-d = further c d _ _ (at-c .0) (packets-onward true P (rest s c bs) down c) (at-c .1) (packets-reach P true (rest s c bs) (moment c up-left down)) in
-      let at-e = further d e _ _ (at-d .0) (end-onward (rest s d bs) d) (at-d .1) (end-reach P (rest s d bs) (moment d up-left down-left)) in
-      further e f _ _ (at-e .0) (over-onward (rest s e bs) e) (at-e .1) (over-reach P (rest s e bs) (moment e up-left down-left))
+      let after-first-packets = packets-reach P false bs (moment s up down) in
+      let after-first-end = further first-packets first-end _ _ (packets-onward false P bs up s) (end-onward (rest s first-packets bs) first-packets) after-first-packets (end-reach P (rest s first-packets bs) (moment first-packets up-left down)) in
+      let after-headed = further first-end headed _ _ (after-first-end .0) (head-onward P (rest s first-end bs) first-end) (after-first-end .1) (head-reach P (rest s first-end bs) (moment first-end up-left down)) in
+      let after-second-packets = further headed second-packets _ _ (after-headed .0) (packets-onward true P (rest s headed bs) down headed) (after-headed .1) (packets-reach P true (rest s headed bs) (moment headed up-left down)) in
+      let after-second-end = further second-packets second-end _ _ (after-second-packets .0) (end-onward (rest s second-packets bs) second-packets) (after-second-packets .1) (end-reach P (rest s second-packets bs) (moment second-packets up-left down-left)) in
+      further second-end last _ _ (after-second-end .0) (over-onward (rest s second-end bs) second-end) (after-second-end .1) (over-reach P (rest s second-end bs) (moment second-end up-left down-left))
 
 -- what feeding comes to: from s to t, where more bytes are waited for
 record Fully (P : Params) (bs : List ℕ) (up down : Sketch) (s t : State) (up' down' : Sketch) : Type 0 where
@@ -67,7 +67,7 @@ record Fully (P : Params) (bs : List ℕ) (up down : Sketch) (s t : State) (up' 
   come : Reaches P bs (moment s up down) (rest s t bs) (moment t up' down')
   waited : waits (rest s t bs) t ≡ true
 
-all-fed : (P : Params) (bs : List ℕ) (up down : Sketch) (s : State) → Fully P bs up down s (f P bs up down s) (up-left P bs up down s) (down-left P bs up down s)
+all-fed : (P : Params) (bs : List ℕ) (up down : Sketch) (s : State) → Fully P bs up down s (last P bs up down s) (up-left P bs up down s) (down-left P bs up down s)
 all-fed P bs up down s = let h = fed-reach P bs up down s in record { onward = h .0; come = h .1; waited = fed-waits P bs up down s }
 
 fully : {P : Params} {bs : List ℕ} {up down : Sketch} {s : State} {r : Fed} {up' down' : Sketch} → inReach bs s ≡ true → Feeds P bs up down s r up' down'
@@ -109,7 +109,7 @@ module _ {P : Params} {xs : List ℕ} {up down : Sketch} {s : State} {r : Fed} {
       let m = all-fed P (xs ++ ys) up down s in
       let left : drop (r .used) xs ≡ rest s (r .state) xs = ap (λ (i : ℕ). drop i xs) (one .used) in
       let come : Reaches P (xs ++ ys) (moment s up down) behind (moment (r .state) up₁ down₁) = rw left (with-more ys (h .come)) in
-      let same : moment (r₂ .state) up₂ down₂ ≡ moment (f P (xs ++ ys) up down s) (up-left P (xs ++ ys) up down s) (down-left P (xs ++ ys) up down s) = one-end (then come (k .come)) (m .come) (k .waited) (m .waited) in
+      let same : moment (r₂ .state) up₂ down₂ ≡ moment (last P (xs ++ ys) up down s) (up-left P (xs ++ ys) up down s) (down-left P (xs ++ ys) up down s) = one-end (then come (k .come)) (m .come) (k .waited) (m .waited) in
       record {
         state = rw near (ap (λ k. k .state) same);
         used = omega (arith, one .used, two .used, h .onward, k .onward);

@@ -28,19 +28,19 @@ pub fn feed(
         return Fed { state: s, used: 0 };
     }
     let from = s.at;
-    let a = packets(false, p, s, up_counts, up_idsums, bytes);
-    let i = a.at - from;
-    let b = end(a, &bytes[i..]);
-    let j = b.at - from;
-    let c = second_head(p, b, &bytes[j..]);
-    let k = c.at - from;
-    let d = packets(true, p, c, down_counts, down_idsums, &bytes[k..]);
-    let l = d.at - from;
-    let e = end(d, &bytes[l..]);
-    let m = e.at - from;
-    let f = over(e, &bytes[m..]);
+    let first_packets = packets(false, p, s, up_counts, up_idsums, bytes);
+    let i = first_packets.at - from;
+    let first_end = end(first_packets, &bytes[i..]);
+    let j = first_end.at - from;
+    let headed = second_head(p, first_end, &bytes[j..]);
+    let k = headed.at - from;
+    let second_packets = packets(true, p, headed, down_counts, down_idsums, &bytes[k..]);
+    let l = second_packets.at - from;
+    let second_end = end(second_packets, &bytes[l..]);
+    let m = second_end.at - from;
+    let fed = over(second_end, &bytes[m..]);
     Fed {
-        state: f,
-        used: f.at - from,
+        state: fed,
+        used: fed.at - from,
     }
 }
