@@ -86,8 +86,8 @@ uint32_t gabunlitik_insert(const uint32_t params[GABUNLITIK_PARAMS],
                            uint32_t flow, uint32_t number,
                            size_t *place);
 
-/* Puts numbers[i] packets of flows[i] in, for each i in turn, or none at all: where one is refused the sketch is as it was before the
- * call. The two lists have one length, and it may be any. */
+/* Puts numbers[i] packets of flows[i] in, for each i in turn, or none at all: the first that is refused is told, and the sketch is as
+ * it was before the call. The two lists have one length, and it may be any. */
 uint32_t gabunlitik_insert_all(const uint32_t params[GABUNLITIK_PARAMS],
                                int32_t *counts, size_t counts_len,
                                uint32_t *idsums, size_t idsums_len,
@@ -113,8 +113,8 @@ uint32_t gabunlitik_subtract(const uint32_t params[GABUNLITIK_PARAMS],
                              const uint32_t *other_idsums, size_t other_idsums_len,
                              size_t *place);
 
-/* Peels the sketch into a table of flows and their counts with at most `allowance` pops, and tells the figures of the walk, all 0 where
- * it is refused. The sketch then holds what remains: the table's own sketch added to it is the sketch that was lent, at every ending.
+/* Peels the sketch into a table of flows and their counts with at most `allowance` pops, and tells the figures of the walk, all 0
+ * where it is refused. The sketch then holds what remains: the table's own sketch added to it is the sketch that was lent, at every ending.
  * Table slots past the last entry, the queue and the marks are 0 afterwards; what they held before has no effect. The two table
  * slices have one length, 0 to 65536, which is how many flows the table takes; queue and marks are d * m long. */
 uint32_t gabunlitik_peel(const uint32_t params[GABUNLITIK_PARAMS],
@@ -153,8 +153,8 @@ uint32_t gabunlitik_read_sketch(const uint32_t params[GABUNLITIK_PARAMS],
                                 const uint8_t *bytes, size_t bytes_len,
                                 size_t *place);
 
-/* Writes the one file of the sketch at the start of `out`, whose rest is not touched, and tells its length, 0 where it is refused. A file
- * of n buckets that are not all zero has 43 + 13 * n bytes. */
+/* Writes the one file of the sketch at the start of `out`, whose rest is not touched, and tells its length, 0 where it is refused.
+ * A file of n buckets that are not all zero has 43 + 13 * n bytes. */
 uint32_t gabunlitik_write_sketch(const uint32_t params[GABUNLITIK_PARAMS],
                                  const int32_t *counts, size_t counts_len,
                                  const uint32_t *idsums, size_t idsums_len,

@@ -6,14 +6,11 @@ use Prim.Native.Nat.{ℕ}
 use lib.IntN.{ℤ}
 use lib.ListN.{length}
 use Rattle.params.specs.declared.params.Params.{Params}
-use Rattle.params.specs.declared.answers.Answer.{Answer}
 use Rattle.params.specs.Params.{shapeAnswer}
 use Rattle.sketch.specs.Sketch.{Sketch, Freshened}
 use Rattle.sketch.specs.Packets.{moveAnswer, allAnswer, Inserted, AllInserted}
 use Rattle.sums.specs.Sums.{combineAnswer, Combined}
-use Rattle.peel.specs.declared.peeling.Peeled.{Peeled}
 use Rattle.peel.specs.Peel.{peeledOf, judged, walked, Peels}
-use Rattle.files.specs.declared.writing.Written.{Written}
 use Rattle.files.specs.Writing.{writtenOf}
 use Rattle.streamfile.specs.Streams.{streamAnswer, StreamRead}
 use Rattle.streamfile.specs.Writing as streams

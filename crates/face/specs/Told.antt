@@ -33,10 +33,10 @@ pub record Told (answer : Answer) (Contract : Answer → Type 0) (number place :
   pub place-told : place ≡ indexIn answer
   pub call : Contract answer
 
-pub record ToldLength (written : Written) (Contract : Written → Type 0) (number place length : ℕ) : Type 0 where
+pub record ToldLength (written : Written) (Contract : Written → Type 0) (number place bytes : ℕ) : Type 0 where
   pub number-told : number ≡ writtenNumber written
   pub place-told : place ≡ writtenIndex written
-  pub length-told : length ≡ writtenLength written
+  pub length-told : bytes ≡ writtenLength written
   pub call : Contract written
 
 pub record ToldFigures (peeled : Peeled) (Contract : Peeled → Type 0) (number place : ℕ) (figures : List ℤ) : Type 0 where

@@ -12,6 +12,7 @@ use params::Params;
 use peel::peeling::Peeled;
 use walk::Ending;
 
+// A number passed by value is known to fit its type; an element behind a reference is not.
 fn wide(n: u32) -> usize
     ensures { λ r. ⌜ r ≡ n ⌝ }
 {
