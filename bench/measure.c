@@ -1,6 +1,6 @@
 // Measures the library against the baseline, case by case: equal results first, then alternating timed runs.
-// `measure` times every case and prints a line for each. `measure CASE ours|baseline RUNS` does one side's runs of a case untimed, for
-// whoever counts its instructions.
+// `measure time` times every case and prints a line for each; `measure list` only says what the cases are.
+// `measure CASE ours|baseline RUNS` does one side's runs of a case untimed, for whoever counts its instructions.
 #include "sides.h"
 
 #include <stdio.h>
@@ -9,6 +9,9 @@
 #include <time.h>
 
 enum { MOST_CASES = 64, MOST_ROUNDS = 25, MOST_NUMBER = 64, SEED = 6 };
+
+// Instructions are counted over fewer packets than are timed, since counting is slow and they are the same for every packet.
+enum { TIMED_PACKETS = MOST_PACKETS, COUNTED_PACKETS = 2048 };
 
 // A sample is as many runs as take so long together, and a case takes no new round once it has had its time.
 static const double sample_seconds = 0.004;
@@ -61,20 +64,18 @@ static void put_in(int32_t *counts, uint32_t *idsums, size_t packets) {
 }
 
 // The data of a plan. Packets go into an empty sketch; a difference and a walk begin with all of them in it.
-static void prepare(const struct plan *plan) {
+static void prepare(const struct plan *plan, size_t packets) {
     uint64_t seed = SEED;
     given.params = make_params(&seed, plan->shape.d, plan->shape.m);
     size_t size = size_of(&given.params);
     if (plan->operation == &peel)
         make_packets(&given.packets, &seed, size * plan->load / 100, plan->most_lost);
     else
-        make_packets(&given.packets, &seed, MOST_PACKETS, MOST_NUMBER);
+        make_packets(&given.packets, &seed, packets, MOST_NUMBER);
     make_stream(&given.stream, &given.params, &given.packets);
     int begins_full = plan->operation == &subtract || plan->operation == &peel;
     put_in(given.start_counts, given.start_idsums, begins_full ? given.packets.length : 0);
     put_in(given.other_counts, given.other_idsums, given.packets.length / 2);
-    memset(&our_side, 0, sizeof our_side);
-    memset(&baseline_side, 0, sizeof baseline_side);
 }
 
 static void start_again(struct side *side) {
@@ -97,14 +98,30 @@ static int have_equal_results(void) {
            x->figures.net == y->figures.net && x->figures.pops == y->figures.pops;
 }
 
-// Both sides once; the program ends where they differ, or where the answer is not the one that is due.
-static void check(const struct plan *plan, uint32_t due) {
+static double now(void) {
+    struct timespec t;
+    clock_gettime(CLOCK_PROCESS_CPUTIME_ID, &t);
+    return (double)t.tv_sec + 1e-9 * (double)t.tv_nsec;
+}
+
+// The seconds of a run of either side.
+struct round {
+    double ours;
+    double baseline;
+};
+
+// Each side once; the program ends where they differ, or where the answer is not the one that is due.
+static struct round check(const struct plan *plan, uint32_t due) {
+    double start = now();
     run(plan->operation->ours, &our_side);
+    double middle = now();
     run(plan->operation->baseline, &baseline_side);
-    if (have_equal_results() && our_side.answer == due)
-        return;
-    printf("%s over %u buckets: the results differ\n", plan->operation->name, size_of(&given.params));
-    exit(1);
+    double end = now();
+    if (!have_equal_results() || our_side.answer != due) {
+        printf("%s over %u buckets: the results differ\n", plan->operation->name, size_of(&given.params));
+        exit(1);
+    }
+    return (struct round){middle - start, end - middle};
 }
 
 // A stream with a wrong end is refused, and its packets are taken out again.
@@ -113,12 +130,6 @@ static void check_refused_stream(const struct plan *plan) {
     *last ^= 1;
     check(plan, FORM);
     *last ^= 1;
-}
-
-static double now(void) {
-    struct timespec t;
-    clock_gettime(CLOCK_PROCESS_CPUTIME_ID, &t);
-    return (double)t.tv_sec + 1e-9 * (double)t.tv_nsec;
 }
 
 // The seconds of one run.
@@ -145,17 +156,25 @@ static double median(double *numbers, size_t length) {
     return length % 2 ? numbers[length / 2] : (numbers[length / 2 - 1] + numbers[length / 2]) / 2;
 }
 
-// The line of a case: what it is, its rounds, the nanoseconds a packet or a bucket of ours and of the baseline, and their ratio.
-static void print_case(size_t number, const struct plan *plan, size_t rounds, double ours, double baseline, double ratio) {
-    double units = plan->operation == &subtract || plan->operation == &peel ? size_of(&given.params) : MOST_PACKETS;
-    printf("%zu\t%s\t%u\t%u\t%u\t%u\t%d\t%u\t%zu\t%.1f\t%.1f\t%.3f\n", number, plan->operation->name,
-           size_of(&given.params), plan->shape.d, plan->load, plan->most_lost, our_side.figures.ending,
-           our_side.figures.pops, rounds, 1e9 * ours / units, 1e9 * baseline / units, ratio);
+static void print_plan(size_t number, const struct plan *plan) {
+    printf("%zu\t%s\t%u\t%u\t%u\t%u", number, plan->operation->name, plan->shape.d * plan->shape.m, plan->shape.d, plan->load,
+           plan->most_lost);
+}
+
+// Behind the plan: how the walk ended, the rounds, the nanoseconds a packet or a bucket of ours and of the baseline, the ratio.
+static void print_result(const struct plan *plan, size_t rounds, struct round medians, double ratio) {
+    double units = plan->operation == &subtract || plan->operation == &peel ? size_of(&given.params) : TIMED_PACKETS;
+    printf("\t%d\t%u\t%zu\t%.1f\t%.1f\t%.3f\n", our_side.figures.ending, our_side.figures.pops, rounds,
+           1e9 * medians.ours / units, 1e9 * medians.baseline / units, ratio);
     fflush(NULL);
 }
 
-// Rounds of a sample of each side, which goes first in turn.
-static void measure(size_t number, const struct plan *plan) {
+// Rounds of a sample of each side, which goes first in turn. The run of the check is the only round where it took the case's time.
+static void measure(const struct plan *plan, struct round checked) {
+    if (checked.ours + checked.baseline > case_seconds) {
+        print_result(plan, 1, checked, checked.ours / checked.baseline);
+        return;
+    }
     double ours[MOST_ROUNDS], baseline[MOST_ROUNDS], ratios[MOST_ROUNDS];
     size_t rounds = 0;
     double start = now();
@@ -168,38 +187,50 @@ static void measure(size_t number, const struct plan *plan) {
         ratios[rounds] = ours[rounds] / baseline[rounds];
         rounds++;
     }
-    print_case(number, plan, rounds, median(ours, rounds), median(baseline, rounds), median(ratios, rounds));
+    struct round medians = {median(ours, rounds), median(baseline, rounds)};
+    print_result(plan, rounds, medians, median(ratios, rounds));
 }
 
 static void check_and_measure_all(const struct plans *all) {
     for (size_t i = 0; i < all->length; i++) {
         const struct plan *plan = &all->plans[i];
-        prepare(plan);
+        prepare(plan, TIMED_PACKETS);
         if (plan->operation == &read_stream)
             check_refused_stream(plan);
-        check(plan, DONE);
-        measure(i, plan);
+        struct round checked = check(plan, DONE);
+        print_plan(i, plan);
+        measure(plan, checked);
+    }
+}
+
+static void list_all(const struct plans *all) {
+    for (size_t i = 0; i < all->length; i++) {
+        print_plan(i, &all->plans[i]);
+        printf("\n");
+    }
+}
+
+static void repeat(const struct plan *plan, const char *side, int runs) {
+    prepare(plan, COUNTED_PACKETS);
+    for (int i = 0; i < runs; i++) {
+        if (strcmp(side, "ours") == 0)
+            run(plan->operation->ours, &our_side);
+        else
+            run(plan->operation->baseline, &baseline_side);
     }
 }
 
 int main(int words, char **word) {
     struct plans all = all_plans();
-    if (words == 1) {
+    if (words == 2 && strcmp(word[1], "time") == 0) {
         check_and_measure_all(&all);
-        return 0;
-    }
-    size_t number = words == 4 ? (size_t)atoi(word[1]) : all.length;
-    if (number >= all.length) {
-        printf("usage: measure [CASE ours|baseline RUNS]\n");
+    } else if (words == 2 && strcmp(word[1], "list") == 0) {
+        list_all(&all);
+    } else if (words == 4 && (size_t)atoi(word[1]) < all.length) {
+        repeat(&all.plans[atoi(word[1])], word[2], atoi(word[3]));
+    } else {
+        printf("usage: measure time | list | CASE ours|baseline RUNS\n");
         return 1;
-    }
-    const struct operation *operation = all.plans[number].operation;
-    prepare(&all.plans[number]);
-    for (int i = 0; i < atoi(word[3]); i++) {
-        if (strcmp(word[2], "ours") == 0)
-            run(operation->ours, &our_side);
-        else
-            run(operation->baseline, &baseline_side);
     }
     return 0;
 }

@@ -5,7 +5,7 @@
 
 enum { CELLS_LOG2 = 17 };
 
-// What a walk needs beside the sketch and the table. Both sides have all 0 of it, or clear it themselves.
+// What a walk needs beside the sketch and the table. Neither side reads what it held before.
 static uint32_t queue[MOST_BUCKETS];
 static uint32_t marks[MOST_BUCKETS];
 static uint8_t waiting[MOST_BUCKETS];
