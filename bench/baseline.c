@@ -3,34 +3,6 @@
 
 #include <string.h>
 
-static void find_buckets(const struct params *params, uint32_t flow, uint32_t buckets[4]) {
-    for (uint32_t array = 0; array < params->d; array++)
-        buckets[array] = array * params->m + position(params, array, flow);
-}
-
-// Inlined, so that the loops over packets pay for no call.
-static inline enum refusal insert(struct sketch *sketch, uint32_t flow, uint32_t number, size_t *place) {
-    if (flow >= PRIME)
-        return FLOW;
-    if (number < 1 || number >= PRIME)
-        return COUNT;
-    uint32_t buckets[4];
-    uint32_t d = sketch->params.d;
-    find_buckets(&sketch->params, flow, buckets);
-    for (uint32_t array = 0; array < d; array++) {
-        if (!is_within((int64_t)sketch->counts[buckets[array]] + number)) {
-            *place = buckets[array];
-            return RANGE;
-        }
-    }
-    uint32_t weight = (uint32_t)((uint64_t)number * flow % PRIME);
-    for (uint32_t array = 0; array < d; array++) {
-        sketch->counts[buckets[array]] += (int32_t)number;
-        sketch->idsums[buckets[array]] = add_idsums(sketch->idsums[buckets[array]], weight);
-    }
-    return DONE;
-}
-
 // Takes out packets that were put in before: no limit is in reach.
 static void withdraw(struct sketch *sketch, uint32_t flow, uint32_t number) {
     uint32_t buckets[4];
@@ -44,14 +16,14 @@ static void withdraw(struct sketch *sketch, uint32_t flow, uint32_t number) {
 
 enum refusal baseline_insert(struct sketch *sketch, uint32_t flow, uint32_t number, size_t *place) {
     *place = 0;
-    return insert(sketch, flow, number, place);
+    return insert_packets(sketch, flow, number, place);
 }
 
 enum refusal baseline_insert_all(struct sketch *sketch, const uint32_t *flows, const uint32_t *numbers, size_t packets,
                                  size_t *place) {
     *place = 0;
     for (size_t i = 0; i < packets; i++) {
-        enum refusal refusal = insert(sketch, flows[i], numbers[i], place);
+        enum refusal refusal = insert_packets(sketch, flows[i], numbers[i], place);
         if (refusal != DONE) {
             while (i-- > 0)
                 withdraw(sketch, flows[i], numbers[i]);
@@ -130,7 +102,7 @@ static enum refusal read_records(struct sketch *sketch, const uint8_t *bytes, si
     size_t records = 0;
     enum refusal refusal = DONE;
     while (length - at >= PACKETS_BYTES && bytes[at] == PACKETS) {
-        refusal = insert(sketch, word_at(bytes + at + 1), word_at(bytes + at + 5), place);
+        refusal = insert_packets(sketch, word_at(bytes + at + 1), word_at(bytes + at + 5), place);
         if (refusal != DONE) {
             *place = at;
             break;

@@ -79,7 +79,35 @@ static inline uint32_t word_at(const uint8_t *bytes) {
     return (uint32_t)bytes[0] << 24 | (uint32_t)bytes[1] << 16 | (uint32_t)bytes[2] << 8 | bytes[3];
 }
 
+static inline void find_buckets(const struct params *params, uint32_t flow, uint32_t buckets[4]) {
+    for (uint32_t array = 0; array < params->d; array++)
+        buckets[array] = array * params->m + position(params, array, flow);
+}
+
 // A refusal goes with a place: the index of the bucket at fault, or the offset of a stream's record.
+// Inlined, so that loops over packets pay for no call.
+static inline enum refusal insert_packets(struct sketch *sketch, uint32_t flow, uint32_t number, size_t *place) {
+    if (flow >= PRIME)
+        return FLOW;
+    if (number < 1 || number >= PRIME)
+        return COUNT;
+    uint32_t buckets[4];
+    uint32_t d = sketch->params.d;
+    find_buckets(&sketch->params, flow, buckets);
+    for (uint32_t array = 0; array < d; array++) {
+        if (!is_within((int64_t)sketch->counts[buckets[array]] + number)) {
+            *place = buckets[array];
+            return RANGE;
+        }
+    }
+    uint32_t weight = (uint32_t)((uint64_t)number * flow % PRIME);
+    for (uint32_t array = 0; array < d; array++) {
+        sketch->counts[buckets[array]] += (int32_t)number;
+        sketch->idsums[buckets[array]] = add_idsums(sketch->idsums[buckets[array]], weight);
+    }
+    return DONE;
+}
+
 enum refusal baseline_insert(struct sketch *sketch, uint32_t flow, uint32_t number, size_t *place);
 enum refusal baseline_insert_all(struct sketch *sketch, const uint32_t *flows, const uint32_t *numbers, size_t packets,
                                  size_t *place);

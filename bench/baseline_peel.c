@@ -103,8 +103,7 @@ static void take_from_buckets(struct walk *walk, struct sketch *sketch, struct r
 static enum ending take(struct walk *walk, struct sketch *sketch, struct table *table, struct room *room, uint32_t flow,
                         int32_t count, uint32_t idsum) {
     uint32_t buckets[4];
-    for (uint32_t array = 0; array < sketch->params.d; array++)
-        buckets[array] = array * sketch->params.m + position(&sketch->params, array, flow);
+    find_buckets(&sketch->params, flow, buckets);
     if (!can_take(sketch, buckets, count))
         return OUT_OF_RANGE;
     uint32_t *cell = find_cell(room, table, flow);

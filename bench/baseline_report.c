@@ -63,7 +63,7 @@ static enum refusal take_records(struct sketch *sketch) {
     uint64_t records = 0;
     size_t bucket;
     while (is_at_hand(PACKETS_BYTES) && input.next[0] == PACKETS) {
-        enum refusal refusal = baseline_insert(sketch, word_at(input.next + 1), word_at(input.next + 5), &bucket);
+        enum refusal refusal = insert_packets(sketch, word_at(input.next + 1), word_at(input.next + 5), &bucket);
         if (refusal != DONE)
             return refusal;
         go_on(PACKETS_BYTES);
