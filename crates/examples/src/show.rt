@@ -20,22 +20,9 @@ pub(crate) fn signed(c: i64) {
     }
 }
 
-fn number_of(why: Why) -> u64 {
-    match why {
-        Why::Param => 1,
-        Why::Length => 2,
-        Why::Flow => 3,
-        Why::Count => 4,
-        Why::Damage => 5,
-        Why::Range => 6,
-        Why::Mismatch => 7,
-        Why::Form => 8,
-    }
-}
-
 pub(crate) fn refused(why: Why, index: usize) {
     text(b"refused ");
-    number(number_of(why));
+    number(why.number() as u64);
     text(b" at ");
     number(index as u64);
     text(b"\n");

@@ -21,8 +21,8 @@ pub extern "C" fn gabunlitik_read_stream(
 ) -> u32
     ensures { λ r. ⌜ StreamReadFor (paramsOf (now (params .entry))) (now (bytes .entry)) (sketch (now (counts .entry)) (now (idsums .entry))) r (now (place .exit)) (sketch (now (counts .exit)) (now (idsums .exit))) ⌝ }
 {
-    let answer = read_stream(params_of(params), counts, idsums, bytes);
-    tell(answer, place)
+    let inserted = read_stream(params_of(params), counts, idsums, bytes);
+    tell(inserted, place)
 }
 
 // Writes the stream file of these flows, each by its number.
@@ -37,8 +37,8 @@ pub extern "C" fn gabunlitik_write_stream(
 ) -> u32
     ensures { λ r. ⌜ StreamWrittenFor (paramsOf (now (params .entry))) (now (flows .entry)) (now (numbers .entry)) (now (out .entry)) r (now (place .exit)) (now (length .exit)) (now (out .exit)) ⌝ }
 {
-    let written = write_stream(params_of(params), flows, numbers, out);
-    tell_written(written, length, place)
+    let stream = write_stream(params_of(params), flows, numbers, out);
+    tell_written(stream, length, place)
 }
 
 // Reads a sketch file in place of the lent sketch's content.
@@ -52,8 +52,8 @@ pub extern "C" fn gabunlitik_read_sketch(
 ) -> u32
     ensures { λ r. ⌜ SketchReadFor (paramsOf (now (params .entry))) (now (bytes .entry)) (sketch (now (counts .entry)) (now (idsums .entry))) r (now (place .exit)) (sketch (now (counts .exit)) (now (idsums .exit))) ⌝ }
 {
-    let answer = read_sketch(params_of(params), counts, idsums, bytes);
-    tell(answer, place)
+    let replaced = read_sketch(params_of(params), counts, idsums, bytes);
+    tell(replaced, place)
 }
 
 // Writes the file of a sketch.
@@ -68,6 +68,6 @@ pub extern "C" fn gabunlitik_write_sketch(
 ) -> u32
     ensures { λ r. ⌜ SketchWrittenFor (paramsOf (now (params .entry))) (sketch (now (counts .entry)) (now (idsums .entry))) (now (out .entry)) r (now (place .exit)) (now (length .exit)) (now (out .exit)) ⌝ }
 {
-    let written = write_sketch(params_of(params), counts, idsums, out);
-    tell_written(written, length, place)
+    let stored = write_sketch(params_of(params), counts, idsums, out);
+    tell_written(stored, length, place)
 }

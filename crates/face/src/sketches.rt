@@ -21,8 +21,8 @@ pub extern "C" fn gabunlitik_fresh(
 ) -> u32
     ensures { λ r. ⌜ FreshenedFor (paramsOf (now (params .entry))) (sketch (now (counts .entry)) (now (idsums .entry))) r (now (place .exit)) (sketch (now (counts .exit)) (now (idsums .exit))) ⌝ }
 {
-    let answer = fresh(params_of(params), counts, idsums);
-    tell(answer, place)
+    let cleared = fresh(params_of(params), counts, idsums);
+    tell(cleared, place)
 }
 
 // Puts `number` packets of a flow in.
@@ -37,8 +37,8 @@ pub extern "C" fn gabunlitik_insert(
 ) -> u32
     ensures { λ r. ⌜ InsertedFor (paramsOf (now (params .entry))) flow number (sketch (now (counts .entry)) (now (idsums .entry))) r (now (place .exit)) (sketch (now (counts .exit)) (now (idsums .exit))) ⌝ }
 {
-    let answer = insert(params_of(params), counts, idsums, flow, number);
-    tell(answer, place)
+    let inserted = insert(params_of(params), counts, idsums, flow, number);
+    tell(inserted, place)
 }
 
 // Puts many packets in, each flow by its number, or none of them.
@@ -53,8 +53,8 @@ pub extern "C" fn gabunlitik_insert_all(
 ) -> u32
     ensures { λ r. ⌜ AllInsertedFor (paramsOf (now (params .entry))) (now (flows .entry)) (now (numbers .entry)) (sketch (now (counts .entry)) (now (idsums .entry))) r (now (place .exit)) (sketch (now (counts .exit)) (now (idsums .exit))) ⌝ }
 {
-    let answer = insert_all(params_of(params), counts, idsums, flows, numbers);
-    tell(answer, place)
+    let all_inserted = insert_all(params_of(params), counts, idsums, flows, numbers);
+    tell(all_inserted, place)
 }
 
 // Adds the other sketch to the first, bucket by bucket.
@@ -72,8 +72,8 @@ pub extern "C" fn gabunlitik_add(
 {
     let p = params_of(params);
     let q = params_of(other_params);
-    let answer = add(p, q, counts, idsums, other_counts, other_idsums);
-    tell(answer, place)
+    let added = add(p, q, counts, idsums, other_counts, other_idsums);
+    tell(added, place)
 }
 
 // Takes the other sketch from the first, bucket by bucket.
@@ -91,6 +91,6 @@ pub extern "C" fn gabunlitik_subtract(
 {
     let p = params_of(params);
     let q = params_of(other_params);
-    let answer = subtract(p, q, counts, idsums, other_counts, other_idsums);
-    tell(answer, place)
+    let subtracted = subtract(p, q, counts, idsums, other_counts, other_idsums);
+    tell(subtracted, place)
 }

@@ -1,7 +1,5 @@
 // The lines of the report. A line is written at the start of the output and its length given. No line is longer than 64 bytes: where
 // the output has no room for so many, nothing is written and 0 given.
-ghost use mathlib.Core.Path.{_≡_};
-ghost use Rattle.params.specs.Answers.{numberOf};
 ghost use Rattle.lines.specs.Lines.{lossLine, leftLine, endLine, refusedLine, Lined};
 use crate::text::put;
 use crate::text::put_ending;
@@ -49,21 +47,6 @@ pub fn end(out: &mut [u8], ending: Ending, pops: u32, net: i64) -> usize
     put(out, at, b"\n")
 }
 
-fn number(why: Why) -> u64
-    ensures { λ r. ⌜ r ≡ numberOf why ⌝ }
-{
-    match why {
-        Why::Param => 1,
-        Why::Length => 2,
-        Why::Flow => 3,
-        Why::Count => 4,
-        Why::Damage => 5,
-        Why::Range => 6,
-        Why::Mismatch => 7,
-        Why::Form => 8,
-    }
-}
-
 // refused NUMBER at BYTE
 pub fn refused(out: &mut [u8], why: Why, byte: usize) -> usize
     ensures { λ r. ⌜ Lined (refusedLine why byte) (now (out .entry)) r (now (out .exit)) ⌝ }
@@ -71,7 +54,7 @@ pub fn refused(out: &mut [u8], why: Why, byte: usize) -> usize
     if out.len() < 64 {
         return 0;
     }
-    let told = number(why);
+    let told = why.number() as u64;
     let mut at = put_named(out, 0, b"refused ", told);
     at = put_named(out, at, b" at ", byte as u64);
     put(out, at, b"\n")

@@ -13,6 +13,9 @@ returns c = not-lined _ _ (omega arith)
 number-requires : tie.Need-number-requires
 number-requires c κs = search needs
 
+cast-told : tie.Need-cast-told
+cast-told c = search needs
+
 slice-aggregate-put-named : tie.Need-slice-aggregate-put-named
 slice-aggregate-put-named c = search needs
 
@@ -46,6 +49,7 @@ refused-spec =
     (tie.spec
     returns
     number-requires
+    cast-told
     slice-aggregate-put-named
     put-named-requires
     slice-aggregate-put-named-2
