@@ -108,7 +108,21 @@ def any_buckets(rng):
     script.table(params, rng.choice((size, size, 0, 1, 2)), 5)
     if rng.random() < 0.2:
         damage(rng, script, 1, place(rng, 0, size - 1))
-    script.add("peel", 1, (rng.choice((8 * size, WORD if size < 4 else 8 * size, rng.randint(0, 9))) % 5000,))
+    script.add("peel", 1, (rng.choice((8 * size, 500, rng.randint(0, 9))),))
+    script.show()
+    return script.bytes
+
+
+def one_flow(rng):
+    """A single flow peeled with the largest allowance: any other could be walked without end."""
+    params = any_params(rng, 1, 9)
+    script = Script()
+    script.sketch(1, params)
+    script.sketch(2, params)
+    script.add("insert", 2, (any_flow(rng), rng.choice((1, MOST, rng.randint(1, MOST)))))
+    script.add(rng.choice(("add", "subtract")))
+    script.table(params, rng.choice((0, 1, 1, 5)), 3)
+    script.add("peel", 1, (rng.choice((0, 1, WORD, WORD)),))
     script.show()
     return script.bytes
 
@@ -202,6 +216,14 @@ def changed(rng, params):
     return Params(d, m, tuple(pairs))
 
 
+def bad_params(rng, params):
+    """Parameters that break one rule, also those of too few or too many arrays whose pairs are right."""
+    pairs, none = params.pairs, ((0, 0),)
+    return rng.choice((
+        broken(rng, params), broken(rng, params), broken(rng, params), Params(0, params.m, none * 4),
+        Params(1, params.m, pairs[:1] + none * 3), Params(5, params.m, four_pairs(rng, 4)), Params(WORD, params.m, pairs)))
+
+
 def wrong_length(rng, length):
     return rng.choice([each for each in (0, length - 1, length + 1, 2 * length, ROOM, WORD) if each >= 0 and each != length])
 
@@ -223,7 +245,7 @@ def orders(rng):
             damage(rng, script, sketch, place(rng, 0, size - 1))
     for sketch in (1, 2):
         if rng.random() < 0.2:
-            script.params(sketch, rng.choice((broken, changed))(rng, params))
+            script.params(sketch, rng.choice((bad_params, changed))(rng, params))
     for _ in range(rng.choice((0, 1, 1, 2))):
         wrong_slice(rng, script, size)
     for name, operands in calls(rng, params):
@@ -284,8 +306,7 @@ def parameters(rng):
     script.packets(small_entries(rng, 3))
     script.table(params, 4, 3)
     script.length("output", 100)
-    bad = broken(rng, params)
-    script.params(rng.choice((1, 1, 2)), bad)
+    script.params(rng.choice((1, 1, 2)), bad_params(rng, params))
     for name, operands in calls(rng, params):
         script.add(name, 1, operands)
     script.show()
@@ -297,11 +318,32 @@ def places(rng):
     params = any_params(rng, 1, 16384)
     params = Params(params.d, rng.choice((params.m, 16384, 1)), params.pairs)
     script = Script()
-    script.params(1, params if rng.random() < 0.8 else broken(rng, params))
+    script.params(1, params if rng.random() < 0.8 else bad_params(rng, params))
     for _ in range(rng.randint(1, 12)):
         array = rng.choice((0, 1, params.d, params.d + 1, rng.randint(1, 4), WORD))
         flow = rng.choice((any_flow(rng), any_flow(rng), P, WORD))
         script.add(rng.choice(("position", "index")), 1, (array, flow))
+    return script.bytes
+
+
+def long_lists(rng):
+    """A small sketch with a table and a list of packets of the greatest length, or one longer."""
+    params = any_params(rng, 1, 4)
+    script = Script()
+    script.sketch(1, params)
+    for entry in small_entries(rng, 3):
+        script.add("insert", 1, entry)
+    script.table(params, rng.choice((65536, ROOM)), 7, 3)
+    script.add("peel", 1, (rng.randint(0, 50),))
+    listed = rng.choice((65535, 65536, ROOM))
+    for slice_name, number in (("packet flows", any_flow(rng)), ("packet numbers", rng.choice((0, 1, 40000)))):
+        script.length(slice_name, listed)
+        script.fill(slice_name, number)
+    script.length("output", rng.choice((OUTPUT_ROOM, 43 + 9 * listed, 42 + 9 * listed)))
+    script.fill("output", 0, 0, OUTPUT_ROOM)
+    script.add("write stream")
+    script.add("read stream back")
+    script.add("show")
     return script.bytes
 
 

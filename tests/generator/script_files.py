@@ -1,9 +1,10 @@
 """Scripts about files: sound and faulty ones read, and files written and read back."""
 
 from generator.commands import Script
-from generator.files import MOST, P, WORD, bucket, end, head, packets, sketch_file, stream
-from generator.script_calls import DAMAGED_COUNTS, DAMAGED_IDSUMS, any_content, any_count, any_idsum, changed, damage, wrong_length
-from generator.values import any_flow, any_params, broken, place, small_entries, some_record
+from generator.files import MOST, P, WORD, Params, bucket, end, head, packets, sketch_file, stream
+from generator.script_calls import (
+    DAMAGED_COUNTS, DAMAGED_IDSUMS, any_content, any_count, any_idsum, bad_params, changed, damage, wrong_length)
+from generator.values import any_flow, any_params, place, small_entries, some_record
 
 
 def any_stream(rng, params):
@@ -53,7 +54,8 @@ def spoilt(rng, params, records, bad_record):
     elif way == "end":
         records[-1] = end(rng.choice((0, len(records) - 1, len(records), WORD)))
     else:
-        records[0] = head(rng.choice((broken, changed))(rng, params))
+        other = rng.choice((bad_params, changed))(rng, params)
+        records[0] = head(Params(min(other.d, 255), other.m, other.pairs))
     return records
 
 
@@ -84,7 +86,7 @@ def reading(rng, kind):
     if rng.random() < 0.15:
         damage(rng, script, 1, place(rng, 0, size - 1))
     if rng.random() < 0.1:
-        script.params(1, rng.choice((broken, changed))(rng, params))
+        script.params(1, rng.choice((bad_params, changed))(rng, params))
     if rng.random() < 0.1:
         script.length(rng.choice(("counts", "idsums")), wrong_length(rng, size))
     # A stream in a place for a sketch file, and the other way round, is a fault as well.
@@ -139,7 +141,7 @@ def streams_written(rng):
     if rng.random() < 0.1:
         script.length(rng.choice(("packet flows", "packet numbers")), wrong_length(rng, len(entries)))
     if rng.random() < 0.1:
-        script.params(1, broken(rng, params))
+        script.params(1, bad_params(rng, params))
     exact = 43 + 9 * len(entries)
     script.length("output", rng.choice((exact, exact, exact + 1, exact - 1, 0, exact + 50)))
     script.fill("output", 204)

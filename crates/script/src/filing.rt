@@ -1,42 +1,34 @@
 // Files: read from the script or from the output, and written to the output.
+use crate::commands;
 use crate::commands::after;
-use crate::print;
+use files::writing::Written;
+use params::Answer;
 use params::Params;
 use sketchfile::reading::read_sketch;
 use sketchfile::writing::write_sketch;
 use streamfile::reading::read_stream;
 use streamfile::writing::write_stream;
 
-pub(crate) fn stream(p: Params, given: &[u8], counts: &mut [i32], idsums: &mut [u32]) {
-    let told = read_stream(p, counts, idsums, after(given, 1));
-    print::answer(b"read stream ", told);
-}
-
-pub(crate) fn sketch(p: Params, given: &[u8], counts: &mut [i32], idsums: &mut [u32]) {
-    let told = read_sketch(p, counts, idsums, after(given, 1));
-    print::answer(b"read sketch ", told);
-}
-
-pub(crate) fn stream_back(
+// Reads the file after the operand, or back from the output the one that was last written.
+pub(crate) fn read(
+    name: u8,
     p: Params,
+    given: &[u8],
     file: usize,
     output: &[u8],
     counts: &mut [i32],
     idsums: &mut [u32],
-) {
-    let told = read_stream(p, counts, idsums, front(output, file));
-    print::answer(b"read stream back ", told);
-}
-
-pub(crate) fn sketch_back(
-    p: Params,
-    file: usize,
-    output: &[u8],
-    counts: &mut [i32],
-    idsums: &mut [u32],
-) {
-    let told = read_sketch(p, counts, idsums, front(output, file));
-    print::answer(b"read sketch back ", told);
+) -> Answer {
+    if name == commands::READ_STREAM {
+        return read_stream(p, counts, idsums, after(given, 1));
+    }
+    if name == commands::READ_SKETCH {
+        return read_sketch(p, counts, idsums, after(given, 1));
+    }
+    if name == commands::REREAD_STREAM {
+        return read_stream(p, counts, idsums, front(output, file));
+    }
+    read_sketch(p, counts, idsums, front(output, file))
 }
 
 // The file that was last written, or as much of it as is lent.
@@ -47,25 +39,17 @@ fn front(output: &[u8], file: usize) -> &[u8] {
     &output[0..file]
 }
 
-// The writers tell how long the file is that may be read back.
-pub(crate) fn stream_out(
+pub(crate) fn write(
+    name: u8,
     p: Params,
-    file: usize,
-    flows: &[u32],
-    numbers: &[u32],
-    output: &mut [u8],
-) -> usize {
-    let told = write_stream(p, flows, numbers, output);
-    print::written(b"write stream ", told, file)
-}
-
-pub(crate) fn sketch_out(
-    p: Params,
-    file: usize,
     counts: &[i32],
     idsums: &[u32],
+    packet_flows: &[u32],
+    packet_numbers: &[u32],
     output: &mut [u8],
-) -> usize {
-    let told = write_sketch(p, counts, idsums, output);
-    print::written(b"write sketch ", told, file)
+) -> Written {
+    if name == commands::WRITE_STREAM {
+        return write_stream(p, packet_flows, packet_numbers, output);
+    }
+    write_sketch(p, counts, idsums, output)
 }

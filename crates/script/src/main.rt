@@ -51,6 +51,7 @@ fn run(script: &[u8]) {
         let Next::Of(c) = next else {
             break;
         };
+        print::name(c.name);
         let given = commands::operands(script, c.start, c.end);
         let t = settings::set(settings::turned(s, c.second), c.name, given);
         let file = choose(
@@ -288,26 +289,35 @@ fn act(
             packet_numbers,
             output,
         ),
-        commands::FRESH => calls::fresh(p, counts, idsums),
-        commands::INSERT => calls::insert(p, given, counts, idsums),
-        commands::INSERT_ALL => {
-            calls::insert_all(p, counts, idsums, packet_flows, packet_numbers)
+        commands::FRESH..=commands::SUBTRACT => print::answer(calls::call(
+            name,
+            p,
+            q,
+            given,
+            counts,
+            idsums,
+            others,
+            weights,
+            packet_flows,
+            packet_numbers,
+        )),
+        commands::PEEL => calls::peel(p, given, counts, idsums, flows, numbers, queue, marks),
+        commands::READ_STREAM..=commands::REREAD_SKETCH => {
+            print::answer(filing::read(name, p, given, file, output, counts, idsums))
         }
-        commands::ADD => calls::add(p, q, counts, idsums, others, weights),
-        commands::SUBTRACT => calls::subtract(p, q, counts, idsums, others, weights),
-        commands::PEEL => { calls::peel(p, given, counts, idsums, flows, numbers, queue, marks) }
-        commands::READ_STREAM => filing::stream(p, given, counts, idsums),
-        commands::READ_SKETCH => filing::sketch(p, given, counts, idsums),
-        commands::REREAD_STREAM => filing::stream_back(p, file, output, counts, idsums),
-        commands::REREAD_SKETCH => filing::sketch_back(p, file, output, counts, idsums),
-        commands::WRITE_STREAM => {
-            return filing::stream_out(p, file, packet_flows, packet_numbers, output);
+        commands::WRITE_STREAM..=commands::WRITE_SKETCH => {
+            let told = filing::write(
+                name,
+                p,
+                counts,
+                idsums,
+                packet_flows,
+                packet_numbers,
+                output,
+            );
+            return print::written(told, file);
         }
-        commands::WRITE_SKETCH => {
-            return filing::sketch_out(p, file, counts, idsums, output);
-        }
-        commands::POSITION => calls::position(p, given),
-        commands::INDEX => calls::index(p, given),
+        commands::POSITION..=commands::INDEX => calls::place(name, p, given),
         commands::SHOW => show::all(counts, idsums, flows, numbers, queue, marks, output),
         _ => {}
     }

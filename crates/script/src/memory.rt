@@ -33,11 +33,7 @@ pub(crate) fn put(
     packet_numbers: &mut [u32],
     output: &mut [u8],
 ) {
-    if t.fill {
-        print::done(b"fill ");
-    } else {
-        print::done(b"store ");
-    }
+    print::done();
     let words = after(given, 3);
     let slice = word(given, 0) as usize;
     match slice {

@@ -1,4 +1,5 @@
 // The lines: the name of a command, then what it answered.
+use crate::commands;
 use crate::commands::Next;
 use files::writing::Written;
 use params::Answer;
@@ -22,65 +23,85 @@ pub(crate) fn line(bytes: &[u8], n: usize) {
     io::write_all(1, &bytes[0..n]);
 }
 
-pub(crate) fn done(name: &[u8]) {
-    text(name);
+// The name of a command, before what it answers.
+pub(crate) fn name(command: u8) {
+    match command {
+        commands::PARAMS => text(b"params "),
+        commands::LENGTH => text(b"length "),
+        commands::STORE => text(b"store "),
+        commands::FILL => text(b"fill "),
+        commands::FRESH => text(b"fresh "),
+        commands::INSERT => text(b"insert "),
+        commands::INSERT_ALL => text(b"insert all "),
+        commands::ADD => text(b"add "),
+        commands::SUBTRACT => text(b"subtract "),
+        commands::PEEL => text(b"peel "),
+        commands::READ_STREAM => text(b"read stream "),
+        commands::READ_SKETCH => text(b"read sketch "),
+        commands::REREAD_STREAM => text(b"read stream back "),
+        commands::REREAD_SKETCH => text(b"read sketch back "),
+        commands::WRITE_STREAM => text(b"write stream "),
+        commands::WRITE_SKETCH => text(b"write sketch "),
+        commands::POSITION => text(b"position "),
+        commands::INDEX => text(b"index "),
+        _ => text(b"show "),
+    }
+}
+
+pub(crate) fn done() {
     text(b"done\n");
 }
 
-fn refused(name: &[u8], why: Why, index: usize) {
+fn refused(why: Why, index: usize) {
     let mut out = [0u8; 64];
-    text(name);
     let n = lines::lines::refused(&mut out, why, index);
     line(&out, n);
 }
 
-pub(crate) fn answer(name: &[u8], told: Answer) {
+pub(crate) fn answer(told: Answer) {
     match told {
-        Answer::Done => done(name),
-        Answer::Refused(why, index) => refused(name, why, index),
+        Answer::Done => done(),
+        Answer::Refused(why, index) => refused(why, index),
     }
 }
 
-pub(crate) fn spot(name: &[u8], told: Spot) {
+pub(crate) fn spot(told: Spot) {
     match told {
         Spot::At(place) => {
-            text(name);
             number(place);
             text(b"\n");
         }
-        Spot::Refused(why, index) => refused(name, why, index),
+        Spot::Refused(why, index) => refused(why, index),
     }
 }
 
 // The answer of a writer. Told is the length of the file that may be read back: the one before where none was written.
-pub(crate) fn written(name: &[u8], told: Written, before: usize) -> usize {
+pub(crate) fn written(told: Written, before: usize) -> usize {
     match told {
         Written::Bytes(n) => {
-            text(name);
             number(n);
             text(b" bytes\n");
             n
         }
         Written::Refused(why, index) => {
-            refused(name, why, index);
+            refused(why, index);
             before
         }
     }
 }
 
-pub(crate) fn peeled(name: &[u8], told: Peeled) {
+pub(crate) fn peeled(told: Peeled) {
     match told {
         Peeled::Ended(figures) => {
             let mut out = [0u8; 64];
             let ending = figures.ending;
-            text(name);
             text(b"entries ");
             number(figures.entries);
             text(b" ");
             let n = lines::lines::end(&mut out, ending, figures.pops, figures.net);
             line(&out, n);
         }
-        Peeled::Refused(why, index) => refused(name, why, index),
+        Peeled::Refused(why, index) => refused(why, index),
     }
 }
 

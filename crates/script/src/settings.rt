@@ -105,7 +105,7 @@ fn params(given: &[u8]) -> Params {
 fn with_params(s: Settings, p: Params) -> Settings {
     let mut t = s;
     t.first = p;
-    print::done(b"params ");
+    print::done();
     t
 }
 
@@ -115,7 +115,7 @@ fn with_length(s: Settings, slice: usize, n: usize) -> Settings {
     if slice <= OUTPUT {
         t.lengths[slice] = n;
     }
-    print::done(b"length ");
+    print::done();
     t
 }
 

@@ -1,6 +1,7 @@
 // What the slices hold: each with its length, and a line for each place that is not zero.
 ghost use Prim.Native.Nat.{_≤_};
 use crate::MOST;
+use crate::print::done;
 use crate::print::line;
 use crate::print::number;
 use crate::print::text;
@@ -17,7 +18,7 @@ pub(crate) fn all(
     marks: &[u32],
     output: &[u8],
 ) {
-    text(b"show\n");
+    done();
     sketch(counts, idsums);
     table(flows, numbers);
     words(b"queue ", queue);

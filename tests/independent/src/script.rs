@@ -188,7 +188,7 @@ fn answer(name: &str, told: Result<String, Refusal>) -> String {
 fn show(memory: &mut Memory) -> String {
     let lent = memory.lend();
     let Lent { counts, idsums, .. } = &lent.sketch;
-    let mut lines = format!("show\ncounts {} idsums {}\n", counts.len(), idsums.len());
+    let mut lines = format!("show done\ncounts {} idsums {}\n", counts.len(), idsums.len());
     for index in 0..counts.len().max(idsums.len()) {
         lines += &print::left(index, &Bucket { count: at(counts, index), idsum: at(idsums, index) });
     }

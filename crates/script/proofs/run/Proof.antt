@@ -25,6 +25,9 @@ find-requires c κs = search needs
 enum-known-next : tie.Need-enum-known-next Inv-loop μ-loop
 enum-known-next c = search needs
 
+name-requires : tie.Need-name-requires Inv-loop μ-loop
+name-requires c κs = search needs
+
 operands-requires : tie.Need-operands-requires Inv-loop μ-loop
 operands-requires c κs = search needs
 
@@ -44,10 +47,10 @@ turned-requires-2 : tie.Need-turned-requires-2 Inv-loop μ-loop
 turned-requires-2 c κs = search needs
 
 sub-turns : tie.Need-sub-turns Inv-loop μ-loop
-sub-turns c = omega (arith, c .before .before .before .before .before .before .before .before .before .before .before .before .before .before .before .before .before .before .before .before .before .loop-test .taken)
+sub-turns c = omega (arith, c .before .before .before .before .before .before .before .before .before .before .before .before .before .before .before .before .before .before .before .before .before .before .loop-test .taken)
 
 loop-less : tie.Need-loop-less Inv-loop μ-loop
-loop-less c = omega (arith, c .before .before .before .before .before .before .before .before .before .before .before .before .before .before .before .before .before .before .before .before .before .loop-test .taken)
+loop-less c = omega (arith, c .before .before .before .before .before .before .before .before .before .before .before .before .before .before .before .before .before .before .before .before .before .before .loop-test .taken)
 
 loop-again : tie.Need-loop-again Inv-loop μ-loop
 loop-again c = omega arith
@@ -71,6 +74,7 @@ run-spec =
     loop-holds
     find-requires
     enum-known-next
+    name-requires
     operands-requires
     turned-requires
     set-requires
