@@ -24,16 +24,20 @@ def bad_packets(rng):
     return packets(*rng.choice(((flow, 1), (any_flow(rng), number), (flow, number), (any_flow(rng), MOST))))
 
 
-def bad_bucket(rng, size, before):
-    """A bucket with a fault in each of its fields, or in several; `before` is an index that stood already."""
-    index = rng.choice((size, size + 1, WORD, before, max(before - 1, 0), 0, rng.randrange(size), size - 1))
-    count = rng.choice(DAMAGED_COUNTS + (0, 0, 1, any_count(rng)))
-    idsum = rng.choice(DAMAGED_IDSUMS + (0, 0, 1, any_idsum(rng)))
-    return bucket(index, count, idsum)
-
-
 def index_of(record):
     return int.from_bytes(record[1:5], "big")
+
+
+def bad_bucket(rng, size, previous, replaced):
+    """A bucket with a fault in one of its fields, or in several, in place of one that stood after the previous record."""
+    before = index_of(previous) if previous[0] == 3 else 0
+    here = min(index_of(replaced), size - 1)
+    index = rng.choice((size, size + 1, WORD, before, before, max(before - 1, 0), 0, size - 1))
+    count = rng.choice(DAMAGED_COUNTS + (0, 1))
+    idsum = rng.choice(DAMAGED_IDSUMS + (0, 1))
+    return bucket(*rng.choice((
+        (index, any_count(rng), any_idsum(rng)), (index, 1, 1), (here, 0, 0), (here, count, 1), (here, 1, idsum),
+        (here, count, idsum), (index, count, idsum))))
 
 
 def spoilt(rng, params, records, bad_record):
@@ -42,9 +46,9 @@ def spoilt(rng, params, records, bad_record):
     way = rng.choice(("bad", "bad", "bad", "misplaced", "kind", "twice", "end", "head"))
     if way == "bad" and len(records) > 2:
         at = place(rng, 1, len(records) - 2)
-        records[at] = bad_record(records[at])
+        records[at] = bad_record(records[at - 1], records[at])
     elif way == "bad":
-        records.insert(1, bad_record(end(0)))
+        records.insert(1, bad_record(records[0], end(0)))
     elif way == "misplaced":
         records[at:at + rng.choice((0, 1))] = [some_record(rng, params)]
     elif way == "kind":
@@ -63,10 +67,10 @@ def any_file(rng, params, kind):
     """A sound file, or one that is spoilt, cut at any byte, or followed by more bytes."""
     if kind == "stream":
         records = any_stream(rng, params)
-        bad_record = lambda _: bad_packets(rng)
+        bad_record = lambda _previous, _replaced: bad_packets(rng)
     else:
         records = any_sketch_file(rng, params)
-        bad_record = lambda record: bad_bucket(rng, params.d * params.m, index_of(record))
+        bad_record = lambda previous, replaced: bad_bucket(rng, params.d * params.m, previous, replaced)
     for _ in range(rng.choice((0, 1, 1, 1, 2))):
         records = spoilt(rng, params, records, bad_record)
     data = b"".join(records)
@@ -137,6 +141,9 @@ def streams_written(rng):
     for _ in range(rng.choice((0, 0, 1, 2)) if entries else 0):
         at = place(rng, 0, len(entries) - 1)
         entries[at] = rng.choice(((P, 1), (WORD, 0), (3, 0), (3, P), (3, MOST)))
+    if len(entries) > 1 and rng.random() < 0.1:
+        # FLOW at the last entry comes before COUNT at the first.
+        entries[0], entries[-1] = (any_flow(rng), rng.choice((0, P))), (rng.choice((P, WORD)), 1)
     script.packets(entries)
     if rng.random() < 0.1:
         script.length(rng.choice(("packet flows", "packet numbers")), wrong_length(rng, len(entries)))
