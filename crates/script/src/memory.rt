@@ -20,6 +20,7 @@ pub(crate) fn target_of(given: &[u8], fill: bool) -> Target {
     }
 }
 
+// Puts numbers into the slice that is named. Each way out stands by itself, so that the check finds the lengths by itself.
 pub(crate) fn put(
     t: Target,
     given: &[u8],

@@ -38,7 +38,7 @@ pub(crate) struct Settings {
     pub(crate) file: usize,
 }
 
-// All zero: the parameters are to be set before anything else is done.
+// All zero, so that calls are refused until the parameters are set.
 pub(crate) fn start() -> Settings {
     Settings {
         first: none(),
