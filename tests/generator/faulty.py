@@ -1,7 +1,7 @@
 """Faulty inputs of the report: a sound one of a few records, changed in one place or cut."""
 
-from generator.files import MOST, P, WORD, Params, bucket, end, head, joined, packets, stream
-from generator.values import (MOST_BUCKETS, any_flow, any_pair, any_params, broken, place, small_entries, some_record)
+from generator.files import MOST, P, WORD, Params, end, head, joined, packets, stream
+from generator.values import MOST_BUCKETS, any_flow, any_pair, any_params, broken, place, small_entries, some_record
 
 
 def sound(rng):

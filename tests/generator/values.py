@@ -1,6 +1,6 @@
 """Values that inputs are made of: parameters, sound or not, flows, entries and records of any kind."""
 
-from generator.files import MOST, P, WORD, Params, bucket, end, head, packets
+from generator.files import P, WORD, Params, bucket, end, head, packets
 
 # As many buckets as the report accepts.
 MOST_BUCKETS = 1536
