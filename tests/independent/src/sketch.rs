@@ -1,4 +1,4 @@
-//! The sketch: its parameters and their rules, where a flow stands, insertion with its refusals, and subtraction.
+//! The sketch: its parameters and their rules, where a flow stands, insertion, addition and subtraction with their refusals.
 
 /// The prime 2^31 - 1.
 pub const P: i64 = 2147483647;
@@ -6,19 +6,37 @@ pub const P: i64 = 2147483647;
 /// Counts stand between -MOST and MOST.
 pub const MOST: i64 = P - 1;
 
-/// The numbers of the refusals that a report can give. The others, LENGTH (2) and DAMAGE (5), speak of
-/// lent memory, and there is none here.
+/// The numbers of the refusals.
 #[derive(Clone, Copy)]
 pub enum Fault {
     Param = 1,
+    Length = 2,
     Flow = 3,
     Count = 4,
+    Damage = 5,
     Range = 6,
     Mismatch = 7,
     Form = 8,
 }
 
-#[derive(Clone, PartialEq)]
+/// Why a call or an input is refused, and the index or the offset that goes with it.
+pub struct Refusal {
+    pub fault: Fault,
+    pub at: usize,
+}
+
+impl Fault {
+    /// The refusal with index 0, as it is for most.
+    pub fn refused(self) -> Refusal {
+        self.at(0)
+    }
+
+    pub fn at(self, at: usize) -> Refusal {
+        Refusal { fault: self, at }
+    }
+}
+
+#[derive(Clone, Copy, PartialEq)]
 pub struct Params {
     pub d: i64,
     pub m: i64,
@@ -43,9 +61,14 @@ impl Params {
         (a * flow + b) % P % self.m
     }
 
+    /// The index of a flow's bucket in an array.
+    pub fn index(&self, array: i64, flow: i64) -> i64 {
+        (array - 1) * self.m + self.position(array, flow)
+    }
+
     /// The indexes of a flow's buckets, in rising array order.
     pub fn indexes(&self, flow: i64) -> Vec<usize> {
-        (1..=self.d).map(|array| ((array - 1) * self.m + self.position(array, flow)) as usize).collect()
+        (1..=self.d).map(|array| self.index(array, flow) as usize).collect()
     }
 }
 
@@ -56,9 +79,19 @@ pub struct Bucket {
 }
 
 impl Bucket {
+    pub const ZERO: Bucket = Bucket { count: 0, idsum: 0 };
+
     pub fn is_all_zero(&self) -> bool {
         self.count == 0 && self.idsum == 0
     }
+
+    pub fn is_damaged(&self) -> bool {
+        leaves_the_limits(self.count) || !(0..P).contains(&self.idsum)
+    }
+}
+
+pub fn leaves_the_limits(count: i64) -> bool {
+    !(-MOST..=MOST).contains(&count)
 }
 
 pub struct Sketch {
@@ -69,19 +102,26 @@ pub struct Sketch {
 impl Sketch {
     pub fn fresh(params: Params) -> Sketch {
         let size = (params.d * params.m) as usize;
-        Sketch { params, buckets: vec![Bucket { count: 0, idsum: 0 }; size] }
+        Sketch { params, buckets: vec![Bucket::ZERO; size] }
     }
 
-    pub fn insert(&mut self, flow: i64, number: i64) -> Result<(), Fault> {
-        if flow >= P {
-            return Err(Fault::Flow);
+    /// DAMAGE at the lowest index where a bucket is outside its limits.
+    pub fn judge_damage(&self) -> Result<(), Refusal> {
+        match self.buckets.iter().position(Bucket::is_damaged) {
+            Some(index) => Err(Fault::Damage.at(index)),
+            None => Ok(()),
         }
-        if number == 0 || number > P - 1 {
-            return Err(Fault::Count);
-        }
+    }
+
+    pub fn insert(&mut self, flow: i64, number: i64) -> Result<(), Refusal> {
+        judge_packets(flow, number)?;
+        // In rising array order, so the first of them that is at fault has the lowest index.
         let indexes = self.params.indexes(flow);
-        if indexes.iter().any(|&index| self.buckets[index].count + number > MOST) {
-            return Err(Fault::Range);
+        if let Some(&index) = indexes.iter().find(|&&index| self.buckets[index].is_damaged()) {
+            return Err(Fault::Damage.at(index));
+        }
+        if let Some(&index) = indexes.iter().find(|&&index| leaves_the_limits(self.buckets[index].count + number)) {
+            return Err(Fault::Range.at(index));
         }
         for index in indexes {
             let bucket = &mut self.buckets[index];
@@ -91,12 +131,29 @@ impl Sketch {
         Ok(())
     }
 
-    /// Takes another sketch of the same parameters away, bucket by bucket. No count can leave its limits
-    /// where both sketches have counts of 0 or more, as here.
-    pub fn subtract(&mut self, other: &Sketch) {
-        for (bucket, taken) in self.buckets.iter_mut().zip(&other.buckets) {
-            bucket.count -= taken.count;
-            bucket.idsum = (bucket.idsum - taken.idsum).rem_euclid(P);
+    /// Adds `sign` times another sketch of the same parameters, bucket by bucket.
+    pub fn combine(&mut self, sign: i64, other: &Sketch) -> Result<(), Refusal> {
+        let both = || self.buckets.iter().zip(&other.buckets);
+        if let Some(index) = both().position(|(bucket, added)| bucket.is_damaged() || added.is_damaged()) {
+            return Err(Fault::Damage.at(index));
         }
+        if let Some(index) = both().position(|(bucket, added)| leaves_the_limits(bucket.count + sign * added.count)) {
+            return Err(Fault::Range.at(index));
+        }
+        for (bucket, added) in self.buckets.iter_mut().zip(&other.buckets) {
+            bucket.count += sign * added.count;
+            bucket.idsum = (bucket.idsum + sign * added.idsum).rem_euclid(P);
+        }
+        Ok(())
     }
+}
+
+pub fn judge_packets(flow: i64, number: i64) -> Result<(), Refusal> {
+    if flow >= P {
+        return Err(Fault::Flow.refused());
+    }
+    if number == 0 || number > P - 1 {
+        return Err(Fault::Count.refused());
+    }
+    Ok(())
 }

@@ -1,0 +1,379 @@
+"""Scripts of calls on sketches in memory: each kind a function, with a line on what it makes."""
+
+from generator import sound
+from generator.commands import OUTPUT_ROOM, ROOM, SLICES, Script
+from generator.files import MOST, P, WORD, Params
+from generator.values import any_flow, any_params, any_pair, broken, four_pairs, place, position, small_entries
+
+# Sound differences whose walks are short enough to be tried with one allowance after the other.
+DIFFERENCES = (
+    sound.tiny, sound.tiny, sound.many_flows, sound.wide, sound.meets_the_range, sound.meets_the_table, sound.searched,
+    sound.false_pure, sound.cancelled, sound.at_the_limits, sound.duplicates)
+
+# Counts and idsums at their limits and past them.
+COUNTS = (0, 1, -1, MOST, -MOST, MOST - 1, 1 - MOST)
+IDSUMS = (0, 1, P - 1)
+DAMAGED_COUNTS = (P, -P, -2**31)
+DAMAGED_IDSUMS = (P, 2**31, WORD)
+
+
+def indexes(params, flow):
+    return [i * params.m + position(params, i, flow) for i in range(params.d)]
+
+
+def any_count(rng):
+    return rng.choice(COUNTS + (rng.randint(-9, 9), rng.randint(-MOST, MOST)))
+
+
+def any_idsum(rng):
+    return rng.choice(IDSUMS + (rng.randint(0, 9), rng.randint(0, P - 1)))
+
+
+def damage(rng, script, sketch, index):
+    """Damages the count, the idsum or both of a bucket."""
+    count, idsum = rng.choice((
+        (rng.choice(DAMAGED_COUNTS), any_idsum(rng)), (any_count(rng), rng.choice(DAMAGED_IDSUMS)),
+        (rng.choice(DAMAGED_COUNTS), rng.choice(DAMAGED_IDSUMS))))
+    script.bucket(index, count, idsum, sketch)
+
+
+def any_content(rng, script, sketch, params):
+    """Buckets of any content within the limits, or none."""
+    size = params.d * params.m
+    for _ in range(rng.choice((0, 1, 3, min(size, 12)))):
+        script.bucket(rng.randrange(size), any_count(rng), any_idsum(rng), sketch)
+
+
+def put_in(rng, script, sketch, entries):
+    """Packets put in one by one, or all at once."""
+    if rng.random() < 0.5:
+        for entry in entries:
+            script.add("insert", sketch, entry)
+    else:
+        script.packets(entries)
+        script.add("insert all", sketch)
+
+
+def walks(rng):
+    """A sound difference, peeled with a table of any length and a usual, a small or the largest allowance."""
+    params, upstream, downstream = rng.choice(DIFFERENCES + (sound.lost, sound.crowded))(rng)
+    size = params.d * params.m
+    script = Script()
+    script.sketch(1, params)
+    script.sketch(2, params)
+    put_in(rng, script, 1, upstream)
+    put_in(rng, script, 2, downstream)
+    script.add("subtract")
+    slots = rng.choice((size, size, size, 0, 1, rng.randint(0, size), 2 * size))
+    script.table(params, slots, rng.choice((0, 9, WORD)))
+    script.add("peel", 1, (rng.choice((8 * size, 8 * size, 8 * size, rng.randint(0, 3 * size), 20 * size)),))
+    script.show()
+    if rng.random() < 0.3:
+        script.add("peel", 1, (rng.randint(0, size),))
+        script.show()
+    return script.bytes
+
+
+def each_allowance(rng):
+    """One difference peeled with every small allowance, or every small table, so that each ending also meets its last pop or slot."""
+    params, upstream, downstream = rng.choice(DIFFERENCES)(rng)
+    size = params.d * params.m
+    script = Script()
+    script.sketch(1, params)
+    script.sketch(2, params)
+    put_in(rng, script, 2, upstream)
+    put_in(rng, script, 1, downstream)
+    script.add("subtract", 2)
+    by_slots = rng.random() < 0.4
+    for number in range(rng.choice((4, 8, 16))):
+        script.add("fresh")
+        script.add("add")
+        script.table(params, number if by_slots else size, number)
+        script.add("peel", 1, (8 * size if by_slots else number,))
+        script.add("show")
+    return script.bytes
+
+
+def any_buckets(rng):
+    """Buckets of any content peeled: such as no packets made, at the limits, with a count of 0 and an idsum that is not."""
+    params = any_params(rng, 1, rng.choice((1, 3, 6)))
+    size = params.d * params.m
+    script = Script()
+    script.sketch(1, params)
+    for index in range(size):
+        flow = any_flow(rng)
+        count = any_count(rng)
+        pure = index % params.m == position(params, index // params.m, flow) or rng.random() < 0.3
+        script.bucket(index, count, count * flow % P if pure else any_idsum(rng))
+    script.table(params, rng.choice((size, size, 0, 1, 2)), 5)
+    if rng.random() < 0.2:
+        damage(rng, script, 1, place(rng, 0, size - 1))
+    script.add("peel", 1, (rng.choice((8 * size, 500, rng.randint(0, 9))),))
+    script.show()
+    return script.bytes
+
+
+def one_flow(rng):
+    """A single flow peeled with the largest allowance: any other could be walked without end."""
+    params = any_params(rng, 1, 9)
+    script = Script()
+    script.sketch(1, params)
+    script.sketch(2, params)
+    script.add("insert", 2, (any_flow(rng), rng.choice((1, MOST, rng.randint(1, MOST)))))
+    script.add(rng.choice(("add", "subtract")))
+    script.table(params, rng.choice((0, 1, 1, 5)), 3)
+    script.add("peel", 1, (rng.choice((0, 1, WORD, WORD)),))
+    script.show()
+    return script.bytes
+
+
+def inserts(rng):
+    """Packets into any content, with the buckets of a flow near the limits, damaged, or both, and damage elsewhere."""
+    params = any_params(rng, 1, 8)
+    script = Script()
+    script.sketch(1, params)
+    any_content(rng, script, 1, params)
+    for _ in range(rng.randint(1, 4)):
+        flow = any_flow(rng)
+        number = rng.choice((1, MOST, rng.randint(1, MOST), 0, P, WORD) if rng.random() < 0.2 else (1, rng.randint(1, 9), MOST))
+        for index in indexes(params, flow):
+            reached = rng.choice((MOST, MOST, MOST + 1, 0, 5))
+            if rng.random() < 0.6:
+                script.bucket(index, max(reached - number, -MOST) if 0 < number <= MOST else 3, any_idsum(rng))
+            if rng.random() < 0.1:
+                damage(rng, script, 1, index)
+        if rng.random() < 0.2:
+            damage(rng, script, 1, rng.randrange(params.d * params.m))
+        script.add("insert", 1, (flow if rng.random() < 0.9 else rng.choice((P, P + 1, WORD)), number))
+        script.add("show")
+    return script.bytes
+
+
+def lists(rng):
+    """Many packets at once, the first, a middle or the last of which may be at fault; lists of two lengths."""
+    params = any_params(rng, 1, 6)
+    script = Script()
+    script.sketch(1, params)
+    any_content(rng, script, 1, params)
+    entries = small_entries(rng, 8) + [(any_flow(rng), 1)]
+    for _ in range(rng.choice((0, 1, 1, 2))):
+        at = place(rng, 0, len(entries) - 1)
+        flow, number = entries[at]
+        entries[at] = rng.choice((
+            (P, number), (WORD, 0), (flow, 0), (flow, P), (flow, MOST), (flow, MOST), (flow, MOST - rng.randint(0, 9))))
+    script.packets(entries)
+    if rng.random() < 0.2:
+        flow, _ = rng.choice(entries)
+        damage(rng, script, 1, rng.choice(indexes(params, min(flow, P - 1))))
+    if rng.random() < 0.1:
+        script.length(rng.choice(("packet flows", "packet numbers")), rng.choice((0, len(entries) - 1, len(entries) + 1)))
+    script.add("insert all")
+    script.add("show")
+    return script.bytes
+
+
+def sums(rng):
+    """Sketches of any content added and subtracted, some to the limits and past them, some damaged in either."""
+    params = any_params(rng, 1, 6)
+    size = params.d * params.m
+    script = Script()
+    for sketch in (1, 2):
+        script.sketch(sketch, params)
+        any_content(rng, script, sketch, params)
+    sign = rng.choice((1, -1))
+    for _ in range(rng.randint(0, 3)):
+        index = place(rng, 0, size - 1)
+        count, other = any_count(rng), any_count(rng)
+        if rng.random() < 0.6:
+            reached = rng.choice((-1, 1)) * rng.choice((MOST, MOST + 1, MOST + 2))
+            other = max(-MOST, min(MOST, sign * (reached - count)))
+        script.bucket(index, count, any_idsum(rng))
+        script.bucket(index, other, any_idsum(rng), 2)
+    for _ in range(rng.choice((0, 0, 0, 1, 2))):
+        damage(rng, script, rng.choice((1, 2)), place(rng, 0, size - 1))
+    script.add("add" if sign == 1 else "subtract", rng.choice((1, 1, 2)))
+    script.show()
+    script.add(rng.choice(("add", "subtract")))
+    script.show()
+    return script.bytes
+
+
+def changed(rng, params):
+    """Sound parameters that differ in one thing from the given ones."""
+    d, m, pairs = params.d, params.m, list(params.pairs)
+    thing = rng.choice(("d", "m", "pair", "order"))
+    if thing == "d":
+        d = rng.choice([each for each in (2, 3, 4) if each != d])
+        return Params(d, m, four_pairs(rng, d))
+    if thing == "m":
+        return Params(d, m + rng.choice((1, -1)) if m > 1 else 2, params.pairs)
+    if thing == "pair":
+        a, b = pairs[d - 1]
+        pairs[rng.randrange(d)] = rng.choice(((a % (P - 1) + 1, b), (a, (b + 1) % P), any_pair(rng)))
+    else:
+        first, second = rng.sample(range(d), 2)
+        pairs[first], pairs[second] = pairs[second], pairs[first]
+    return Params(d, m, tuple(pairs))
+
+
+def bad_params(rng, params):
+    """Parameters that break one rule, also those of too few or too many arrays whose pairs are right."""
+    pairs, none = params.pairs, ((0, 0),)
+    return rng.choice((
+        broken(rng, params), broken(rng, params), broken(rng, params), Params(0, params.m, none * 4),
+        Params(1, params.m, pairs[:1] + none * 3), Params(5, params.m, four_pairs(rng, 4)), Params(WORD, params.m, pairs)))
+
+
+def wrong_length(rng, length):
+    return rng.choice([each for each in (0, length - 1, length + 1, 2 * length, ROOM, WORD) if each >= 0 and each != length])
+
+
+def orders(rng):
+    """Several faults of a call at once: bad parameters of either sketch, other ones, lengths of any slice, damage, range."""
+    params = any_params(rng, 1, 6)
+    size = params.d * params.m
+    script = Script()
+    for sketch in (1, 2):
+        script.sketch(sketch, params)
+        any_content(rng, script, sketch, params)
+    script.packets(small_entries(rng, 3))
+    script.table(params, 3, 7)
+    script.length("output", rng.choice((60, 200)))
+    script.fill("output", 170)
+    for sketch in (1, 2):
+        if rng.random() < 0.3:
+            damage(rng, script, sketch, place(rng, 0, size - 1))
+    for sketch in (1, 2):
+        if rng.random() < 0.2:
+            script.params(sketch, rng.choice((bad_params, changed))(rng, params))
+    for _ in range(rng.choice((0, 1, 1, 2))):
+        wrong_slice(rng, script, size)
+    for name, operands in calls(rng, params):
+        script.add(name, 1, operands)
+    script.show()
+    return script.bytes
+
+
+def wrong_slice(rng, script, size):
+    slice_name = rng.choice(SLICES)
+    right = {"output": 43, "table flows": 3, "table counts": 3}.get(slice_name, size)
+    script.length(slice_name, wrong_length(rng, right), rng.choice((1, 1, 1, 2)))
+
+
+def calls(rng, params):
+    """All calls that have no file as operand, in any order."""
+    flow = rng.choice((any_flow(rng), any_flow(rng), P))
+    made = [
+        ("insert", (flow, rng.choice((1, 1, 0, MOST)))), ("insert all", ()), ("add", ()), ("subtract", ()),
+        ("peel", (rng.randint(0, 30),)), ("write stream", ()), ("write sketch", ()), ("read stream back", ()),
+        ("read sketch back", ()), ("position", (rng.randint(0, params.d + 1), flow)),
+        ("index", (rng.randint(0, params.d + 1), flow)), ("fresh", ())]
+    rng.shuffle(made)
+    return made
+
+
+def lengths(rng):
+    """One slice of a wrong length for one call; the call again when it is right."""
+    params = any_params(rng, 1, 5)
+    size = params.d * params.m
+    script = Script()
+    for sketch in (1, 2):
+        script.sketch(sketch, params)
+        any_content(rng, script, sketch, params)
+    script.packets(small_entries(rng, 3))
+    script.table(params, 4, 3)
+    script.length("output", 400)
+    script.fill("output", 85)
+    name, operands = rng.choice(calls(rng, params))
+    wrong_slice(rng, script, size)
+    script.add(name, 1, operands)
+    script.show()
+    for sketch in (1, 2):
+        script.sketch(sketch, params)
+    script.table(params, 4, 3)
+    script.add(name, 1, operands)
+    script.show()
+    return script.bytes
+
+
+def parameters(rng):
+    """Every call with parameters that break one rule."""
+    params = any_params(rng, 1, 5)
+    script = Script()
+    for sketch in (1, 2):
+        script.sketch(sketch, params)
+        any_content(rng, script, sketch, params)
+    script.packets(small_entries(rng, 3))
+    script.table(params, 4, 3)
+    script.length("output", 100)
+    script.params(rng.choice((1, 1, 2)), bad_params(rng, params))
+    for name, operands in calls(rng, params):
+        script.add(name, 1, operands)
+    script.show()
+    return script.bytes
+
+
+def places(rng):
+    """Positions and indexes of flows in arrays, also such as there are not."""
+    params = any_params(rng, 1, 16384)
+    params = Params(params.d, rng.choice((params.m, 16384, 1)), params.pairs)
+    script = Script()
+    script.params(1, params if rng.random() < 0.8 else bad_params(rng, params))
+    for _ in range(rng.randint(1, 12)):
+        array = rng.choice((0, 1, params.d, params.d + 1, rng.randint(1, 4), WORD))
+        flow = rng.choice((any_flow(rng), any_flow(rng), P, WORD))
+        script.add(rng.choice(("position", "index")), 1, (array, flow))
+    return script.bytes
+
+
+def long_lists(rng):
+    """A small sketch with a table and a list of packets of the greatest length, or one longer."""
+    params = any_params(rng, 1, 4)
+    script = Script()
+    script.sketch(1, params)
+    for entry in small_entries(rng, 3):
+        script.add("insert", 1, entry)
+    script.table(params, rng.choice((65536, ROOM)), 7, 3)
+    script.add("peel", 1, (rng.randint(0, 50),))
+    listed = rng.choice((65535, 65536, ROOM))
+    for slice_name, number in (("packet flows", any_flow(rng)), ("packet numbers", rng.choice((0, 1, 40000)))):
+        script.length(slice_name, listed)
+        script.fill(slice_name, number)
+    script.length("output", rng.choice((OUTPUT_ROOM, 43 + 9 * listed, 42 + 9 * listed)))
+    script.fill("output", 0, 0, OUTPUT_ROOM)
+    script.add("write stream")
+    script.add("read stream back")
+    script.add("show")
+    return script.bytes
+
+
+def largest(rng):
+    """The largest sketch, or nearly: packets, a file of all its buckets, a long table, a long list."""
+    d = rng.choice((4, 4, 3, 2))
+    params = Params(d, rng.choice((16384, 16384, 16383)), four_pairs(rng, d))
+    size = params.d * params.m
+    script = Script()
+    script.sketch(1, params)
+    script.sketch(2, params)
+    for _ in range(rng.randint(1, 30)):
+        script.add("insert", rng.choice((1, 2)), (any_flow(rng), rng.randint(1, 9)))
+    script.add("subtract")
+    script.length("output", rng.choice((OUTPUT_ROOM, 43 + 13 * size, 42 + 13 * size)))
+    many = rng.choice((0, 0, size, size, 3))
+    script.fill("counts", rng.randint(1, 9), 0, many, 2)
+    script.add("write sketch", 2)
+    script.add("read sketch back", 2)
+    slots = rng.choice((65536, 65536, ROOM, size))
+    script.table(params, slots, 1, 5)
+    if many < size:
+        script.add("peel", 1, (rng.randint(0, 200),))
+    script.add("show", 1)
+    listed = rng.choice((65536, ROOM, 3000))
+    for slice_name, number in (("packet flows", any_flow(rng)), ("packet numbers", rng.choice((1, 1, 40000)))):
+        script.length(slice_name, listed)
+        script.fill(slice_name, number)
+    script.add("write stream")
+    script.add("read stream back")
+    script.add("insert all")
+    script.add("show", 1)
+    return script.bytes
