@@ -153,16 +153,29 @@ finished-over (Stopped w) at e = cc
 finished-over Packets at e = cc
 finished-over Head at e = cc
 
+-- the desk takes few enough buckets alone
+pub few-begun : (P : Params) (input : List ℕ) → beginOf input ≡ record { answer = Done; params = P } → fewEnough P ≡ true
+unfolding beginAnswer
+few-begun P input e =
+    let done : beginAnswer input ≡ Done = ap (λ h. h .answer) e in
+    rw (begun P input e .params) (not-false _ (refuse-done (not (fewEnough (paramsIn input))) Param 0 Done (first-done (headAnswer input) _ done .1) .0))
+
+-- and an input is accepted only where 64 bits hold its offsets
+pub near-done : {P : Params} {bs : List ℕ} {r : Fed} {up down up' down' : Sketch} → Feeds P bs up down started r up' down' → finishAnswer (r .state .stage) (r .state .at) ≡ Done
+    → inReach bs started ≡ true
+near-done {bs = bs} {r = r} fed done = at (inReach bs started) refl
+  where
+    at : (b : Bool) → inReach bs started ≡ b → b ≡ true
+    at true near = refl
+    at false far =
+        let over = finished-over (r .state .stage) (r .state .at) done in
+        absurd (true≢false (sym (ap overDue over) ∙ ap (λ s. overDue (s .stage)) (rw far at (fed .state))))
+
 pub accepted : (P : Params) (input : List ℕ) (r : Fed) (up down : Sketch) → beginOf input ≡ record { answer = Done; params = P }
     → Feeds P (drop 38 input) (zeros P) (zeros P) started r up down → finishAnswer (r .state .stage) (r .state .at) ≡ Done → TwoStreams P input up down
 unfolding packetsSketch
-accepted P input r up down head fed done = at (inReach (drop 38 input) started) refl
-  where
-    over : (r .state .stage) ≡ Over
-    over = finished-over (r .state .stage) (r .state .at) done
-
-    at : (b : Bool) → inReach (drop 38 input) started ≡ b → TwoStreams P input up down
-    at false far = absurd (true≢false (sym (ap overDue over) ∙ ap (λ s. overDue (s .stage)) (rw far at (fed .state))))
-    at true near =
-        let p = passed P (drop 38 input) (zeros P) (zeros P) (sym (ap (λ s. s .stage) (rw near at (fed .state))) ∙ over) in
-        rw (rw near at (fed .upstream), rw near at (fed .downstream) ∙ p .1) (two-streams P input (begun P input head) (p .0))
+accepted P input r up down head fed done =
+    let near = near-done fed done in
+    let over = finished-over (r .state .stage) (r .state .at) done in
+    let p = passed P (drop 38 input) (zeros P) (zeros P) (sym (ap (λ s. s .stage) (rw near at (fed .state))) ∙ over) in
+    rw (rw near at (fed .upstream), rw near at (fed .downstream) ∙ p .1) (two-streams P input (begun P input head) (p .0))

@@ -1,4 +1,4 @@
--- The laws of the desk, which the proofs of its functions cite, and its theorems: `Accepted`, `FirstHead`, `Pieces`, `AnyPieces` and `Unfinished`.
+-- The laws of the desk, which the proofs of its functions cite, and its theorems: `Accepted`, `Accepts`, `FirstHead`, `Pieces`, `AnyPieces` and `Unfinished`.
 pub mod Whole
 pub mod Taking
 pub mod HeadAnswers
@@ -12,6 +12,7 @@ pub mod BothStreams
 pub mod Accepted
 pub mod MoreBytes
 pub mod FirstHead
+pub mod Accepts
 pub mod OneRecord
 pub mod Reaching
 pub mod StagesReach

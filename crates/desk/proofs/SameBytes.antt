@@ -1,14 +1,15 @@
--- A stream file whose body has the bytes of a list at hand: what was taken from the list is what the stream's reader reads.
+-- A stream file whose body has the bytes of a list at hand: what was taken from the list is what the stream's reader reads, and the other way.
 use mathlib.Core.Path.{_≡_, refl, sym, ap, _∙_}
-use mathlib.Core.Bool.{true, false}
+use mathlib.Core.Bool.{true, false, not}
 use mathlib.Core.List.{List}
 use Prim.Native.Nat.{ℕ, _+_, _*_, _≤_, _<_}
 use native.Mathlib.Omega.{arith}
-use borrow.Author.Tests.{eq-eqb}
+use borrow.Author.Tests.{eq-eqb, eqb-true, ltb-false, not-false}
+use lib.Dec.{eqb, ltb}
 use lib.IntN.{pos}
 use lib.ListN.{length, getD, length-replicate, getD-replicate}
 use Rattle.params.specs.declared.params.Params.{Params}
-use Rattle.params.specs.declared.answers.Why.the-variants.{Damage}
+use Rattle.params.specs.declared.answers.Why.the-variants.{Damage, Form}
 use Rattle.params.specs.declared.answers.Answer.the-variants.{Done}
 use Rattle.params.specs.Lists.{from}
 use Rattle.params.specs.Answers.{kept}
@@ -17,10 +18,10 @@ use Rattle.sketch.specs.Buckets.{inLimits}
 use Rattle.sketch.specs.Sketch.{Sketch, zeros, damagedAt}
 use Rattle.sketch.specs.Packets.{after}
 use Rattle.sketch.proofs.Tables.{from-same}
-use Rattle.params.proofs.Judging.{first-passed, refuse-none}
+use Rattle.params.proofs.Judging.{first-passed, refuse-none, refuse-done}
 use Rattle.sketch.proofs.ManyPackets.{after-end}
 use Rattle.files.specs.Bytes.{word}
-use Rattle.files.specs.Records.{bodyLength, recordAt, isKind}
+use Rattle.files.specs.Records.{bodyLength, recordAt, isKind, placeOf}
 use Rattle.files.specs.Heads.{paramsIn, isHead, openingAnswer}
 use Rattle.files.specs.Turns.{toldAt, packetFrom, packetPlace, endAnswer}
 use Rattle.files.proofs.EndStages.{ended}
@@ -29,9 +30,10 @@ use Rattle.files.proofs.Turning.{records-are}
 use Rattle.desk.proofs.Whole.{whole-record}
 use Rattle.files.proofs.Turning.{whole-within, in-turn-done}
 use Rattle.streamfile.specs.Streams.{packetsFrom, flowFrom, numberFrom, flowsFrom, numbersFrom, packetsIn, flowsIn, numbersIn, packetJudged, packetsJudged, streamAnswer, StreamRead}
-use Rattle.streamfile.proofs.Found.{length-flows, length-numbers}
+use Rattle.streamfile.proofs.Accepting.{StreamDone, stream-done}
+use Rattle.streamfile.proofs.Found.{length-flows, length-numbers, flow-is, number-is}
 use Rattle.desk.specs.Desk.{packetTold, taken, takenAnswer, afterTaken}
-use Rattle.desk.proofs.Taking.{AllTaken, all-taken}
+use Rattle.desk.proofs.Taking.{AllTaken, all-taken, none-refused}
 
 -- a fresh sketch has the right lengths and no damage
 module _ (P : Params) where
@@ -42,6 +44,20 @@ module _ (P : Params) where
   fresh-sound : (k : ℕ) → k < size P → damagedAt (zeros P) k ≡ false
   unfolding zeros inLimits
   fresh-sound k l = rw (getD-replicate (size P) k (pos 0) (pos 0) l, getD-replicate {A = ℕ} (size P) k 0 0 l)
+
+-- an end that is accepted
+pub record EndSaid (bs : List ℕ) (at n : ℕ) : Type 0 where
+  pub kind : isKind 4 (recordAt bs at) ≡ true
+  pub said : word bs (at + 1) ≡ n
+  pub last : length bs ≤ at + 5
+
+pub end-said-done : (bs : List ℕ) (at n : ℕ) → endAnswer bs at n ≡ Done → EndSaid bs at n
+unfolding endAnswer
+end-said-done bs at n e =
+    let h = refuse-done (not (isKind 4 (recordAt bs at))) Form (placeOf bs at) _ e in
+    let k = refuse-done (not (eqb (word bs (at + 1)) n)) Form at _ (h .1) in
+    let l = refuse-done (ltb (at + 5) (length bs)) Form (at + 5) Done (k .1) in
+    record { kind = not-false _ (h .0); said = eqb-true _ _ (not-false _ (k .0)); last = ltb-false _ _ (l .0) }
 
 -- the file fs is a head, n packets and an end, and what stands after the head is what stands in xs
 module _ (P : Params) (fs xs : List ℕ) (n : ℕ) (long : length fs ≡ 38 + (9 * n + 5)) (room : 9 * n + 5 ≤ length xs)
@@ -119,3 +135,42 @@ module _ (P : Params) (fs xs : List ℕ) (n : ℕ) (long : length fs ≡ 38 + (9
           answer = sym (first-passed _ _ opened ∙ refuse-none (size P) (damagedAt (zeros P)) Damage _ (fresh-sound P) ∙ records-done (zeros P) all);
           after-all = all-same (zeros P) all;
         }
+
+  -- the other way: the stream's reader accepts fs
+  whole-back : (kind at j : ℕ) → at ≡ 38 + j → 0 < bodyLength kind → j + 1 + bodyLength kind ≤ 9 * n + 5 → isKind kind (recordAt fs at) ≡ true → isKind kind (recordAt xs j) ≡ true
+  whole-back kind at j e p h w =
+      record-whole xs j kind (sym (same j (omega arith)) ∙ ap (λ (k : ℕ). getD fs k 0) (sym e) ∙ whole-record fs at kind w .0) p (omega arith)
+
+  module _ {S : Sketch} (read : StreamRead P fs (zeros P) Done S) (are : packetsIn fs ≡ n) where
+    done : StreamDone P fs (zeros P)
+    done = stream-done P fs (zeros P) (sym (read .answer))
+
+    said-so : EndSaid fs (packetPlace n) n
+    said-so = end-said-done fs (packetPlace n) n (ap (λ (k : ℕ). endAnswer fs (packetPlace k) k) (sym are) ∙ done .ended)
+
+    pub end-back : isKind 4 (recordAt xs (9 * n)) ≡ true
+    unfolding bodyLength
+    end-back = whole-back 4 (packetPlace n) (9 * n) refl (omega arith) (omega arith) (said-so .kind)
+
+    pub said-back : word xs (9 * n + 1) ≡ n
+    said-back = sym (word-same (packetPlace n + 1) (9 * n + 1) (omega arith) (omega arith)) ∙ said-so .said
+
+    number-back : packetsFrom 0 xs ≡ n
+    unfolding bodyLength
+    number-back =
+        records-are 2 (packetFrom 0) xs n (omega arith)
+        (λ k l. whole-back 2 (packetPlace k) (packetFrom 0 k) (omega arith) (omega arith) (omega arith) (whole-within 2 packetPlace fs k (omega (arith, are))))
+        (not-kind xs (packetFrom 0 n) 2 (λ e. let two : getD xs (9 * n) 0 ≡ 2 = ap (λ (k : ℕ). getD xs k 0) (omega arith) ∙ e in omega (arith, two, whole-record xs (9 * n) 4 end-back .0)))
+
+    each-told : (k : ℕ) → k < packetsFrom 0 xs → packetTold P xs (zeros P) k ≡ Done
+    unfolding packetTold
+    each-told k l =
+        rw (flow-is 0 xs k l, number-is 0 xs k l, ← flows-same number-back end-back said-back, ← numbers-same number-back end-back said-back)
+        (done .accepted k (omega (arith, are, number-back)))
+
+    pub all-back : (taken P xs (zeros P) ≡ n) × (takenAnswer P xs (zeros P) ≡ Done)
+    all-back = let h = none-refused P xs (zeros P) each-told in (h .0 ∙ number-back, h .1)
+
+    pub sketch-back : afterTaken P xs (zeros P) ≡ S
+    unfolding kept
+    sketch-back = all-same number-back end-back said-back (zeros P) (all-taken P xs (zeros P) (all-back .1)) ∙ sym (read .after-all)

@@ -102,6 +102,13 @@ module _ (P : Params) (bs : List ℕ) (S : Sketch) where
           let past : packetsFrom 0 bs ≤ taken P bs S = ltb-false (taken P bs S) (packetsFrom 0 bs) l in
           record { number = omega (arith, taken-within); each = λ k m. not-refused _ (none-found (packetsFrom 0 bs) tells l k m) }
 
+  -- and the other way
+  pub none-refused : ((k : ℕ) → k < packetsFrom 0 bs → packetTold P bs S k ≡ Done) → (taken P bs S ≡ packetsFrom 0 bs) × (takenAnswer P bs S ≡ Done)
+  unfolding taken takenAnswer
+  none-refused each =
+      let all = least-past-all (packetsFrom 0 bs) tells (λ k l. ap refuses (each k l)) in
+      (all, rw (all, le-ltb (packetsFrom 0 bs) (packetsFrom 0 bs) (omega arith)))
+
   abbrev pub ran : Run
   ran = record { taken = taken P bs S; told = takenAnswer P bs S }
 

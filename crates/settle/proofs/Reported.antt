@@ -1,11 +1,11 @@
 -- What a report says: of an input that the desk accepts, the lines are those of the walk over the difference of its two streams.
-use mathlib.Core.Path.{_≡_, sym, ap, _∙_}
+use mathlib.Core.Path.{_≡_, refl, sym, ap, ap₂, _∙_}
 use mathlib.Core.Bool.{true}
 use mathlib.Core.List.{List, [], _∷_, _++_}
 use Prim.Native.Nat.{ℕ, _*_, _≤_}
 use native.Mathlib.Omega.{arith}
 use lib.IntN.{ℤ, pos}
-use lib.ListN.{length, take, drop}
+use lib.ListN.{length, drop}
 use Rattle.params.specs.declared.params.Params.{Params}
 use Rattle.params.specs.declared.answers.Answer.{Answer}
 use Rattle.params.specs.declared.answers.Answer.the-variants.{Done}
@@ -23,10 +23,12 @@ use Rattle.lines.specs.Reports.{lossLines, leftLines, entryLines, reportText, w
 use Rattle.lines.proofs.Reporting.{losses-first, losses-none}
 use Rattle.params.proofs.Judging.{kept-new}
 use Rattle.params.proofs.Rules.{good-sized, sized-small}
+use Rattle.streamfile.specs.Streams.{StreamRead}
 use Rattle.streamfile.proofs.FreshStreams.{fresh-grown}
 use Rattle.desk.specs.declared.states.Fed.{Fed}
 use Rattle.desk.specs.Desk.{beginOf, started, Feeds, finishAnswer}
-use Rattle.desk.proofs.Accepted.{TwoStreams, accepted}
+use Rattle.desk.proofs.Accepted.{TwoStreams, few-begun, near-done, accepted}
+use Rattle.desk.proofs.Accepts.{accepts}
 use Rattle.settle.specs.Settling.{settleJudged, settleWalked, Settles}
 use Rattle.settle.proofs.TwoStreams.{streams-settle, lost, by-net-counts}
 
@@ -107,10 +109,19 @@ module _ {P : Params} {input text : List ℕ} (r : Reported P input text) where
       in
       r .written ∙ read ∙ ap (λ n. walkText (walk (ruleOf P) n (8 * size P) difference)) (r .lent .0)
 
+  -- where the input is two streams, one directly after the other, the sketches are what their reader makes of them
+  module _ {a b : List ℕ} {S T : Sketch} (is : input ≡ a ++ b) (one : StreamRead P a (zeros P) Done S) (two : StreamRead P b (zeros P) Done T) where
+    pub difference-is : difference ≡ combined true S T
+    difference-is =
+        let fed = rw is at (r .feeding) in
+        let same = accepts one two (few-begun P input (r .head)) (r .fed) (r .up) (r .down) (near-done fed (r .finished)) fed in
+        ap₂ (combined true) (same .1) (same .2)
+
 -- so two inputs of the same parameters, whose streams differ by the same packets of each flow, have the same report
-pub same-report : {P : Params} {input text input' text' : List ℕ} (r : Reported P input text) (r' : Reported P input' text')
-    → ((f : ℕ) → lost (take (streams r .split) input) (drop (streams r .split) input) f ≡ lost (take (streams r' .split) input') (drop (streams r' .split) input') f) → text ≡ text'
-same-report {P} r r' e =
+pub same-report : {P : Params} {a b a' b' text text' : List ℕ} {S T S' T' : Sketch} → Reported P (a ++ b) text → Reported P (a' ++ b') text'
+    → StreamRead P a (zeros P) Done S → StreamRead P b (zeros P) Done T → StreamRead P a' (zeros P) Done S' → StreamRead P b' (zeros P) Done T'
+    → ((f : ℕ) → lost a b f ≡ lost a' b' f) → text ≡ text'
+same-report {P} r r' one two one' two' e =
     report-of-walk r
-    ∙ ap (λ D. walkText (walk (ruleOf P) (size P) (8 * size P) D)) (by-net-counts (streams r .first-read) (streams r .second-read) (streams r' .first-read) (streams r' .second-read) e)
+    ∙ ap (λ D. walkText (walk (ruleOf P) (size P) (8 * size P) D)) (difference-is r refl one two ∙ by-net-counts one two one' two' e ∙ sym (difference-is r' refl one' two'))
     ∙ sym (report-of-walk r')
