@@ -1,4 +1,4 @@
--- What feeding leaves is part of one record: fewer bytes than a head has.
+-- What feeding leaves, where the input is not refused, is less than one record: fewer bytes than a head has.
 use mathlib.Core.Path.{_≡_, refl, sym, _∙_}
 use mathlib.Core.Bool.{Bool, true, false, not, _&&_, true≢false}
 use mathlib.Core.List.{List}

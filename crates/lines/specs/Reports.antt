@@ -29,11 +29,12 @@ leftLines cs ss (suc k) = leftLines cs ss k ++ leftIfAny k (getD cs k (pos 0)) (
 unfoldable pub reportText : List ℕ → List ℤ → ℕ → List ℤ → List ℕ → Ending → ℕ → ℤ → List ℕ
 reportText fs ns n cs ss e pops net = lossLines fs ns n ++ (leftLines cs ss (length cs) ++ endLine e pops net)
 
--- the report of a walk: its table after the close, what it left, and its ending
+-- a line for each entry of a table
 unfoldable pub entryLines : List Entry → List ℕ
 entryLines [] = []
 entryLines (e ∷ es) = lossLine (e .flow) (e .number) ++ entryLines es
 
+-- the report of a walk: its table after the close, what it left, and its ending
 unfoldable pub walkText : Outcome → List ℕ
 walkText o =
     entryLines (close (o .table))

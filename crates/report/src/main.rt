@@ -1,8 +1,8 @@
 // report: reads an upstream stream file and, directly after it, a downstream one from standard input, and prints the flows that
 // were lost on the way, what remains unexplained, and how the walk ended; or where and why the input is refused.
 // A read that fails is the end of the input. A write that fails is the last: what is printed then lacks its end.
-// Tests of what always holds, as that a part lies within its slice, stand in place of proofs; parts that start at 0 say so, since
-// the check then finds their length by itself.
+// Tests of what always holds, as that a part lies within its slice, stand in place of proofs; parts that start at 0 mostly say so,
+// since the check then finds their length by itself.
 mod input; // records as they come, into two sketches
 mod output; // the lines, all at once
 

@@ -2,10 +2,12 @@
 use mathlib.Core.Path.{_≡_, refl, sym, ap, ap₂, _∙_}
 use mathlib.Core.Bool.{true}
 use mathlib.Core.List.{List, [], _∷_, _++_}
-use Prim.Native.Nat.{ℕ, _*_, _≤_}
+use Prim.Native.Nat.{ℕ, _+_, _-_, _*_, _≤_}
 use native.Mathlib.Omega.{arith}
+use borrow.Author.Tests.{leb-true, le-leb, eq-eqb}
 use lib.IntN.{ℤ, pos}
-use lib.ListN.{length, drop}
+use lib.Dec.{leb}
+use lib.ListN.{length, drop, replicate, length-append, length-replicate}
 use Rattle.params.specs.declared.params.Params.{Params}
 use Rattle.params.specs.declared.answers.Answer.{Answer}
 use Rattle.params.specs.declared.answers.Answer.the-variants.{Done}
@@ -18,18 +20,21 @@ use Rattle.peel.specs.declared.peeling.Figures.{Figures}
 use Rattle.peel.specs.declared.peeling.Peeled.{Peeled}
 use Rattle.peel.specs.declared.peeling.Peeled.the-variants.{Ended, Refused as NotPeeled}
 use Rattle.peel.specs.Peel.{figuresOf, peeledOf, flowsOf, numbersOf, padded}
+use Rattle.peel.proofs.Padding.{flows-many, numbers-many}
+use Rattle.peel.proofs.Promised.{left-whole, listed-few}
 use Rattle.lines.specs.Lines.{lossLine, endLine}
-use Rattle.lines.specs.Reports.{lossLines, leftLines, entryLines, reportText, walkText}
+use Rattle.lines.specs.Reports.{lossLines, leftLines, entryLines, reportText, walkText, reportFits}
 use Rattle.lines.proofs.Reporting.{losses-first, losses-none}
 use Rattle.params.proofs.Judging.{kept-new}
 use Rattle.params.proofs.Rules.{good-sized, sized-small}
 use Rattle.streamfile.specs.Streams.{StreamRead}
 use Rattle.streamfile.proofs.FreshStreams.{fresh-grown}
 use Rattle.desk.specs.declared.states.Fed.{Fed}
-use Rattle.desk.specs.Desk.{beginOf, started, Feeds, finishAnswer}
+use Rattle.desk.specs.Desk.{fewEnough, beginOf, started, Feeds, finishAnswer}
 use Rattle.desk.proofs.Accepted.{TwoStreams, few-begun, near-done, accepted}
 use Rattle.desk.proofs.Accepts.{accepts}
 use Rattle.settle.specs.Settling.{settleJudged, settleWalked, Settles}
+use Rattle.settle.proofs.Settled.{settled-is-peeled}
 use Rattle.settle.proofs.TwoStreams.{streams-settle, lost, by-net-counts}
 
 -- slices that begin with a table have its lines
@@ -46,6 +51,11 @@ unfolding reportText walkText padded
 walk-text o n m =
     ap (λ ys. ys ++ (leftLines (o .left .counts) (o .left .idsums) (length (o .left .counts)) ++ endLine (o .ending) (o .pops) (net (close (o .table)))))
     (table-lines (close (o .table)) _ _)
+
+-- a list in as many slots as are there
+padded-long : {A : Type 0} (n : ℕ) (z : A) (xs : List A) → length xs ≤ n → length (padded n z xs) ≡ n
+unfolding padded
+padded-long n z xs h = length-append xs (replicate (n - length xs) z) ∙ omega (arith, length-replicate (n - length xs) z)
 
 abbrev figuresIn : Peeled → Figures → Figures
 figuresIn (Ended g) h = g
@@ -95,19 +105,40 @@ module _ {P : Params} {input text : List ℕ} (r : Reported P input text) where
   not-refused =
       streams-settle (streams .first-read) (streams .second-read) _ _ _ _ (r .lent .0 ∙ sym (r .lent .1)) (omega (arith, r .lent .0, small)) (r .lent .2) (r .lent .3)
 
+  -- what the slices and the figures then say
+  flows-are : r .table-flows ≡ padded (length (r .flows)) 0 (flowsOf (close (outcome .table)))
+  flows-are = r .settled .flows ∙ sym (kept-new told _ _ not-refused)
+
+  numbers-are : r .table-numbers ≡ padded (length (r .numbers)) (pos 0) (numbersOf (close (outcome .table)))
+  numbers-are = r .settled .numbers ∙ sym (kept-new told _ _ not-refused)
+
+  left-is : r .left ≡ outcome .left
+  left-is = r .settled .left ∙ sym (kept-new told _ _ not-refused)
+
+  figures-are : r .figures ≡ figuresOf outcome
+  figures-are = ap (λ x. figuresIn x (r .figures)) (r .settled .answer ∙ ap (λ x. peeledOf x outcome) not-refused)
+
   -- the text is that of the walk over their difference, with 8 * d * m pops and d * m slots
   pub report-of-walk : text ≡ walkText (walk (ruleOf P) (size P) (8 * size P) difference)
   report-of-walk =
       let g = r .figures in
-      let s = r .settled in
-      let flows-are : r .table-flows ≡ padded (length (r .flows)) 0 (flowsOf (close (outcome .table))) = s .flows ∙ sym (kept-new told _ _ not-refused) in
-      let numbers-are : r .table-numbers ≡ padded (length (r .numbers)) (pos 0) (numbersOf (close (outcome .table))) = s .numbers ∙ sym (kept-new told _ _ not-refused) in
-      let left-is : r .left ≡ outcome .left = s .left ∙ sym (kept-new told _ _ not-refused) in
-      let figures-are : g ≡ figuresOf outcome = ap (λ x. figuresIn x g) (s .answer ∙ ap (λ x. peeledOf x outcome) not-refused) in
       let read : reportText (r .table-flows) (r .table-numbers) (g .entries) (r .left .counts) (r .left .idsums) (g .ending) (g .pops) (g .net) ≡ walkText outcome =
       rw (flows-are, numbers-are, left-is, figures-are) (walk-text outcome (length (r .flows)) (length (r .numbers)))
       in
       r .written ∙ read ∙ ap (λ n. walkText (walk (ruleOf P) n (8 * size P) difference)) (r .lent .0)
+
+  -- it fits in 64 bytes for each of twice 1536 lines and one more, which is what the program lends
+  pub report-fits : reportFits (64 * (2 * 1536 + 1)) (length (r .table-flows)) (length (r .table-numbers)) (r .figures .entries) (length (r .left .counts)) (length (r .left .idsums)) ≡ true
+  unfolding fewEnough
+  report-fits =
+      let peeled = settled-is-peeled P (r .up) (r .down) (r .flows) (r .numbers) (r .queue) (r .marks) not-refused (r .settled) in
+      let whole = left-whole peeled refl in
+      let few = leb-true (size P) 1536 (few-begun P input (r .head)) in
+      let entries = listed-few peeled refl in
+      let entries-are : r .figures .entries ≡ length (close (outcome .table)) = ap (λ g. g .entries) figures-are in
+      let flows = ap length flows-are ∙ padded-long (length (r .flows)) 0 _ (omega (arith, entries, entries-are, flows-many (close (outcome .table)))) in
+      let numbers = ap length numbers-are ∙ padded-long (length (r .numbers)) (pos 0) _ (omega (arith, entries, entries-are, numbers-many (close (outcome .table)), r .lent .0, r .lent .1)) in
+      rw (le-leb (r .figures .entries) (length (r .table-flows)) (omega (arith, flows, entries)), le-leb (r .figures .entries) (length (r .table-numbers)) (omega (arith, numbers, entries, r .lent .0, r .lent .1)), eq-eqb (length (r .left .idsums)) (length (r .left .counts)) (omega (arith, whole .counts-long, whole .idsums-long)), le-leb (64 * (r .figures .entries + length (r .left .counts) + 1)) (64 * (2 * 1536 + 1)) (omega (arith, entries, few, r .lent .0, whole .counts-long)))
 
   -- where the input is two streams, one directly after the other, the sketches are what their reader makes of them
   module _ {a b : List ℕ} {S T : Sketch} (is : input ≡ a ++ b) (one : StreamRead P a (zeros P) Done S) (two : StreamRead P b (zeros P) Done T) where

@@ -54,7 +54,7 @@ module _ {P : Params} {a b : List ℕ} {S T : Sketch} (up : StreamRead P a (zero
       let lent = well-lent P (length (S .counts)) (length (S .idsums)) flows numbers queue marks shaped (lent-fits (size P) flows numbers queue marks e l h k) in
       sym (lent-first P S T flows numbers queue marks Done (sym lent) (sym streams-subtract))
 
--- how many packets of a flow two streams differ by
+-- the packets of a stream, and how many of a flow two streams differ by
 abbrev pub packetsOf : List ℕ → List Entry
 packetsOf bs = entriesOf (flowsIn bs) (numbersIn bs)
 
