@@ -3,6 +3,7 @@ pub mod Froms
 pub mod Clearing
 pub mod Occurrences
 pub mod Rings
+pub mod Chains
 pub mod Queues
 pub mod Entries
 pub mod Closing

@@ -1,14 +1,14 @@
--- Laws of `bit`, `occ` and `sum`: how often a number stands in a list, what that says of joining a queue, and sums of marks.
+-- Laws of `bit`, `occ` and `odds`: how often a number stands in a list, what that says of joining a queue, and how many marks are set.
 use mathlib.Core.Path.{_≡_, refl}
 use mathlib.Core.Bool.{Bool, true, false, cond, _||_}
 use mathlib.Core.List.{List, [], _∷_, _++_}
-use Prim.Native.Nat.{ℕ, zero, suc, _+_, _<_, _≤_}
+use Prim.Native.Nat.{ℕ, zero, suc, _+_, _%_, _<_, _≤_}
 use native.Mathlib.Omega.{arith}
 use lib.Dec.{eqb}
 use lib.ListN.{length, getD, set}
 use borrow.Author.Tests.{eq-eqb, ne-eqb}
 use Rattle.walk.specs.Walk.{any, waits, join}
-use Rattle.peel.specs.Ring.{bit, occ, sum}
+use Rattle.peel.specs.Ring.{bit, occ, odds, SameBelow}
 
 pub bit-same : (j k : ℕ) → j ≡ k → bit j k ≡ 1
 unfolding bit
@@ -56,26 +56,34 @@ join-old j q h = rw (occ-waits j q h)
 pub join-new : (j : ℕ) (q : List ℕ) → occ j q ≡ 0 → join j q ≡ q ++ (j ∷ [])
 join-new j q h = rw (occ-none j q h)
 
--- a store changes a sum by what it changes
-pub sum-set : (l : List ℕ) (i v : ℕ) → i < length l → sum (set l i v) + getD l i 0 ≡ sum l + v
-unfolding sum
-sum-set [] i v h = absurd (omega arith)
-sum-set (x ∷ l) zero v h = omega arith
-sum-set (x ∷ l) (suc i) v h = omega (arith, sum-set l i v (omega arith))
+-- a store changes the number of odds by what it changes
+pub odds-set : (l : List ℕ) (i v : ℕ) → i < length l → odds (set l i v) + getD l i 0 % 2 ≡ odds l + v % 2
+unfolding odds
+odds-set [] i v h = absurd (omega arith)
+odds-set (x ∷ l) zero v h = omega arith
+odds-set (x ∷ l) (suc i) v h = omega (arith, odds-set l i v (omega arith))
 
--- where nothing is above 1 the sum is at most the length, and below it where something is 0; where all are 0 it is 0
-pub sum-ones : (l : List ℕ) → ((i : ℕ) → getD l i 0 ≤ 1) → sum l ≤ length l
-unfolding sum
-sum-ones [] h = omega arith
-sum-ones (x ∷ l) h = omega (arith, h 0, sum-ones l (λ i. h (suc i)))
+-- at most all are odd, and not all where one is even; where all are 0 none is
+pub odds-most : (l : List ℕ) → odds l ≤ length l
+unfolding odds
+odds-most [] = omega arith
+odds-most (x ∷ l) = omega (arith, odds-most l)
 
-pub sum-room : (l : List ℕ) (i : ℕ) → ((i : ℕ) → getD l i 0 ≤ 1) → i < length l → getD l i 0 ≡ 0 → sum l < length l
-unfolding sum
-sum-room [] i h u e = absurd (omega arith)
-sum-room (x ∷ l) zero h u e = omega (arith, sum-ones l (λ i. h (suc i)))
-sum-room (x ∷ l) (suc i) h u e = omega (arith, h 0, sum-room l i (λ i. h (suc i)) (omega arith) e)
+pub odds-room : (l : List ℕ) (i : ℕ) → i < length l → getD l i 0 % 2 ≡ 0 → odds l < length l
+unfolding odds
+odds-room [] i u e = absurd (omega arith)
+odds-room (x ∷ l) zero u e = omega (arith, odds-most l)
+odds-room (x ∷ l) (suc i) u e = omega (arith, odds-room l i (omega arith) e)
 
-pub sum-zeros : (l : List ℕ) → ((k : ℕ) → getD l k 0 ≡ 0) → sum l ≡ 0
-unfolding sum
-sum-zeros [] h = refl
-sum-zeros (x ∷ l) h = omega (arith, h 0, sum-zeros l (λ k. h (suc k)))
+pub odds-zeros : (l : List ℕ) → ((k : ℕ) → getD l k 0 ≡ 0) → odds l ≡ 0
+unfolding odds
+odds-zeros [] h = refl
+odds-zeros (x ∷ l) h = omega (arith, h 0, odds-zeros l (λ k. h (suc k)))
+
+-- lists with the same low bits
+pub odds-same : (l l' : List ℕ) → length l' ≡ length l → SameBelow 2 l l' → odds l' ≡ odds l
+unfolding odds
+odds-same [] [] e h = refl
+odds-same [] (y ∷ l') e h = absurd (omega arith)
+odds-same (x ∷ l) [] e h = absurd (omega arith)
+odds-same (x ∷ l) (y ∷ l') e h = omega (arith, h 0, odds-same l l' (omega arith) (λ k. h (suc k)))

@@ -1,7 +1,7 @@
--- The places of a ring, an empty ring, and what a pop and a push do to a ring.
+-- The places of a ring, an empty ring, what a pop and a push do to a ring, and what keeps it.
 use mathlib.Core.Path.{_≡_, refl, sym, ap, ap₂, _∙_}
 use mathlib.Core.List.{List, [], _∷_, _++_}
-use Prim.Native.Nat.{ℕ, suc, _+_, _-_, _<_, _≤_}
+use Prim.Native.Nat.{ℕ, suc, _+_, _*_, _-_, _/_, _%_, _<_, _≤_}
 use native.Mathlib.Nat.{zero-add, add-zero}
 use native.Mathlib.Numerals.{add-one}
 use native.Mathlib.Decide.{ℕ-discrete, decLt}
@@ -11,9 +11,9 @@ use lib.Seq.{getD-set-same, getD-set-other}
 use borrow.Author.Tests.{lt-ltb, le-ltb}
 use Rattle.params.specs.Lists.{from}
 use Rattle.sketch.proofs.Tables.{from-same}
-use Rattle.peel.specs.Ring.{slot, ring, bit, occ, Ring, Popped, Joined}
+use Rattle.peel.specs.Ring.{slot, ring, bit, occ, SameBelow, Ring, Popped, Joined}
 use Rattle.peel.proofs.Froms.{from-first, from-last}
-use Rattle.peel.proofs.Occurrences.{bit-same, bit-other, occ-nil, occ-cons, occ-snoc, join-old, join-new, sum-set, sum-ones, sum-room, sum-zeros}
+use Rattle.peel.proofs.Occurrences.{bit-same, bit-other, occ-nil, occ-cons, occ-snoc, join-old, join-new, odds-set, odds-most, odds-room, odds-zeros, odds-same}
 
 -- a place, by the two cases
 module _ (n h i : ℕ) where
@@ -54,23 +54,31 @@ module _ (n h : ℕ) (below : h < n) where
       go (yes a) (no b) = omega (arith, slot-near n h i a, slot-far n h j (omega arith))
       go (no a) b = omega (arith, slot-far n h i (omega arith), slot-far n h j (omega arith))
 
-  ring-first : (q : List ℕ) (w : ℕ) → length q ≡ n → suc w ≤ n → ring q h (suc w) ≡ getD q h 0 ∷ ring q (slot n h 1) w
+  ring-first : (q : List ℕ) (w : ℕ) → length q ≡ n → suc w ≤ n → ring q h (suc w) ≡ getD q h 0 % 65536 ∷ ring q (slot n h 1) w
   unfolding ring
   ring-first q w e l =
       rw e
       (from-first w _
       ∙ ap₂ (λ (x : ℕ) (r : List ℕ). x ∷ r)
-      (ap (λ (k : ℕ). getD q k 0) (slot-near n h 0 (omega arith) ∙ add-zero h))
+      (ap (λ (k : ℕ). getD q k 0 % 65536) (slot-near n h 0 (omega arith) ∙ add-zero h))
       (from-same 0 w _ _ (λ i a b. rw (slot-next i (omega arith)))))
 
-  ring-last : (q : List ℕ) (w k : ℕ) → length q ≡ n → w < n → ring (set q (slot n h w) k) h (suc w) ≡ ring q h w ++ (k ∷ [])
+  ring-last : (q : List ℕ) (w x : ℕ) → length q ≡ n → w < n → ring (set q (slot n h w) x) h (suc w) ≡ ring q h w ++ (x % 65536 ∷ [])
   unfolding ring
-  ring-last q w k e l =
-      rw (length-set q (slot n h w) k, e)
+  ring-last q w x e l =
+      rw (length-set q (slot n h w) x, e)
       (from-last 0 w _
       ∙ ap₂ (λ (x : List ℕ) (y : ℕ). x ++ (y ∷ []))
-      (from-same 0 w _ _ (λ i a b. getD-set-other q (slot n h w) (slot n h i) k 0 (slot-other i w (omega arith) l)))
-      (rw zero-add (getD-set-same q (slot n h w) k 0 (rw e (slot-below w (omega arith))))))
+      (from-same 0 w _ _ (λ i a b. ap (λ (y : ℕ). y % 65536) (getD-set-other q (slot n h w) (slot n h i) x 0 (slot-other i w (omega arith) l))))
+      (rw zero-add (ap (λ (y : ℕ). y % 65536) (getD-set-same q (slot n h w) x 0 (rw e (slot-below w (omega arith)))))))
+
+-- a store that keeps one part of a number keeps that part of every place
+pub store-keeps : (part : ℕ → ℕ) (l : List ℕ) (i x : ℕ) → i < length l → part x ≡ part (getD l i 0) → (k : ℕ) → part (getD (set l i x) k 0) ≡ part (getD l k 0)
+store-keeps part l i x h e k = go (ℕ-discrete k i)
+  where
+    go : Dec (k ≡ i) → part (getD (set l i x) k 0) ≡ part (getD l k 0)
+    go (yes s) = rw s (ap part (getD-set-same l i x 0 h) ∙ e)
+    go (no d) = ap part (getD-set-other l i k x 0 d)
 
 -- an empty ring
 pub ring-nothing : (q : List ℕ) (h : ℕ) → ring q h 0 ≡ []
@@ -82,108 +90,152 @@ ring-empty n q ms h a b z = record {
   long = a;
   long-marks = b;
   head-in = h;
-  marked = λ k. z k ∙ sym (ap (occ k) (ring-nothing q 0) ∙ occ-nil k);
-  once = λ k. omega (arith, z k);
-  number = sum-zeros ms z;
+  marked = λ k. omega (arith, z k, ap (occ k) (ring-nothing q 0), occ-nil k);
+  number = odds-zeros ms z;
 }
+
+-- what stands above the indexes is nothing to their list
+pub ring-same : (q q' : List ℕ) → length q' ≡ length q → SameBelow 65536 q q' → (h w : ℕ) → ring q' h w ≡ ring q h w
+unfolding ring
+ring-same q q' long low h w = rw long (from-same 0 w _ _ (λ i a b. low (slot (length q) h i)))
 
 module _ {n : ℕ} {q ms : List ℕ} {h w : ℕ} (r : Ring n q ms h w) where
   -- as many wait as there are places, at most; and fewer where one does not wait
   pub ring-most : w ≤ n
-  ring-most = omega (arith, r .number, r .long-marks, sum-ones ms (r .once))
+  ring-most = omega (arith, r .number, r .long-marks, odds-most ms)
 
-  ring-room : (k : ℕ) → k < n → getD ms k 0 ≡ 0 → w < n
-  ring-room k l e = omega (arith, r .number, r .long-marks, sum-room ms k (r .once) (omega (arith, r .long-marks)) e)
+  ring-room : (k : ℕ) → k < n → getD ms k 0 % 2 ≡ 0 → w < n
+  ring-room k l e = omega (arith, r .number, r .long-marks, odds-room ms k (omega (arith, r .long-marks)) e)
 
   -- the place after the last that waits
   pub back-below : slot n h w < n
   back-below = slot-below n h (r .head-in) w ring-most
 
   module _ (some : 0 < w) where
-    pop-list : ring q h w ≡ getD q h 0 ∷ ring q (slot n h 1) (w - 1)
+    -- the index at the head
+    abbrev front : ℕ
+    front = getD q h 0 % 65536
+
+    pop-list : ring q h w ≡ front ∷ ring q (slot n h 1) (w - 1)
     pop-list =
         let e : w ≡ suc (w - 1) = omega arith in
         ap (ring q h) e ∙ ring-first n h (r .head-in) q (w - 1) (r .long) (omega (arith, ring-most))
 
     -- how often a number waits, before and after
-    pop-occ : (j : ℕ) → getD ms j 0 ≡ bit (getD q h 0) j + occ j (ring q (slot n h 1) (w - 1))
-    pop-occ j = r .marked j ∙ ap (occ j) pop-list ∙ occ-cons j (getD q h 0) (ring q (slot n h 1) (w - 1))
+    pop-occ : (j : ℕ) → getD ms j 0 % 2 ≡ bit front j + occ j (ring q (slot n h 1) (w - 1))
+    pop-occ j = r .marked j ∙ ap (occ j) pop-list ∙ occ-cons j front (ring q (slot n h 1) (w - 1))
 
-    pub pop-inside : getD q h 0 < n
-    pop-inside = go (decLt (getD q h 0) n)
+    pub pop-inside : front < n
+    pop-inside = go (decLt front n)
       where
-        go : Dec (getD q h 0 < n) → getD q h 0 < n
+        go : Dec (front < n) → front < n
         go (yes l) = l
         go (no l) =
             absurd (omega (
               arith,
-              pop-occ (getD q h 0),
-              bit-same (getD q h 0) (getD q h 0) refl,
-              List·getD-eq-default ms 0 {n = getD q h 0} (omega (arith, r .long-marks)),
+              pop-occ front,
+              bit-same front front refl,
+              List·getD-eq-default ms 0 {n = front} (omega (arith, r .long-marks)),
             ))
 
-    popped-mark : (j : ℕ) → getD (set ms (getD q h 0) 0) j 0 ≡ occ j (ring q (slot n h 1) (w - 1))
-    popped-mark j = go (ℕ-discrete j (getD q h 0))
-      where
-        go : Dec (j ≡ getD q h 0) → getD (set ms (getD q h 0) 0) j 0 ≡ occ j (ring q (slot n h 1) (w - 1))
-        go (yes e) =
-            rw e
-            (getD-set-same ms (getD q h 0) 0 0 (omega (arith, pop-inside, r .long-marks))
-            ∙ omega (arith, pop-occ (getD q h 0), bit-same (getD q h 0) (getD q h 0) refl, r .once (getD q h 0)))
-        go (no d) = getD-set-other ms (getD q h 0) j 0 0 d ∙ omega (arith, pop-occ j, bit-other (getD q h 0) j (λ e. d (sym e)))
+    -- the marks once that of the front is taken off
+    abbrev unmarked : List ℕ
+    unmarked = set ms front (getD ms front 0 / 2 * 2)
 
-    pub ring-pop : Popped n q (set ms (getD q h 0) 0) h w (getD q h 0)
+    popped-mark : (j : ℕ) → getD unmarked j 0 % 2 ≡ occ j (ring q (slot n h 1) (w - 1))
+    popped-mark j = go (ℕ-discrete j front)
+      where
+        go : Dec (j ≡ front) → getD unmarked j 0 % 2 ≡ occ j (ring q (slot n h 1) (w - 1))
+        go (yes e) = rw e (omega (
+          arith,
+          getD-set-same ms front (getD ms front 0 / 2 * 2) 0 (omega (arith, pop-inside, r .long-marks)),
+          pop-occ front,
+          bit-same front front refl,
+        ))
+        go (no d) = omega (
+          arith,
+          getD-set-other ms front j (getD ms front 0 / 2 * 2) 0 d,
+          pop-occ j,
+          bit-other front j (λ e. d (sym e)),
+        )
+
+    pub ring-pop : Popped n q ms unmarked h w front
     ring-pop = record {
       inside = pop-inside;
       list = pop-list;
       ringed = record {
         long = r .long;
-        long-marks = length-set ms (getD q h 0) 0 ∙ r .long-marks;
+        long-marks = length-set ms front (getD ms front 0 / 2 * 2) ∙ r .long-marks;
         head-in = slot-below n h (r .head-in) 1 (omega (arith, r .head-in));
         marked = popped-mark;
-        once = λ j. omega (arith, popped-mark j, pop-occ j, r .once j);
         number = omega (
           arith,
-          sum-set ms (getD q h 0) 0 (omega (arith, pop-inside, r .long-marks)),
-          pop-occ (getD q h 0),
-          bit-same (getD q h 0) (getD q h 0) refl,
-          r .once (getD q h 0),
+          odds-set ms front (getD ms front 0 / 2 * 2) (omega (arith, pop-inside, r .long-marks)),
+          pop-occ front,
+          bit-same front front refl,
           r .number,
         );
       };
+      above-marks = store-keeps (λ x. x / 2) ms front _ (omega (arith, pop-inside, r .long-marks)) (omega arith);
     }
 
   -- a number that waits stays; another goes to the back
-  pub ring-stay : (k : ℕ) → (getD ms k 0 ≡ 0 → ⊥) → Joined n k q h w q ms w
-  ring-stay k d = record { list = sym (join-old k (ring q h w) (omega (arith, r .marked k))); ringed = r }
+  pub ring-stay : (k : ℕ) → (getD ms k 0 % 2 ≡ 0 → ⊥) → Joined n k q ms h w q ms w
+  ring-stay k d = record {
+    list = sym (join-old k (ring q h w) (omega (arith, r .marked k)));
+    ringed = r;
+    above = λ j. refl;
+    above-marks = λ j. refl;
+  }
 
-  module _ (k : ℕ) (l : k < n) (e : getD ms k 0 ≡ 0) where
-    pushed-list : ring (set q (slot n h w) k) h (w + 1) ≡ ring q h w ++ (k ∷ [])
-    pushed-list = rw (add-one w) (ring-last n h (r .head-in) q w k (r .long) (ring-room k l e))
+  module _ (k : ℕ) (l : k < n) (few : n ≤ 65536) (e : getD ms k 0 % 2 ≡ 0) where
+    -- the place after the last with k in it, and the marks with that of k
+    abbrev stored : ℕ
+    stored = getD q (slot n h w) 0 / 65536 * 65536 + k
 
-    pushed-mark : (j : ℕ) → getD (set ms k 1) j 0 ≡ occ j (ring q h w) + bit k j
+    abbrev marked : List ℕ
+    marked = set ms k (getD ms k 0 / 2 * 2 + 1)
+
+    stored-low : stored % 65536 ≡ k
+    stored-low = omega arith
+
+    pushed-list : ring (set q (slot n h w) stored) h (w + 1) ≡ ring q h w ++ (k ∷ [])
+    pushed-list =
+        rw (add-one w)
+        (ring-last n h (r .head-in) q w stored (r .long) (ring-room k l e) ∙ ap (λ (x : ℕ). ring q h w ++ (x ∷ [])) stored-low)
+
+    pushed-mark : (j : ℕ) → getD marked j 0 % 2 ≡ occ j (ring q h w) + bit k j
     pushed-mark j = go (ℕ-discrete j k)
       where
-        go : Dec (j ≡ k) → getD (set ms k 1) j 0 ≡ occ j (ring q h w) + bit k j
-        go (yes s) = rw s (getD-set-same ms k 1 0 (omega (arith, r .long-marks)) ∙ omega (arith, r .marked k, bit-same k k refl))
-        go (no d) = getD-set-other ms k j 1 0 d ∙ omega (arith, r .marked j, bit-other k j (λ s. d (sym s)))
+        go : Dec (j ≡ k) → getD marked j 0 % 2 ≡ occ j (ring q h w) + bit k j
+        go (yes s) = rw s (omega (
+          arith,
+          getD-set-same ms k (getD ms k 0 / 2 * 2 + 1) 0 (omega (arith, r .long-marks)),
+          r .marked k,
+          bit-same k k refl,
+        ))
+        go (no d) = omega (arith, getD-set-other ms k j (getD ms k 0 / 2 * 2 + 1) 0 d, r .marked j, bit-other k j (λ s. d (sym s)))
 
-    pushed-once : (j : ℕ) → getD (set ms k 1) j 0 ≤ 1
-    pushed-once j = go (ℕ-discrete j k)
-      where
-        go : Dec (j ≡ k) → getD (set ms k 1) j 0 ≤ 1
-        go (yes s) = rw s (omega (arith, pushed-mark k, r .marked k, bit-same k k refl))
-        go (no d) = omega (arith, pushed-mark j, r .marked j, bit-other k j (λ s. d (sym s)), r .once j)
-
-    pub ring-push : Joined n k q h w (set q (slot n h w) k) (set ms k 1) (w + 1)
+    pub ring-push : Joined n k q ms h w (set q (slot n h w) stored) marked (w + 1)
     ring-push = record {
       list = pushed-list ∙ sym (join-new k (ring q h w) (omega (arith, r .marked k)));
       ringed = record {
-        long = length-set q (slot n h w) k ∙ r .long;
-        long-marks = length-set ms k 1 ∙ r .long-marks;
+        long = length-set q (slot n h w) stored ∙ r .long;
+        long-marks = length-set ms k (getD ms k 0 / 2 * 2 + 1) ∙ r .long-marks;
         head-in = r .head-in;
         marked = λ j. pushed-mark j ∙ sym (ap (occ j) pushed-list ∙ occ-snoc j k (ring q h w));
-        once = pushed-once;
-        number = omega (arith, sum-set ms k 1 (omega (arith, r .long-marks)), r .number);
+        number = omega (arith, odds-set ms k (getD ms k 0 / 2 * 2 + 1) (omega (arith, r .long-marks)), r .number);
       };
+      above = store-keeps (λ x. x / 65536) q (slot n h w) stored (omega (arith, back-below, r .long)) (omega arith);
+      above-marks = store-keeps (λ x. x / 2) ms k _ (omega (arith, r .long-marks)) (omega arith);
     }
+
+  -- what stands above the indexes and the marks is nothing to the ring
+  pub ring-kept : (q' ms' : List ℕ) → length q' ≡ length q → length ms' ≡ length ms → SameBelow 65536 q q' → SameBelow 2 ms ms' → Ring n q' ms' h w
+  ring-kept q' ms' long long-marks low bits = record {
+    long = long ∙ r .long;
+    long-marks = long-marks ∙ r .long-marks;
+    head-in = r .head-in;
+    marked = λ k. bits k ∙ r .marked k ∙ sym (ap (occ k) (ring-same q q' long low h w));
+    number = odds-same ms ms' long-marks bits ∙ r .number;
+  }

@@ -1,9 +1,9 @@
 -- Laws of the walk's loop: what holds at its head, and what each way through a turn gives.
-use mathlib.Core.Path.{_≡_, sym, ap, _∙_}
+use mathlib.Core.Path.{_≡_, refl, sym, ap, _∙_}
 use mathlib.Core.Logic.{⊎-elim}
 use mathlib.Core.Bool.{true, false, _&&_}
 use mathlib.Core.List.{List, [], _∷_}
-use Prim.Native.Nat.{ℕ, zero, suc, _+_, _*_, _-_, _≤_, _<_}
+use Prim.Native.Nat.{ℕ, zero, suc, _+_, _*_, _-_, _%_, _≤_, _<_}
 use native.Mathlib.Nat.{eq-or-lt-of-le}
 use native.Mathlib.Numerals.{add-one}
 use native.Mathlib.Omega.{arith}
@@ -23,9 +23,12 @@ use Rattle.walk.specs.Walk.{State, Outcome, out, stops, goes, nothingLeft, requ
 use Rattle.params.proofs.Rules.{sizes-good}
 use Rattle.walk.specs.Purity.{testIn, pureTest, sizedTest, ruleOf}
 use Rattle.peel.specs.Ring.{slot, ring, Popped, Requeued}
+use Rattle.peel.specs.Chains.{Chains, Chained, Relinked}
 use Rattle.peel.specs.Table.{tableOf, Finds, Credited}
 use Rattle.peel.specs.Dirt.{Applied}
 use Rattle.peel.specs.Rep.{stateOf, Holds}
+use Rattle.peel.proofs.Rings.{ring-same}
+use Rattle.peel.proofs.Chains.{chains-kept}
 use Rattle.peel.proofs.Entries.{table-held, table-new, table-room, table-full}
 use Rattle.peel.proofs.Dirtiness.{dirty-none, dirty-some}
 use Rattle.peel.proofs.Moves.{popped-no-inverse, popped-impure, popped-pure, takes-range, takes-full, takes-goes, run-clean, run-stuck, run-spent, run-stops, run-goes, requeue-same}
@@ -43,12 +46,12 @@ ring-none : (q : List ℕ) (h w : ℕ) → w ≡ 0 → ring q h w ≡ []
 unfolding ring from
 ring-none q h w e = rw e
 
-ring-some : (q : List ℕ) (h w : ℕ) → 0 < w → ring q h w ≡ getD q (slot (length q) h 0) 0 ∷ from 1 (w - 1) (λ i. getD q (slot (length q) h i) 0)
+ring-some : (q : List ℕ) (h w : ℕ) → 0 < w → ring q h w ≡ getD q (slot (length q) h 0) 0 % 65536 ∷ from 1 (w - 1) (λ i. getD q (slot (length q) h i) 0 % 65536)
 unfolding ring from
 ring-some q h zero l = absurd (omega arith)
 ring-some q h (suc w) l =
     let e : w ≡ suc w - 1 = omega arith in
-    ap (λ (n : ℕ). getD q (slot (length q) h 0) 0 ∷ from 1 n (λ i. getD q (slot (length q) h i) 0)) e
+    ap (λ (n : ℕ). getD q (slot (length q) h 0) 0 % 65536 ∷ from 1 n (λ i. getD q (slot (length q) h i) 0 % 65536)) e
 
 same-state : {S T : Sketch} {q r : List ℕ} {t u : List Entry} → S ≡ T → q ≡ r → t ≡ u
     → _≡_ {A = State} (record { held = S; queue = q; table = t }) (record { held = T; queue = r; table = u })
@@ -89,7 +92,10 @@ module _ {P : Params} {slots allowance : ℕ} {goal : Outcome} {cs : List ℤ} {
         ∙ rw (let z : allowance - pops ≡ 0 = omega arith in z) at (v .runs)
 
     -- a bucket k is popped
-    module _ {k : ℕ} {ms' : List ℕ} (p : Popped (P .d * P .m) q ms' head waiting k) (more : pops ≡ allowance → ⊥) where
+    module _ {k : ℕ} {ms' : List ℕ} (p : Popped (P .d * P .m) q ms ms' head waiting k) (more : pops ≡ allowance → ⊥) where
+      chains-here : Chains (stand P 0) (P .d * P .m) fs q ms' entries
+      chains-here = chains-kept (λ j. refl) (p .above-marks) (v .holds .chained)
+
       left-one : allowance - pops ≡ suc (allowance - (pops + 1))
       left-one = omega (arith, v .within)
 
@@ -116,6 +122,7 @@ module _ {P : Params} {slots allowance : ℕ} {goal : Outcome} {cs : List ℤ} {
           sane = v .holds .sane;
           slots = v .holds .slots;
           ringed = p .ringed;
+          chained = chains-here;
           dirt = v .holds .dirt;
           room = v .holds .room;
         };
@@ -126,6 +133,13 @@ module _ {P : Params} {slots allowance : ℕ} {goal : Outcome} {cs : List ℤ} {
 
       -- the take of flow f, whose places are ks
       module _ {f : ℕ} (e : pureTest P k (getD cs k (pos 0)) (getD ss k 0) ≡ Pure f) {ks : List ℕ} (at-ks : Placed P f ks) where
+        first-place : getD ks 0 0 ≡ stand P 0 f
+        first-place = at-ks .at 0 (omega (arith, v .holds .sized .d-low))
+
+        -- by its place in array 1, f can be looked up
+        pub chained : Chained (P .d * P .m) fs q ms' entries f (getD ks 0 0)
+        chained = record { key = stand P 0; of-flow = sym first-place; chains = chains-here }
+
         pub range-count : (i : ℕ) → i < P .d → fitsAt (P .m) ks cs (getD cs k (pos 0)) i ≡ false → out Range (pops + 1) next ≡ goal
         range-count i l x =
             stop Range (popped-pure (ruleOf P) slots k next f e
@@ -160,15 +174,19 @@ module _ {P : Params} {slots allowance : ℕ} {goal : Outcome} {cs : List ℤ} {
             -- the calls of the take leave what the definition says
             pub took : {cs' : List ℤ} {ss' : List ℕ} {left' : ℕ} → Applied (P .d) (P .m) ks (getD cs k (pos 0)) (getD ss k 0) cs ss cs' ss' left'
                 → {fs' : List ℕ} {ns' : List ℤ} {entries' : ℕ} → length fs' ≡ length fs → length ns' ≡ length ns → Credited f (getD cs k (pos 0)) fs ns entries fs' ns' entries'
-                → {q' ms'' : List ℕ} {waiting' : ℕ} → Requeued (P .d) (P .m) ks cs' q (slot (P .d * P .m) head 1) (waiting - 1) q' ms'' waiting'
+                → {q₁ ms₁ : List ℕ} → length q₁ ≡ length q → Relinked f (getD ks 0 0) fs q ms' entries fs' q₁ ms₁ entries'
+                → {q' ms'' : List ℕ} {waiting' : ℕ} → Requeued (P .d) (P .m) ks cs' q₁ ms₁ (slot (P .d * P .m) head 1) (waiting - 1) q' ms'' waiting'
                 → Inv P slots allowance goal cs' ss' fs' ns' q' ms'' (slot (P .d * P .m) head 1) waiting' left' entries' (pops + 1)
             unfolding taken
-            took {cs'} {ss'} a lf ln c r = record {
+            took {cs'} {ss'} a lf ln c {q₁} lq l r = record {
               holds = record {
                 sized = v .holds .sized;
                 sane = applied-sane (P .d) (P .m) ks _ _ cs ss (v .holds .sane) fits a;
                 slots = omega (arith, v .holds .slots);
                 ringed = r .ringed;
+                chained =
+                    chains-kept (r .above) (r .above-marks)
+                    (rw (v .holds .ringed .long) at (l .chains (stand P 0) (sym first-place) (rw (v .holds .ringed .long) chains-here)));
                 dirt = a .dirt;
                 room = omega (arith, c .room);
               };
@@ -178,6 +196,7 @@ module _ {P : Params} {slots allowance : ℕ} {goal : Outcome} {cs : List ℤ} {
                   ap (run (ruleOf P) slots (allowance - (pops + 1)) (pops + 1))
                   (same-state (applied-less at-ks a)
                   (r .list
+                  ∙ ap (requeue (λ i. i * P .m + getD ks i 0) (sketch cs' []) 0 (P .d)) (ring-same q q₁ lq (l .below) (slot (P .d * P .m) head 1) (waiting - 1))
                   ∙ requeue-same _ (λ i. i * P .m + stand P i f) cs' [] ss' 0 (P .d) (λ i l. ap (λ (n : ℕ). i * P .m + n) (at-ks .at i (omega arith))) _
                   ∙ ap (λ (S : Sketch). requeue (λ i. i * P .m + stand P i f) S 0 (P .d) (ring q (slot (P .d * P .m) head 1) (waiting - 1))) (applied-less at-ks a))
                   (c .table))

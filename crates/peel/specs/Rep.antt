@@ -6,11 +6,13 @@ use lib.IntN.{ℤ, pos}
 use lib.ListN.{getD, length}
 use Rattle.params.specs.declared.params.Params.{Params}
 use Rattle.params.specs.Params.{Sized}
+use Rattle.params.specs.Places.{stand}
 use Rattle.sketch.specs.Sketch.{sketch}
 use Rattle.walk.specs.Walk.{State, Outcome, close, net as netOf}
 use Rattle.peel.specs.declared.walking.Walked.{Walked}
 use Rattle.peel.specs.declared.peeling.Figures.{Figures}
 use Rattle.peel.specs.Ring.{ring, Ring}
+use Rattle.peel.specs.Chains.{Chains}
 use Rattle.peel.specs.Table.{tableOf}
 use Rattle.peel.specs.Dirt.{dirty, Sane}
 
@@ -27,6 +29,7 @@ pub record Holds (P : Params) (cs : List ℤ) (ss fs : List ℕ) (ns : List ℤ)
   pub sane : Sane (P .d * P .m) cs ss
   pub slots : length ns ≡ length fs
   pub ringed : Ring (P .d * P .m) q ms head waiting
+  pub chained : Chains (stand P 0) (P .d * P .m) fs q ms entries
   pub dirt : left ≡ dirty cs ss
   pub room : entries ≤ length fs
 

@@ -22,6 +22,12 @@ pub record Finds (fs : List ℕ) (n f r : ℕ) : Type 0 where
   pub before : (j : ℕ) → j < r → getD fs j 0 ≡ f → ⊥
   pub found : r < n → getD fs r 0 ≡ f
 
+-- the same from place a on
+pub record FindsFrom (a : ℕ) (fs : List ℕ) (n f r : ℕ) : Type 0 where
+  pub within : r ≤ n
+  pub before : (j : ℕ) → j < r → a ≤ j → getD fs j 0 ≡ f → ⊥
+  pub found : r < n → getD fs r 0 ≡ f
+
 -- what a take leaves in the table, what keeping the entries that are not 0 does, and what the close does
 pub record Credited (f : ℕ) (c : ℤ) (fs : List ℕ) (ns : List ℤ) (n : ℕ) (fs' : List ℕ) (ns' : List ℤ) (r : ℕ) : Type 0 where
   pub table : tableOf fs' ns' r ≡ credited f c (tableOf fs ns n)

@@ -1,4 +1,5 @@
-// The ring of waiting buckets: `waiting` indexes from place `head` on, and a mark for each bucket that waits.
+// The ring of waiting buckets: `waiting` indexes from place `head` on, each in the low 16 bits of its place, and a mark for each bucket
+// that waits, the low bit of its number. The bits above belong to the table's chains, and stay.
 ghost use mathlib.Core.Path.{_≡_};
 ghost use Prim.Native.Nat.{ℕ, _+_, _*_, _<_, _≤_};
 ghost use lib.ListN.{length, getD};
@@ -16,22 +17,22 @@ pub(crate) fn place(head: usize, i: usize, n: usize) -> usize
 // The head of the queue, whose mark goes.
 pub(crate) fn pop(queue: &[u32], marks: &mut [u32], head: usize, waiting: usize) -> usize
     requires { ⌜ Ring (length (now queue)) (now queue) (now marks) head waiting × (0 < waiting) ⌝ }
-    ensures { λ r. ⌜ Popped (length (now (queue .entry))) (now (queue .entry)) (now (marks .exit)) head waiting r ⌝ }
+    ensures { λ r. ⌜ Popped (length (now (queue .entry))) (now (queue .entry)) (now (marks .entry)) (now (marks .exit)) head waiting r ⌝ }
 {
-    let k = queue[head] as usize;
-    marks[k] = 0;
+    let k = (queue[head] % 65536) as usize;
+    marks[k] = marks[k] / 2 * 2;
     k
 }
 
 // k goes to the queue's back, unless it waits already: how many wait then.
 fn push(queue: &mut [u32], marks: &mut [u32], head: usize, waiting: usize, k: usize) -> usize
     requires { ⌜ Ring (length (now queue)) (now queue) (now marks) head waiting × (k < length (now queue)) × (length (now queue) ≤ 65536) ⌝ }
-    ensures { λ r. ⌜ Joined (length (now (queue .entry))) k (now (queue .entry)) head waiting (now (queue .exit)) (now (marks .exit)) r ⌝ }
+    ensures { λ r. ⌜ Joined (length (now (queue .entry))) k (now (queue .entry)) (now (marks .entry)) head waiting (now (queue .exit)) (now (marks .exit)) r ⌝ }
 {
-    if marks[k] == 0 {
+    if marks[k] % 2 == 0 {
         let at = place(head, waiting, queue.len());
-        queue[at] = k as u32;
-        marks[k] = 1;
+        queue[at] = queue[at] / 65536 * 65536 + k as u32;
+        marks[k] = marks[k] / 2 * 2 + 1;
         return waiting + 1;
     }
     waiting
@@ -49,7 +50,7 @@ pub(crate) fn requeue(
     first: usize,
 ) -> usize
     requires { ⌜ Reached d m (now ks) (length (now counts)) (length (now counts)) × Ring (d * m) (now queue) (now marks) head first ⌝ }
-    ensures { λ r. ⌜ Requeued d m (now (ks .entry)) (now (counts .entry)) (now (queue .entry)) head first (now (queue .exit)) (now (marks .exit)) r ⌝ }
+    ensures { λ r. ⌜ Requeued d m (now (ks .entry)) (now (counts .entry)) (now (queue .entry)) (now (marks .entry)) head first (now (queue .exit)) (now (marks .exit)) r ⌝ }
 {
     let mut waiting = first;
     let mut i = 0;

@@ -1,14 +1,17 @@
-// The table of flows: the first n places of two slices, in the order of first takes.
+// The table of flows: the first n places of two slices, in the order of first takes. Flows that stand at one place of array 1 are
+// chained, so that a flow is looked up among these alone: above its low bit, the number of that place in `marks` holds 1 + the newest
+// slot, and `queue[e]`, above its low 16 bits, 1 + the slot before e. A slot past the queue's end has no place for a link, and is scanned.
 ghost use mathlib.Core.Path.{_≡_};
 ghost use mathlib.Core.Bool.{true};
 ghost use mathlib.Core.List.{List};
-ghost use Prim.Native.Nat.{ℕ, _<_, _≤_};
+ghost use Prim.Native.Nat.{ℕ, _/_, _<_, _≤_};
 ghost use lib.IntN.{pos, _+ℤ_};
-ghost use lib.ListN.{length};
+ghost use lib.ListN.{length, getD};
 ghost use Rattle.sketch.specs.Buckets.{inLimits};
 ghost use Rattle.walk.specs.Walk.{entryOf, net};
 ghost use Rattle.peel.specs.Ring.{Cleared};
-ghost use Rattle.peel.specs.Table.{tableOf, Finds, Credited, Closed, Lists};
+ghost use Rattle.peel.specs.Chains.{Chained, Linked, Relinked};
+ghost use Rattle.peel.specs.Table.{tableOf, Finds, FindsFrom, Credited, Closed, Lists};
 use crate::queue::clear;
 
 // How many entries a closed table has, and the sum of their numbers.
@@ -17,32 +20,61 @@ pub(crate) struct Listed {
     pub net: i64,
 }
 
-// The place of f among the first n flows, or n.
-pub(crate) fn find(flows: &[u32], n: usize, f: u32) -> usize
+// The place of f among the flows from place `first` on and below n, or n.
+fn scan(flows: &[u32], first: usize, n: usize, f: u32) -> usize
     requires { ⌜ n ≤ length (now flows) ⌝ }
-    ensures { λ r. ⌜ Finds (now (flows .entry)) n f r ⌝ }
+    ensures { λ r. ⌜ FindsFrom first (now (flows .entry)) n f r ⌝ }
 {
-    let mut i = 0;
+    let mut i = first;
     while i < n {
         if flows[i] == f {
             return i;
         }
         i += 1;
     }
-    i
+    n
 }
 
-// c more for f, whose place is `at`: the number of entries then.
+// The place of f, which stands at k in array 1, among the first n flows, or n.
+pub(crate) fn find(flows: &[u32], queue: &[u32], marks: &[u32], n: usize, f: u32, k: usize) -> usize
+    requires { ⌜ Chained (length (now queue)) (now flows) (now queue) (now marks) n f k × (n ≤ length (now flows)) × (k < length (now marks)) ⌝ }
+    ensures { λ r. ⌜ Finds (now (flows .entry)) n f r ⌝ }
+{
+    let mut x = (marks[k] / 2) as usize;
+    while x != 0 {
+        let e = x - 1;
+        if flows[e] == f {
+            return e;
+        }
+        x = (queue[e] / 65536) as usize;
+    }
+    scan(flows, queue.len(), n, f)
+}
+
+// Slot e becomes the newest of the chain of k.
+fn link(queue: &mut [u32], marks: &mut [u32], e: usize, k: usize)
+    requires { ⌜ (e < length (now queue)) × (length (now queue) ≤ 65536) × (k < length (now marks)) × (getD (now marks) k 0 / 2 ≤ e) ⌝ }
+    ensures { λ _. ⌜ Linked e k (now (queue .entry)) (now (marks .entry)) (now (queue .exit)) (now (marks .exit)) ⌝ }
+{
+    queue[e] = marks[k] / 2 * 65536 + queue[e] % 65536;
+    marks[k] = (e as u32 + 1) * 2 + marks[k] % 2;
+}
+
+// c more for f, whose place is `at` and which stands at k in array 1: the number of entries then.
 pub(crate) fn credit(
     flows: &mut [u32],
     numbers: &mut [i32],
+    queue: &mut [u32],
+    marks: &mut [u32],
     n: usize,
     at: usize,
     f: u32,
+    k: usize,
     c: i32,
 ) -> usize
     requires { ⌜ Finds (now flows) n f at × (length (now numbers) ≡ length (now flows)) × (at < length (now flows)) × (n ≤ length (now flows)) × (inLimits (entryOf f (tableOf (now flows) (now numbers) n) +ℤ c) ≡ true) ⌝ }
-    ensures { λ r. ⌜ Credited f c (now (flows .entry)) (now (numbers .entry)) n (now (flows .exit)) (now (numbers .exit)) r ⌝ }
+    requires { ⌜ (length (now queue) ≤ 65536) × (k < length (now marks)) × (getD (now marks) k 0 / 2 ≤ n) ⌝ }
+    ensures { λ r. ⌜ Credited f c (now (flows .entry)) (now (numbers .entry)) n (now (flows .exit)) (now (numbers .exit)) r × Relinked f k (now (flows .entry)) (now (queue .entry)) (now (marks .entry)) n (now (flows .exit)) (now (queue .exit)) (now (marks .exit)) r ⌝ }
 {
     if at < n {
         numbers[at] += c;
@@ -50,6 +82,9 @@ pub(crate) fn credit(
     }
     flows[at] = f;
     numbers[at] = c;
+    if at < queue.len() {
+        link(queue, marks, at, k);
+    }
     n + 1
 }
 

@@ -84,7 +84,7 @@ fn walk(
                     }
                     i += 1;
                 }
-                let at = find(flows, entries, f);
+                let at = find(flows, queue, marks, entries, f, ks[0]);
                 if at < entries {
                     if !fits(false, numbers[at], c) {
                         break 'walk Ending::Range;
@@ -93,7 +93,7 @@ fn walk(
                     break 'walk Ending::Full;
                 }
                 left = apply(d, m, &ks, counts, idsums, c, s, left);
-                entries = credit(flows, numbers, entries, at, f, c);
+                entries = credit(flows, numbers, queue, marks, entries, at, f, ks[0], c);
                 waiting = requeue(d, m, &ks, counts, queue, marks, head, waiting);
             }
         }

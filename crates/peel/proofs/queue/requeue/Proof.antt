@@ -1,5 +1,5 @@
 -- `peel::queue::requeue` meets its contract: what is left of the requeueing, from the ring as it stands, gives the queue that the whole gives from the ring at the start.
-use mathlib.Core.Path.{sym, _∙_}
+use mathlib.Core.Path.{refl, sym, _∙_}
 use mathlib.Core.Logic.{⊎-elim}
 use mathlib.Core.List.{[]}
 use Prim.Native.Nat.{_+_, _*_, _-_, _≤_}
@@ -12,7 +12,7 @@ use Rattle.sketch.specs.Sketch.{sketch}
 use Rattle.sketch.proofs.Standing.{Within, reach}
 use Rattle.walk.specs.Walk.{requeue}
 use Rattle.sketch.proofs.Zeros.{is-zero, not-zero}
-use Rattle.peel.specs.Ring.{Ring, ring}
+use Rattle.peel.specs.Ring.{Ring, ring, SameAbove}
 use Rattle.peel.proofs.Queues.{Requeueing, requeue-none, requeue-past, requeue-join, requeue-all}
 use Rattle.peel.proofs.queue.requeue.Statement.{statement}
 use Rattle.peel.proofs.queue.requeue.Tie as tie
@@ -22,12 +22,14 @@ Inv-loop d m ks counts queue₀ marks₀ head first waiting₀ i₀ queue marks 
     (i ≤ d) × Ring (d * m) queue marks head waiting
     × Requeueing (λ i. i * m + getD ks i 0) (sketch counts []) d i (ring queue head waiting)
     (requeue (λ i. i * m + getD ks i 0) (sketch counts []) 0 d (ring queue₀ head first))
+    × SameAbove 65536 queue₀ queue
+    × SameAbove 2 marks₀ marks
 
 abbrev μ-loop : tie.MeasureT-loop
 μ-loop d m ks counts queue₀ marks₀ head first waiting₀ i₀ queue marks waiting i = d - i
 
 loop-holds : tie.Need-loop-holds Inv-loop μ-loop
-loop-holds c = (omega arith, c .before .before .pre .1, requeue-none)
+loop-holds c = (omega arith, c .before .before .pre .1, requeue-none, λ k. refl, λ k. refl)
 
 -- where a turn reaches
 within : (c : tie.In-loop Inv-loop μ-loop) → let b = c .before .before .before .before in Within (b .args .d) (b .args .m) (c .before .loop .i) (getD (b .args .ks .now) (c .before .loop .i) 0)
@@ -76,12 +78,16 @@ loop-again c =
       omega arith,
       rw (v .1 .long) at (w .3 .ensures .ringed),
       requeue-join (v .2) (t .loop-test .taken) (not-zero x (λ e. w .0 .taken (bits-of-zero x e))) (w .3 .ensures .list),
+      λ k. w .3 .ensures .above k ∙ v .3 k,
+      λ k. w .3 .ensures .above-marks k ∙ v .4 k,
     ))
     (λ w.
     rw (w .1, w .2, w .3) (
       omega arith,
       v .1,
       requeue-past (v .2) (t .loop-test .taken) (is-zero x (zero-of-bits x (sfits-of (c .before .if12 .given)) (w .0 .left))),
+      v .3,
+      v .4,
     ))
     (c .if1 .came)
 
@@ -92,7 +98,7 @@ same-length-2 : tie.Need-same-length-2 Inv-loop μ-loop
 same-length-2 c = c .before .loop .inv .1 .long-marks ∙ sym (c .before .before .before .before .pre .1 .long-marks)
 
 returns : tie.Need-returns Inv-loop μ-loop
-returns c = let v = c .before .loop .inv in record { list = requeue-all (v .2) (c .loop-test .left); ringed = v .1 }
+returns c = let v = c .before .loop .inv in record { list = requeue-all (v .2) (c .loop-test .left); ringed = v .1; above = v .3; above-marks = v .4 }
 
 pub requeue-spec : {M : Type 1} → statement M
 requeue-spec =

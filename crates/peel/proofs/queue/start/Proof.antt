@@ -1,7 +1,7 @@
 -- `peel::queue::start` meets its contract: the ring and the buckets that are left to queue give the first queue.
-use mathlib.Core.Path.{sym, _∙_}
+use mathlib.Core.Path.{_≡_, sym, _∙_}
 use mathlib.Core.Logic.{⊎-elim}
-use Prim.Native.Nat.{_-_, _≤_}
+use Prim.Native.Nat.{ℕ, _-_, _/_, _≤_}
 use native.Mathlib.Omega.{arith}
 use lib.IntN.{ℤ, pos}
 use lib.ListN.{getD, length}
@@ -19,6 +19,7 @@ abbrev Inv-loop : tie.InvT-loop
 Inv-loop counts queue₀ marks₀ waiting₀ i₀ queue marks waiting i =
     (i ≤ length counts) × Ring (length counts) queue marks 0 waiting
     × Starting counts i (ring queue 0 waiting) (firstQueue 0 counts)
+    × ((k : ℕ) → getD marks k 0 / 2 ≡ 0)
 
 abbrev μ-loop : tie.MeasureT-loop
 μ-loop counts queue₀ marks₀ waiting₀ i₀ queue marks waiting i = length counts - i
@@ -41,6 +42,7 @@ loop-holds c =
       omega arith,
       ring-empty _ _ _ (omega (arith, h .0, h .2)) (q .long ∙ sym (h .0)) (m .long ∙ h .1 ∙ sym (h .0)) (λ k. m .zeros k (omega arith)),
       first-none (ring-nothing _ 0),
+      λ k. omega (arith, m .zeros k (omega arith)),
     )
 
 mul-if1 : tie.Need-mul-if1 Inv-loop μ-loop
@@ -73,12 +75,14 @@ loop-again c =
       omega arith,
       rw (v .1 .long) at (w .3 .ensures .ringed),
       first-join (v .2) (t .loop-test .taken) (not-zero x (λ e. w .0 .taken (bits-of-zero x e))) (w .3 .ensures .list),
+      λ k. w .3 .ensures .above-marks k ∙ v .3 k,
     ))
     (λ w.
     rw (w .1, w .2, w .3) (
       omega arith,
       v .1,
       first-past (v .2) (t .loop-test .taken) (is-zero x (zero-of-bits x (sfits-of (c .before .if12 .given)) (w .0 .left))),
+      v .3,
     ))
     (c .if1 .came)
 
@@ -91,7 +95,7 @@ same-length-2 c = let h = start-of (c .before) .pre in c .before .loop .inv .1 .
 returns : tie.Need-returns Inv-loop μ-loop
 returns c =
     let v = c .before .loop .inv in
-    record { list = first-all (v .2) (c .loop-test .left) (v .0); ringed = rw (start-of (c .before) .pre .0) at (v .1) }
+    record { list = first-all (v .2) (c .loop-test .left) (v .0); ringed = rw (start-of (c .before) .pre .0) at (v .1); above-marks = v .3 }
 
 pub start-spec : {M : Type 1} → statement M
 start-spec =

@@ -25,8 +25,10 @@ use Rattle.walk.specs.Walk.{run}
 use Rattle.walk.specs.Purity.{pureTest, ruleOf}
 use Rattle.peel.specs.Ring.{slot, Popped, Requeued}
 use Rattle.peel.specs.Table.{Credited}
+use Rattle.peel.specs.Chains.{Chained, Relinked}
 use Rattle.peel.specs.Dirt.{Applied}
 use Rattle.peel.specs.Rep.{stateOf}
+use Rattle.peel.proofs.Rings.{ring-kept}
 use Rattle.peel.proofs.RangeLoop.{fitsAt}
 use Rattle.peel.proofs.Turns.{Inv, sized-test}
 use Rattle.peel.proofs.Turns as turn
@@ -81,7 +83,7 @@ abbrev head-of : Popd → At
 head-of c = c .before .before .before .before .before .before
 
 popped-is : (c : Popd) → let a = head-of c in
-    Popped (start a .args .p .d * start a .args .p .m) (a .walk .queue) (c .pop .last .1 .0) (a .walk .head) (a .walk .waiting) (c .pop .result)
+    Popped (start a .args .p .d * start a .args .p .m) (a .walk .queue) (a .walk .marks) (c .pop .last .1 .0) (a .walk .head) (a .walk .waiting) (c .pop .result)
 popped-is c = rw (size-is (head-of c)) at (c .pop .ensures)
 
 some-of : (c : Popd) → head-of c .walk .left ≡ 0 → ⊥
@@ -137,6 +139,21 @@ placed-is c =
 reached-is : (c : Inner) → Reached (start (walk-of c) .args .p .d) (start (walk-of c) .args .p .m) (ks-of c) (length (walk-of c .walk .counts)) (length (walk-of c .walk .idsums))
 reached-is c = let h = walk-of c .walk .inv .0 .holds in reached (h .sized) (h .sane .long) (h .sane .long-ids) (placed-is c)
 
+-- the marks once a bucket is popped, and f's bucket in array 1
+abbrev marks-of : Inner → List ℕ
+marks-of c = pop-of (test-of c) .pop .last .1 .0
+
+first-bucket : (c : Inner) → let b = start (walk-of c) in Within (b .args .p .d) (b .args .p .m) 0 (getD (ks-of c) 0 0)
+first-bucket c = reach 0 (reached-is c) (omega (arith, start (walk-of c) .pre .sized .d-low))
+
+first-below : (c : Inner) → getD (ks-of c) 0 0 < length (marks-of c)
+first-below c = omega (arith, first-bucket c .bucket, popped-is (pop-of (test-of c)) .ringed .long-marks)
+
+-- by it f can be looked up
+chained-is : (c : Inner) → let a = walk-of c in
+    Chained (start a .args .p .d * start a .args .p .m) (a .walk .flows) (a .walk .queue) (marks-of c) (a .walk .entries) (flow c) (getD (ks-of c) 0 0)
+chained-is c = let p = pop-of (test-of c) in turn.chained (walk-of c .walk .inv .0) (some-of p) (popped-is p) (more-of p) (pure-is c) (placed-is c)
+
 -- f's bucket in the array that i others stand before, and what the test of it says
 bucket : (c : tie.In-loop Inv-loop μ-loop Inv-walk μ-walk) → let b = start (walk-of (c .before)) in
     Within (b .args .p .d) (b .args .p .m) (c .before .loop .i) (getD (ks-of (c .before)) (c .before .loop .i) 0)
@@ -158,11 +175,11 @@ all-fit : (c : Done) → let l = c .before in (i : ℕ) → i < start (walk-of l
 all-fit c i h = rw (c-is (test-of (c .before))) at (c .before .loop .inv .1 i (omega arith))
 
 -- the entry of f, where it has one
-more-is : (c : tie.After-fits3 Inv-loop μ-loop Inv-walk μ-walk) → let f = c .before .before .before in let l = f .before .before .before in
+more-is : (c : tie.After-fits3 Inv-loop μ-loop Inv-walk μ-walk) → let f = c .before .before .before in let l = f .before .before .before .before .before in
     c .fits3 .result ≡ inLimits (getD (walk-of l .walk .numbers) (f .find .result) (pos 0) +ℤ count-of (test-of l))
 more-is c =
     let f = c .before .before .before in
-    let l = f .before .before .before in
+    let l = f .before .before .before .before .before in
     rw (toZ-ofZ w32 (getD (walk-of l .walk .numbers) (f .find .result) (pos 0)) (record { sfits = c .before .fits-arg2 .given }), c-is (test-of l))
     at (c .fits3 .ensures)
 
@@ -171,7 +188,7 @@ abbrev Meet : Type 0
 Meet = tie.Joined5 Inv-loop μ-loop Inv-walk μ-walk
 
 abbrev done-of : Meet → Done
-done-of c = c .before .before .before
+done-of c = c .before .before .before .before .before
 
 abbrev inner-of : Meet → Inner
 inner-of c = done-of c .before
@@ -195,23 +212,27 @@ abbrev Credit : Type 0
 Credit = tie.After-credit Inv-loop μ-loop Inv-walk μ-walk
 
 abbrev apply-of : Credit → Apply
-apply-of c = c .before .before .before .before .before .before
+apply-of c = c .before .before .before .before .before .before .before .before
 
 abbrev meet-of : Credit → Meet
 meet-of c = apply-of c .before .before .before .before
 
 credited : (c : Credit) → let l = inner-of (meet-of c) in let a = walk-of l in
     Credited (flow l) (count-of (test-of l)) (a .walk .flows) (a .walk .numbers) (a .walk .entries) (c .credit .last .0) (c .credit .last .1 .0) (c .credit .result)
-credited c = rw (c-is (test-of (inner-of (meet-of c)))) at (c .credit .ensures)
+credited c = rw (c-is (test-of (inner-of (meet-of c)))) at (c .credit .ensures .0)
+
+relinked : (c : Credit) → let l = inner-of (meet-of c) in let a = walk-of l in
+    Relinked (flow l) (getD (ks-of l) 0 0) (a .walk .flows) (a .walk .queue) (marks-of l) (a .walk .entries) (c .credit .last .0) (c .credit .last .1 .1 .0) (c .credit .last .1 .1 .1 .0) (c .credit .result)
+relinked c = c .credit .ensures .1
 
 abbrev End : Type 0
 End = tie.After-requeue Inv-loop μ-loop Inv-walk μ-walk
 
 abbrev credit-of : End → Credit
-credit-of c = c .before .before .before .before .before .before .before .before
+credit-of c = c .before .before .before .before .before .before .before .before .before .before .before .before
 
-requeued : (c : End) → let l = inner-of (meet-of (credit-of c)) in let a = walk-of l in let b = start a in
-    Requeued (b .args .p .d) (b .args .p .m) (ks-of l) (apply-of (credit-of c) .apply .last .1 .1 .1 .0) (a .walk .queue) (slot (b .args .p .d * b .args .p .m) (a .walk .head) 1) (a .walk .waiting - 1) (c .requeue .last .1 .1 .1 .1 .0) (c .requeue .last .1 .1 .1 .1 .1 .0) (c .requeue .result)
+requeued : (c : End) → let k = credit-of c in let l = inner-of (meet-of k) in let a = walk-of l in let b = start a in
+    Requeued (b .args .p .d) (b .args .p .m) (ks-of l) (apply-of k .apply .last .1 .1 .1 .0) (k .credit .last .1 .1 .0) (k .credit .last .1 .1 .1 .0) (slot (b .args .p .d * b .args .p .m) (a .walk .head) 1) (a .walk .waiting - 1) (c .requeue .last .1 .1 .1 .1 .0) (c .requeue .last .1 .1 .1 .1 .1 .0) (c .requeue .result)
 requeued c = rw (place-is (test-of (inner-of (meet-of (credit-of c))))) at (c .requeue .ensures)
 
 took-is : (c : End) → let l = inner-of (meet-of (credit-of c)) in let a = walk-of l in let b = start a in
@@ -224,7 +245,7 @@ took-is c =
     let l = inner-of m in
     let p = pop-of (test-of l) in
     turn.took (walk-of l .walk .inv .0) (some-of p) (popped-is p) (more-of p) (pure-is l) (placed-is l) (all-fit (done-of m)) (m .before .find .ensures) (entry m) (free m)
-    (applied (apply-of k)) (k .credit .kept .0) (k .credit .kept .1 .0) (credited k) (requeued c)
+    (applied (apply-of k)) (k .credit .kept .0) (k .credit .kept .1 .0) (credited k) (k .credit .kept .1 .1 .0) (relinked k) (requeued c)
 
 walk-holds : tie.Need-walk-holds Inv-loop μ-loop Inv-walk μ-walk
 walk-holds c =
@@ -330,11 +351,16 @@ loop-again c =
     let l = c .before .before .before .before in
     (omega arith, below-more _ _ (l .loop .inv .1) (rw (c-is (test-of l)) (sym (fits-is (c .before)) ∙ not-false _ (c .if4 .left))))
 
+array-read-find : tie.Need-array-read-find Inv-loop μ-loop Inv-walk μ-walk
+array-read-find c = search needs
+
 find-requires : tie.Need-find-requires Inv-loop μ-loop Inv-walk μ-walk
-find-requires c κs = walk-of (c .before .before) .walk .inv .0 .holds .room
+find-requires c κs =
+    let l = c .before .before .before .before in
+    rw (size-is (walk-of l)) (chained-is l, walk-of l .walk .inv .0 .holds .room, first-below l)
 
 mul-fits-2 : tie.Need-mul-fits-2 Inv-loop μ-loop Inv-walk μ-walk
-mul-fits-2 c = let a = walk-of (c .before .before .before .before) in omega (arith, c .if5 .taken, a .walk .inv .0 .holds .room, a .walk .inv .0 .long, start a .good .1 .1 .1 .0 .1)
+mul-fits-2 c = let a = walk-of (c .before .before .before .before .before .before) in omega (arith, c .if5 .taken, a .walk .inv .0 .holds .room, a .walk .inv .0 .long, start a .good .1 .1 .1 .0 .1)
 
 slice-copy-out-fits-2 : tie.Need-slice-copy-out-fits-2 Inv-loop μ-loop Inv-walk μ-walk
 slice-copy-out-fits-2 c = search needs
@@ -348,27 +374,40 @@ apply-requires c κs =
     let l = inner-of m in
     rw (c-is (test-of l)) ((reached-is l, walk-of l .walk .inv .0 .holds .dirt), all-fit (done-of m))
 
+array-read-credit : tie.Need-array-read-credit Inv-loop μ-loop Inv-walk μ-walk
+array-read-credit c = search needs
+
 credit-requires : tie.Need-credit-requires Inv-loop μ-loop Inv-walk μ-walk
 credit-requires c κs =
-    let m = c .before .before .before .before .before .before .before .before .before in
+    let m = c .before .before .before .before .before .before .before .before .before .before .before in
     let l = inner-of m in
     let p = pop-of (test-of l) in
     let v = walk-of l .walk .inv .0 in
     rw (c-is (test-of l)) (
-      m .before .find .ensures,
-      v .holds .slots,
-      rw (v .long) (turn.has-place v (some-of p) (popped-is p) (more-of p) (pure-is l) (placed-is l) (all-fit (done-of m)) (m .before .find .ensures) (entry m) (free m)),
-      v .holds .room,
-      turn.entry-fits v (some-of p) (popped-is p) (more-of p) (pure-is l) (placed-is l) (all-fit (done-of m)) (m .before .find .ensures) (entry m) (free m),
+      (
+        m .before .find .ensures,
+        v .holds .slots,
+        rw (v .long) (turn.has-place v (some-of p) (popped-is p) (more-of p) (pure-is l) (placed-is l) (all-fit (done-of m)) (m .before .find .ensures) (entry m) (free m)),
+        v .holds .room,
+        turn.entry-fits v (some-of p) (popped-is p) (more-of p) (pure-is l) (placed-is l) (all-fit (done-of m)) (m .before .find .ensures) (entry m) (free m),
+      ),
+      (
+        rw (size-is (walk-of l)) (small _ _ (v .holds .sized .d-high) (v .holds .sized .m-high)),
+        first-below l,
+        omega (arith, chained-is l .chains .newest (getD (ks-of l) 0 0) .within),
+      ),
     )
 
 requeue-requires : tie.Need-requeue-requires Inv-loop μ-loop Inv-walk μ-walk
 requeue-requires c κs =
-    let k = c .before .before .before .before .before .before .before in
+    let k = c .before .before .before .before .before .before .before .before .before .before .before in
     let l = inner-of (meet-of k) in
     let h = walk-of l .walk .inv .0 .holds in
-    let n = apply-of k .apply .kept .1 .1 .1 .0 ∙ h .sane .long in
-    (reached (h .sized) n n (placed-is l), rw (place-is (test-of l)) (popped-is (pop-of (test-of l)) .ringed))
+    let n = apply-of k .apply .kept .1 .1 .1 .0 ∙ h .sane .long in (
+      reached (h .sized) n n (placed-is l),
+      rw (place-is (test-of l))
+          (ring-kept (popped-is (pop-of (test-of l)) .ringed) _ _ (k .credit .kept .1 .1 .0) (k .credit .kept .1 .1 .1 .0) (relinked k .below) (relinked k .below-marks)),
+    )
 
 walk-less-2 : tie.Need-walk-less-2 Inv-loop μ-loop Inv-walk μ-walk
 walk-less-2 c =
@@ -529,7 +568,7 @@ same-length-36 c = search needs
 returns-6 : tie.Need-returns-6 Inv-loop μ-loop Inv-walk μ-walk
 returns-6 c =
     let f = c .before .before .before .before in
-    let d = f .before .before in
+    let d = f .before .before .before .before in
     let l = d .before in
     let p = pop-of (test-of l) in
     record { outcome = turn.range-entry (walk-of l .walk .inv .0) (some-of p) (popped-is p) (more-of p) (pure-is l) (placed-is l) (all-fit d) (f .find .ensures) (c .before .before .before .if5 .taken) (sym (more-is (c .before)) ∙ not-true _ (c .if6 .taken)); room = room-of (walk-of l) }
@@ -555,7 +594,7 @@ same-length-42 c = search needs
 returns-7 : tie.Need-returns-7 Inv-loop μ-loop Inv-walk μ-walk
 returns-7 c =
     let f = c .before .before in
-    let d = f .before .before in
+    let d = f .before .before .before .before in
     let l = d .before in
     let p = pop-of (test-of l) in
     record { outcome = turn.full (walk-of l .walk .inv .0) (some-of p) (popped-is p) (more-of p) (pure-is l) (placed-is l) (all-fit d) (f .find .ensures) (c .before .if5 .left) (c .if7 .taken); room = room-of (walk-of l) }
@@ -595,11 +634,13 @@ walk-spec =
     add-i
     loop-less
     loop-again
+    array-read-find
     find-requires
     mul-fits-2
     slice-copy-out-fits-2
     fits-requires-2
     apply-requires
+    array-read-credit
     credit-requires
     requeue-requires
     walk-less-2

@@ -7,6 +7,7 @@ use borrow.Author.Needs.{needs}
 use Rattle.walk.specs.Walk.{run, walk}
 use Rattle.walk.specs.Purity.{ruleOf}
 use Rattle.params.proofs.Rules.{sized-small}
+use Rattle.peel.proofs.Chains.{chains-none}
 use Rattle.peel.proofs.Begins.{begins, size-some}
 use Rattle.peel.proofs.walking.walk_whole.Statement.{statement}
 use Rattle.peel.proofs.walking.walk_whole.Tie as tie
@@ -31,6 +32,7 @@ walk-requires c κs =
       sane = n .sane;
       slots = n .slots;
       ringed = rw (n .long) at (c .before .before .before .before .before .before .before .before .before .before .before .before .before .start .ensures .ringed);
+      chained = chains-none (c .before .before .before .before .before .before .before .before .before .before .before .before .before .start .ensures .above-marks);
       dirt = c .before .before .before .before .before .before .count-left .ensures;
       room = omega arith;
     }

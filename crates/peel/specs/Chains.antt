@@ -1,0 +1,37 @@
+-- The chains of table slots by which a flow is looked up. The flows with one key stand in one chain, the newest first: above its mark, the
+-- number of key k holds 1 + the newest slot; above its index, the queue's place e holds 1 + the slot before e; 0 ends a chain. Slots past
+-- the queue's end are in no chain.
+use mathlib.Core.Path.{_≡_}
+use mathlib.Core.List.{List}
+use Prim.Native.Nat.{ℕ, _+_, _*_, _-_, _/_, _%_, _<_, _≤_, min}
+use lib.ListN.{getD, length, set}
+use Rattle.peel.specs.Ring.{SameBelow}
+
+-- x is 1 + the greatest slot below b whose flow has key k, or 0 where no flow has
+pub record Newest (key : ℕ → ℕ) (fs : List ℕ) (k b x : ℕ) : Type 0 where
+  pub within : x ≤ b
+  pub keyed : 0 < x → key (getD fs (x - 1) 0) ≡ k
+  pub past : (j : ℕ) → x ≤ j → j < b → key (getD fs j 0) ≡ k → ⊥
+
+-- the first n slots hold flows that differ, and of these slots those below size are chained
+pub record Chains (key : ℕ → ℕ) (size : ℕ) (fs q ms : List ℕ) (n : ℕ) : Type 0 where
+  pub newest : (k : ℕ) → Newest key fs k (min n size) (getD ms k 0 / 2)
+  pub links : (e : ℕ) → e < min n size → Newest key fs (key (getD fs e 0)) e (getD q e 0 / 65536)
+  pub differ : (i j : ℕ) → i < j → j < n → getD fs i 0 ≡ getD fs j 0 → ⊥
+
+-- by some key the slots are chained, and f belongs to chain k
+pub record Chained (size : ℕ) (fs q ms : List ℕ) (n f k : ℕ) : Type 0 where
+  pub key : ℕ → ℕ
+  pub of-flow : key f ≡ k
+  pub chains : Chains key size fs q ms n
+
+-- slot e becomes the newest of chain k
+pub record Linked (e k : ℕ) (q ms q' ms' : List ℕ) : Type 0 where
+  pub queue : q' ≡ set q e (getD ms k 0 / 2 * 65536 + getD q e 0 % 65536)
+  pub marks : ms' ≡ set ms k ((e + 1) * 2 + getD ms k 0 % 2)
+
+-- what a take of f leaves of the chains, and that the ring stays
+pub record Relinked (f k : ℕ) (fs q ms : List ℕ) (n : ℕ) (fs' q' ms' : List ℕ) (r : ℕ) : Type 0 where
+  pub chains : (key : ℕ → ℕ) → key f ≡ k → Chains key (length q) fs q ms n → Chains key (length q) fs' q' ms' r
+  pub below : SameBelow 65536 q q'
+  pub below-marks : SameBelow 2 ms ms'
