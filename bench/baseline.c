@@ -1,0 +1,131 @@
+// Packets put into a sketch one by one, many at once or from a stream, and the difference of two sketches.
+#include "baseline.h"
+
+#include <string.h>
+
+// Takes out packets that were put in before: no limit is in reach.
+static void withdraw(struct sketch *sketch, uint32_t flow, uint32_t number) {
+    uint32_t buckets[4];
+    find_buckets(&sketch->params, flow, buckets);
+    uint32_t weight = (uint32_t)((uint64_t)number * flow % PRIME);
+    for (uint32_t array = 0; array < sketch->params.d; array++) {
+        sketch->counts[buckets[array]] -= (int32_t)number;
+        sketch->idsums[buckets[array]] = subtract_idsums(sketch->idsums[buckets[array]], weight);
+    }
+}
+
+enum refusal baseline_insert(struct sketch *sketch, uint32_t flow, uint32_t number, size_t *place) {
+    *place = 0;
+    return insert_packets(sketch, flow, number, place);
+}
+
+enum refusal baseline_insert_all(struct sketch *sketch, const uint32_t *flows, const uint32_t *numbers, size_t packets,
+                                 size_t *place) {
+    *place = 0;
+    for (size_t i = 0; i < packets; i++) {
+        enum refusal refusal = insert_packets(sketch, flows[i], numbers[i], place);
+        if (refusal != DONE) {
+            while (i-- > 0)
+                withdraw(sketch, flows[i], numbers[i]);
+            return refusal;
+        }
+    }
+    return DONE;
+}
+
+enum refusal baseline_subtract(struct sketch *sketch, const struct sketch *other, size_t *place) {
+    *place = 0;
+    if (memcmp(&sketch->params, &other->params, sizeof sketch->params) != 0)
+        return MISMATCH;
+    uint32_t size = size_of(&sketch->params);
+    for (uint32_t k = 0; k < size; k++) {
+        if (!is_within((int64_t)sketch->counts[k] - other->counts[k])) {
+            *place = k;
+            return RANGE;
+        }
+    }
+    for (uint32_t k = 0; k < size; k++) {
+        sketch->counts[k] -= other->counts[k];
+        sketch->idsums[k] = subtract_idsums(sketch->idsums[k], other->idsums[k]);
+    }
+    return DONE;
+}
+
+static int is_pair_in_use(uint32_t a, uint32_t b) {
+    return a >= 1 && a < PRIME && b < PRIME;
+}
+
+static int keep_the_rules(const struct params *params) {
+    if (params->d < 2 || params->d > 4 || params->m < 1 || params->m > 16384)
+        return 0;
+    for (uint32_t i = 0; i < 4; i++) {
+        uint32_t a = params->a[i], b = params->b[i];
+        if (i < params->d ? !is_pair_in_use(a, b) : a != 0 || b != 0)
+            return 0;
+        for (uint32_t j = 0; i < params->d && j < i; j++)
+            if (params->a[j] == a && params->b[j] == b)
+                return 0;
+    }
+    return 1;
+}
+
+enum refusal baseline_read_head(const uint8_t *bytes, struct params *params) {
+    if (bytes[0] != HEAD)
+        return FORM;
+    params->d = bytes[1];
+    params->m = word_at(bytes + 2);
+    for (uint32_t i = 0; i < 4; i++) {
+        params->a[i] = word_at(bytes + 6 + 8 * i);
+        params->b[i] = word_at(bytes + 10 + 8 * i);
+    }
+    return keep_the_rules(params) ? DONE : PARAM;
+}
+
+// A whole end that says how many records stood since the head, and no byte after it.
+static enum refusal judge_end(const uint8_t *bytes, size_t length, size_t at, size_t records, size_t *place) {
+    *place = at;
+    if (length - at < END_BYTES || bytes[at] != END || word_at(bytes + at + 1) != records)
+        return FORM;
+    *place = at + END_BYTES;
+    return length - at > END_BYTES ? FORM : DONE;
+}
+
+static void withdraw_records(struct sketch *sketch, const uint8_t *bytes, size_t records) {
+    while (records-- > 0) {
+        const uint8_t *record = bytes + HEAD_BYTES + PACKETS_BYTES * records;
+        withdraw(sketch, word_at(record + 1), word_at(record + 5));
+    }
+}
+
+static enum refusal read_records(struct sketch *sketch, const uint8_t *bytes, size_t length, size_t *place) {
+    size_t at = HEAD_BYTES;
+    size_t records = 0;
+    enum refusal refusal = DONE;
+    while (length - at >= PACKETS_BYTES && bytes[at] == PACKETS) {
+        refusal = insert_packets(sketch, word_at(bytes + at + 1), word_at(bytes + at + 5), place);
+        if (refusal != DONE) {
+            *place = at;
+            break;
+        }
+        at += PACKETS_BYTES;
+        records++;
+    }
+    if (refusal == DONE)
+        refusal = judge_end(bytes, length, at, records, place);
+    if (refusal != DONE)
+        withdraw_records(sketch, bytes, records);
+    return refusal;
+}
+
+enum refusal baseline_read_stream(struct sketch *sketch, const uint8_t *bytes, size_t length, size_t *place) {
+    *place = 0;
+    if (length < HEAD_BYTES)
+        return FORM;
+    struct params params;
+    enum refusal refusal = baseline_read_head(bytes, &params);
+    if (refusal != DONE)
+        return refusal;
+    if (memcmp(&params, &sketch->params, sizeof params) != 0)
+        return MISMATCH;
+    return read_records(sketch, bytes, length, place);
+}

@@ -1,0 +1,53 @@
+// Seeded data for the measurements: parameters, packets and streams.
+#include "data.h"
+
+// Splitmix64: the same numbers for the same seed on every machine.
+static uint64_t next_number(uint64_t *seed) {
+    uint64_t z = *seed += 0x9e3779b97f4a7c15u;
+    z = (z ^ z >> 30) * 0xbf58476d1ce4e5b9u;
+    z = (z ^ z >> 27) * 0x94d049bb133111ebu;
+    return z ^ z >> 31;
+}
+
+static uint32_t number_below(uint64_t *seed, uint32_t limit) {
+    return (uint32_t)(next_number(seed) % limit);
+}
+
+struct params make_params(uint64_t *seed, uint32_t d, uint32_t m) {
+    struct params params = {.d = d, .m = m};
+    for (uint32_t i = 0; i < d; i++) {
+        params.a[i] = 1 + number_below(seed, PRIME - 1);
+        params.b[i] = number_below(seed, PRIME);
+    }
+    return params;
+}
+
+void make_packets(struct packets *packets, uint64_t *seed, size_t length, uint32_t most_number) {
+    packets->length = length;
+    for (size_t i = 0; i < length; i++) {
+        packets->flows[i] = number_below(seed, PRIME);
+        packets->numbers[i] = 1 + number_below(seed, most_number);
+    }
+}
+
+static uint8_t *put_word(uint8_t *at, uint32_t word) {
+    for (int shift = 24; shift >= 0; shift -= 8)
+        *at++ = (uint8_t)(word >> shift);
+    return at;
+}
+
+void make_stream(struct stream *stream, const struct params *params, const struct packets *packets) {
+    uint8_t *at = stream->bytes;
+    *at++ = HEAD;
+    *at++ = (uint8_t)params->d;
+    at = put_word(at, params->m);
+    for (uint32_t i = 0; i < 4; i++)
+        at = put_word(put_word(at, params->a[i]), params->b[i]);
+    for (size_t i = 0; i < packets->length; i++) {
+        *at++ = PACKETS;
+        at = put_word(put_word(at, packets->flows[i]), packets->numbers[i]);
+    }
+    *at++ = END;
+    at = put_word(at, (uint32_t)packets->length);
+    stream->length = (size_t)(at - stream->bytes);
+}

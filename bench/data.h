@@ -1,0 +1,28 @@
+// Seeded data for the measurements: parameters, packets and streams.
+#ifndef DATA_H
+#define DATA_H
+
+#include "baseline.h"
+
+enum { MOST_BUCKETS = 65536, MOST_PACKETS = 65536 };
+
+// Packets of flows, each flow by its number.
+struct packets {
+    size_t length;
+    uint32_t flows[MOST_PACKETS];
+    uint32_t numbers[MOST_PACKETS];
+};
+
+struct stream {
+    size_t length;
+    uint8_t bytes[HEAD_BYTES + PACKETS_BYTES * MOST_PACKETS + END_BYTES];
+};
+
+struct params make_params(uint64_t *seed, uint32_t d, uint32_t m);
+
+// Flows anywhere among all flow numbers, each by 1 to most_number packets.
+void make_packets(struct packets *packets, uint64_t *seed, size_t length, uint32_t most_number);
+
+void make_stream(struct stream *stream, const struct params *params, const struct packets *packets);
+
+#endif

@@ -1,0 +1,236 @@
+// Measures the library against the baseline, case by case: equal results first, then alternating timed runs.
+// `measure time` times every case and prints a line for each; `measure list` only says what the cases are.
+// `measure CASE ours|baseline RUNS` does one side's runs of a case untimed, for whoever counts its instructions.
+#include "sides.h"
+
+#include <stdio.h>
+#include <stdlib.h>
+#include <string.h>
+#include <time.h>
+
+enum { MOST_CASES = 64, MOST_ROUNDS = 25, MOST_NUMBER = 64, SEED = 6 };
+
+// Instructions are counted over fewer packets than are timed, since counting is slow and they are the same for every packet.
+enum { TIMED_PACKETS = MOST_PACKETS, COUNTED_PACKETS = 2048 };
+
+// A sample is as many runs as take so long together, and a case takes no new round once it has had its time.
+static const double sample_seconds = 0.004;
+static const double case_seconds = 2;
+
+static const struct shape {
+    uint32_t d;
+    uint32_t m;
+} shapes[] = {{3, 341}, {3, 1365}, {3, 5461}, {3, 16384}, {4, 16384}};
+
+// What is measured: an operation under parameters of a shape. A walk has so many lost flows in a hundred buckets, each by up to
+// most_lost packets.
+struct plan {
+    const struct operation *operation;
+    struct shape shape;
+    uint32_t load;
+    uint32_t most_lost;
+};
+
+struct plans {
+    size_t length;
+    struct plan plans[MOST_CASES];
+};
+
+static struct given given;
+static struct side our_side, baseline_side;
+
+static struct plans all_plans(void) {
+    static const struct operation *const plain[] = {&insert, &insert_all, &read_stream, &subtract};
+    static const uint32_t loads[] = {40, 60, 80};
+    static const uint32_t most_lost[] = {1, 64};
+    const size_t shape_count = sizeof shapes / sizeof *shapes;
+    struct plans all = {0};
+    for (size_t i = 0; i < sizeof plain / sizeof *plain; i++)
+        for (size_t j = 0; j < shape_count; j++)
+            all.plans[all.length++] = (struct plan){plain[i], shapes[j], 0, 0};
+    for (size_t k = 0; k < 2; k++)
+        for (size_t i = 0; i < sizeof loads / sizeof *loads; i++)
+            for (size_t j = 0; j < shape_count; j++)
+                all.plans[all.length++] = (struct plan){&peel, shapes[j], loads[i], most_lost[k]};
+    return all;
+}
+
+static void put_in(int32_t *counts, uint32_t *idsums, size_t packets) {
+    struct sketch sketch = {given.params, counts, idsums};
+    size_t place;
+    memset(counts, 0, sizeof *counts * size_of(&given.params));
+    memset(idsums, 0, sizeof *idsums * size_of(&given.params));
+    baseline_insert_all(&sketch, given.packets.flows, given.packets.numbers, packets, &place);
+}
+
+// The data of a plan. Packets go into an empty sketch; a difference and a walk begin with all of them in it.
+static void prepare(const struct plan *plan, size_t packets) {
+    uint64_t seed = SEED;
+    given.params = make_params(&seed, plan->shape.d, plan->shape.m);
+    size_t size = size_of(&given.params);
+    if (plan->operation == &peel)
+        make_packets(&given.packets, &seed, size * plan->load / 100, plan->most_lost);
+    else
+        make_packets(&given.packets, &seed, packets, MOST_NUMBER);
+    make_stream(&given.stream, &given.params, &given.packets);
+    int begins_full = plan->operation == &subtract || plan->operation == &peel;
+    put_in(given.start_counts, given.start_idsums, begins_full ? given.packets.length : 0);
+    put_in(given.other_counts, given.other_idsums, given.packets.length / 2);
+}
+
+static void start_again(struct side *side) {
+    memcpy(side->counts, given.start_counts, sizeof *side->counts * size_of(&given.params));
+    memcpy(side->idsums, given.start_idsums, sizeof *side->idsums * size_of(&given.params));
+}
+
+static void run(call *call, struct side *side) {
+    start_again(side);
+    call(&given, side);
+}
+
+static int have_equal_results(void) {
+    const struct side *x = &our_side, *y = &baseline_side;
+    return x->answer == y->answer && (x->answer == DONE || x->place == y->place) &&
+           memcmp(x->counts, y->counts, sizeof x->counts) == 0 && memcmp(x->idsums, y->idsums, sizeof x->idsums) == 0 &&
+           memcmp(x->table_flows, y->table_flows, sizeof x->table_flows) == 0 &&
+           memcmp(x->table_counts, y->table_counts, sizeof x->table_counts) == 0 &&
+           x->figures.ending == y->figures.ending && x->figures.entries == y->figures.entries &&
+           x->figures.net == y->figures.net && x->figures.pops == y->figures.pops;
+}
+
+static double now(void) {
+    struct timespec t;
+    clock_gettime(CLOCK_PROCESS_CPUTIME_ID, &t);
+    return (double)t.tv_sec + 1e-9 * (double)t.tv_nsec;
+}
+
+// The seconds of a run of either side.
+struct round {
+    double ours;
+    double baseline;
+};
+
+// Each side once; the program ends where they differ, or where the answer is not the one that is due.
+static struct round check(const struct plan *plan, uint32_t due) {
+    double start = now();
+    run(plan->operation->ours, &our_side);
+    double middle = now();
+    run(plan->operation->baseline, &baseline_side);
+    double end = now();
+    if (!have_equal_results() || our_side.answer != due) {
+        printf("%s over %u buckets: the results differ\n", plan->operation->name, size_of(&given.params));
+        exit(1);
+    }
+    return (struct round){middle - start, end - middle};
+}
+
+// A stream with a wrong end is refused, and its packets are taken out again.
+static void check_refused_stream(const struct plan *plan) {
+    uint8_t *last = &given.stream.bytes[given.stream.length - 1];
+    *last ^= 1;
+    check(plan, FORM);
+    *last ^= 1;
+}
+
+// The seconds of one run.
+static double sample(call *call, struct side *side) {
+    double spent = 0;
+    uint32_t runs = 0;
+    while (spent < sample_seconds) {
+        start_again(side);
+        double before = now();
+        call(&given, side);
+        spent += now() - before;
+        runs++;
+    }
+    return spent / runs;
+}
+
+static int compare_numbers(const void *first, const void *second) {
+    double x = *(const double *)first, y = *(const double *)second;
+    return (x > y) - (x < y);
+}
+
+static double median(double *numbers, size_t length) {
+    qsort(numbers, length, sizeof *numbers, compare_numbers);
+    return length % 2 ? numbers[length / 2] : (numbers[length / 2 - 1] + numbers[length / 2]) / 2;
+}
+
+static void print_plan(size_t number, const struct plan *plan) {
+    printf("%zu\t%s\t%u\t%u\t%u\t%u", number, plan->operation->name, plan->shape.d * plan->shape.m, plan->shape.d, plan->load,
+           plan->most_lost);
+}
+
+// Behind the plan: how the walk ended, the rounds, the nanoseconds a packet or a bucket of ours and of the baseline, the ratio.
+static void print_result(const struct plan *plan, size_t rounds, struct round medians, double ratio) {
+    double units = plan->operation == &subtract || plan->operation == &peel ? size_of(&given.params) : TIMED_PACKETS;
+    printf("\t%d\t%u\t%zu\t%.1f\t%.1f\t%.3f\n", our_side.figures.ending, our_side.figures.pops, rounds,
+           1e9 * medians.ours / units, 1e9 * medians.baseline / units, ratio);
+    fflush(NULL);
+}
+
+// Rounds of a sample of each side, which goes first in turn. The run of the check is the only round where it took the case's time.
+static void measure(const struct plan *plan, struct round checked) {
+    if (checked.ours + checked.baseline > case_seconds) {
+        print_result(plan, 1, checked, checked.ours / checked.baseline);
+        return;
+    }
+    double ours[MOST_ROUNDS], baseline[MOST_ROUNDS], ratios[MOST_ROUNDS];
+    size_t rounds = 0;
+    double start = now();
+    while (rounds < MOST_ROUNDS && (rounds == 0 || now() - start < case_seconds)) {
+        if (rounds % 2 == 0)
+            ours[rounds] = sample(plan->operation->ours, &our_side);
+        baseline[rounds] = sample(plan->operation->baseline, &baseline_side);
+        if (rounds % 2 != 0)
+            ours[rounds] = sample(plan->operation->ours, &our_side);
+        ratios[rounds] = ours[rounds] / baseline[rounds];
+        rounds++;
+    }
+    struct round medians = {median(ours, rounds), median(baseline, rounds)};
+    print_result(plan, rounds, medians, median(ratios, rounds));
+}
+
+static void check_and_measure_all(const struct plans *all) {
+    for (size_t i = 0; i < all->length; i++) {
+        const struct plan *plan = &all->plans[i];
+        prepare(plan, TIMED_PACKETS);
+        if (plan->operation == &read_stream)
+            check_refused_stream(plan);
+        struct round checked = check(plan, DONE);
+        print_plan(i, plan);
+        measure(plan, checked);
+    }
+}
+
+static void list_all(const struct plans *all) {
+    for (size_t i = 0; i < all->length; i++) {
+        print_plan(i, &all->plans[i]);
+        printf("\n");
+    }
+}
+
+static void repeat(const struct plan *plan, const char *side, int runs) {
+    prepare(plan, COUNTED_PACKETS);
+    for (int i = 0; i < runs; i++) {
+        if (strcmp(side, "ours") == 0)
+            run(plan->operation->ours, &our_side);
+        else
+            run(plan->operation->baseline, &baseline_side);
+    }
+}
+
+int main(int words, char **word) {
+    struct plans all = all_plans();
+    if (words == 2 && strcmp(word[1], "time") == 0) {
+        check_and_measure_all(&all);
+    } else if (words == 2 && strcmp(word[1], "list") == 0) {
+        list_all(&all);
+    } else if (words == 4 && (size_t)atoi(word[1]) < all.length) {
+        repeat(&all.plans[atoi(word[1])], word[2], atoi(word[3]));
+    } else {
+        printf("usage: measure time | list | CASE ours|baseline RUNS\n");
+        return 1;
+    }
+    return 0;
+}

@@ -1,0 +1,114 @@
+// Each operation as the library does it, through its C face, and as the baseline does it.
+#include "sides.h"
+
+#include "gabunlitik.h"
+
+enum { CELLS_LOG2 = 17 };
+
+// What a walk needs beside the sketch and the table. Neither side reads what it held before.
+static uint32_t queue[MOST_BUCKETS];
+static uint32_t marks[MOST_BUCKETS];
+static uint8_t waiting[MOST_BUCKETS];
+static uint32_t cells[1 << CELLS_LOG2];
+
+// The parameters as the face takes them.
+struct words {
+    uint32_t words[10];
+};
+
+static struct words words_of(const struct params *params) {
+    struct words w = {{params->d, params->m}};
+    for (int i = 0; i < 4; i++) {
+        w.words[2 + i] = params->a[i];
+        w.words[6 + i] = params->b[i];
+    }
+    return w;
+}
+
+static struct sketch sketch_of(const struct given *given, struct side *side) {
+    return (struct sketch){given->params, side->counts, side->idsums};
+}
+
+static void our_insert(const struct given *given, struct side *side) {
+    struct words w = words_of(&given->params);
+    size_t n = size_of(&given->params);
+    side->answer = DONE;
+    for (size_t i = 0; i < given->packets.length && side->answer == DONE; i++)
+        side->answer = gabunlitik_insert(w.words, side->counts, n, side->idsums, n, given->packets.flows[i],
+                                         given->packets.numbers[i], &side->place);
+}
+
+static void baseline_insert_each(const struct given *given, struct side *side) {
+    struct sketch sketch = sketch_of(given, side);
+    side->answer = DONE;
+    for (size_t i = 0; i < given->packets.length && side->answer == DONE; i++)
+        side->answer =
+            baseline_insert(&sketch, given->packets.flows[i], given->packets.numbers[i], &side->place);
+}
+
+static void our_insert_all(const struct given *given, struct side *side) {
+    struct words w = words_of(&given->params);
+    size_t n = size_of(&given->params);
+    const struct packets *packets = &given->packets;
+    side->answer = gabunlitik_insert_all(w.words, side->counts, n, side->idsums, n, packets->flows, packets->length,
+                                         packets->numbers, packets->length, &side->place);
+}
+
+static void baseline_insert_all_at_once(const struct given *given, struct side *side) {
+    struct sketch sketch = sketch_of(given, side);
+    const struct packets *packets = &given->packets;
+    side->answer = baseline_insert_all(&sketch, packets->flows, packets->numbers, packets->length, &side->place);
+}
+
+static void our_read_stream(const struct given *given, struct side *side) {
+    struct words w = words_of(&given->params);
+    size_t n = size_of(&given->params);
+    side->answer = gabunlitik_read_stream(w.words, side->counts, n, side->idsums, n, given->stream.bytes,
+                                          given->stream.length, &side->place);
+}
+
+static void baseline_read_whole_stream(const struct given *given, struct side *side) {
+    struct sketch sketch = sketch_of(given, side);
+    side->answer = baseline_read_stream(&sketch, given->stream.bytes, given->stream.length, &side->place);
+}
+
+static void our_subtract(const struct given *given, struct side *side) {
+    struct words w = words_of(&given->params);
+    size_t n = size_of(&given->params);
+    side->answer = gabunlitik_subtract(w.words, w.words, side->counts, n, side->idsums, n, given->other_counts, n,
+                                       given->other_idsums, n, &side->place);
+}
+
+static void baseline_subtract_other(const struct given *given, struct side *side) {
+    struct sketch sketch = sketch_of(given, side);
+    struct sketch other = {given->params, (int32_t *)given->other_counts, (uint32_t *)given->other_idsums};
+    side->answer = baseline_subtract(&sketch, &other, &side->place);
+}
+
+// As many pops and slots as the report program allows.
+static void our_peel(const struct given *given, struct side *side) {
+    struct words w = words_of(&given->params);
+    size_t n = size_of(&given->params);
+    int64_t told[4];
+    side->answer = gabunlitik_peel(w.words, side->counts, n, side->idsums, n, side->table_flows, n, side->table_counts, n,
+                                   queue, n, marks, n, 8 * (uint32_t)n, told, &side->place);
+    side->figures = (struct figures){(enum ending)told[0], (uint32_t)told[1], told[2], (uint32_t)told[3]};
+}
+
+// The cells are the fewest that are at least twice the slots, so that clearing them costs no more than it must.
+static void baseline_peel_whole(const struct given *given, struct side *side) {
+    struct sketch sketch = sketch_of(given, side);
+    uint32_t n = size_of(&given->params);
+    struct table table = {side->table_flows, side->table_counts, n};
+    struct room room = {queue, waiting, cells, 1};
+    while (1u << room.cells_log2 < 2 * n)
+        room.cells_log2++;
+    side->answer = DONE;
+    side->figures = baseline_peel(&sketch, &table, &room, 8 * n);
+}
+
+const struct operation insert = {"insert", our_insert, baseline_insert_each};
+const struct operation insert_all = {"insert_all", our_insert_all, baseline_insert_all_at_once};
+const struct operation read_stream = {"read_stream", our_read_stream, baseline_read_whole_stream};
+const struct operation subtract = {"subtract", our_subtract, baseline_subtract_other};
+const struct operation peel = {"peel", our_peel, baseline_peel_whole};

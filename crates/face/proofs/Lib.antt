@@ -1,0 +1,2 @@
+-- The laws of what a caller in C is told.
+pub mod Telling

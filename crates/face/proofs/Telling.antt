@@ -1,0 +1,64 @@
+-- What a caller in C is told of a call: the library's contract holds of the answer that came back, which is the one of the definition.
+use mathlib.Core.Path.{_≡_, refl, sym, ap, subst, _∙_}
+use mathlib.Core.List.{List}
+use Prim.Native.Nat.{ℕ, _≤_}
+use native.Mathlib.Nat.{le-trans}
+use native.Mathlib.Omega.{arith}
+use lib.IntN.{ℤ}
+use lib.ListN.{length}
+use Rattle.params.specs.declared.params.Params.{Params}
+use Rattle.params.specs.declared.answers.Answer.{Answer}
+use Rattle.params.specs.declared.answers.Answer.the-variants.{Done, Refused}
+use Rattle.params.specs.Answers.{numberIn, indexIn}
+use Rattle.sketch.specs.Sketch.{Sketch}
+use Rattle.walk.specs.Walk.{Outcome, close}
+use Rattle.walk.proofs.Promises.{listed-few}
+use Rattle.files.specs.declared.writing.Written.{Written}
+use Rattle.files.specs.Writing.{writtenNumber, writtenIndex, writtenLength}
+use Rattle.peel.specs.declared.peeling.Peeled.{Peeled}
+use Rattle.peel.specs.Peel.{peeledOf, peeledNumber, peeledIndex, peeledEntries, judged, walked, Peels}
+use Rattle.peel.proofs.Judged.{judged-sound}
+use Rattle.face.specs.Told.{figuresIn, Told, ToldLength, ToldFigures}
+
+pub told : {answer : Answer} {Contract : Answer → Type 0} {number place : ℕ} (x : Answer)
+    → x ≡ answer → Contract x → (number ≡ numberIn x) × (place ≡ indexIn x) → Told answer Contract number place
+told {Contract} x e held t =
+    record {
+      number-told = t .0 ∙ ap numberIn e;
+      place-told = t .1 ∙ ap indexIn e;
+      call = subst Contract e held;
+    }
+
+pub told-length : {written : Written} {Contract : Written → Type 0} {number place long : ℕ} (x : Written)
+    → x ≡ written → Contract x → (number ≡ writtenNumber x) × (place ≡ writtenIndex x) × (long ≡ writtenLength x)
+    → ToldLength written Contract number place long
+told-length {Contract} x e held t =
+    record {
+      number-told = t .0 ∙ ap writtenNumber e;
+      place-told = t .1 ∙ ap writtenIndex e;
+      length-told = t .2 ∙ ap writtenLength e;
+      call = subst Contract e held;
+    }
+
+pub told-figures : {peeled : Peeled} {Contract : Peeled → Type 0} {number place : ℕ} {figures : List ℤ} (x : Peeled)
+    → x ≡ peeled → Contract x → (number ≡ peeledNumber x) × (place ≡ peeledIndex x) × (figures ≡ figuresIn x)
+    → ToldFigures peeled Contract number place figures
+told-figures {Contract} x e held t =
+    record {
+      number-told = t .0 ∙ ap peeledNumber e;
+      place-told = t .1 ∙ ap peeledIndex e;
+      figures-told = t .2 ∙ ap figuresIn e;
+      call = subst Contract e held;
+    }
+
+-- a table never has more entries than a table may have slots
+few-in : (x : Answer) (o : Outcome) → (x ≡ Done → length (close (o .table)) ≤ 65536) → peeledEntries (peeledOf x o) ≤ 65536
+few-in Done o few = few refl
+few-in (Refused w k) o few = omega arith
+
+module _ {P : Params} {a : ℕ} {S : Sketch} {fs : List ℕ} {ns : List ℤ} {q ms : List ℕ} {r : Peeled} {S' : Sketch} {fs' : List ℕ} {ns' : List ℤ} {q' ms' : List ℕ}
+    (h : Peels P a S fs ns q ms r S' fs' ns' q' ms') where
+  pub entries-few : peeledEntries r ≤ 65536
+  entries-few =
+      subst (λ (x : Peeled). peeledEntries x ≤ 65536) (sym (h .answer))
+      (few-in (judged P a S fs ns q ms) (walked P a S fs ns q ms) (λ done. le-trans (listed-few P (length fs) a S) (judged-sound P (S .counts) (S .idsums) fs ns q ms done .few-slots)))

@@ -1,0 +1,28 @@
+-- `face::filing::gabunlitik_write_stream` meets its contract: what the library promises of the call, told in numbers.
+use Rattle.face.proofs.Telling.{told-length}
+use borrow.Author.Needs.{needs}
+use Rattle.face.proofs.filing.gabunlitik_write_stream.Statement.{statement}
+use Rattle.face.proofs.filing.gabunlitik_write_stream.Tie as tie
+
+params-of-requires : tie.Need-params-of-requires
+params-of-requires c κs = search needs
+
+write-stream-requires : tie.Need-write-stream-requires
+write-stream-requires c κs = search needs
+
+tell-written-requires : tie.Need-tell-written-requires
+tell-written-requires c κs = search needs
+
+same-length : tie.Need-same-length
+same-length c = search needs
+
+returns : tie.Need-returns
+returns c =
+    let s = c .before .before .before .before .before in
+    let held = rw (s .before .before .params-of .ensures) at (s .write-stream .ensures) in
+    told-length _ (held .answer) held (c .tell-written .ensures)
+
+pub gabunlitik-write-stream-spec : {M : Type 1} → statement M
+gabunlitik-write-stream-spec =
+    tie.close
+    (tie.spec params-of-requires write-stream-requires tell-written-requires same-length returns)

@@ -1,0 +1,56 @@
+-- What each call from C answers and leaves: the library's own contract of the same call, at the answer that the library's definition
+-- gives. r and k are the number and the place that the caller is told; S is the lent sketch before, S' after.
+use mathlib.Core.Bool.{Bool, false}
+use mathlib.Core.List.{List}
+use Prim.Native.Nat.{ℕ}
+use lib.IntN.{ℤ}
+use lib.ListN.{length}
+use Rattle.params.specs.declared.params.Params.{Params}
+use Rattle.params.specs.declared.answers.Answer.{Answer}
+use Rattle.params.specs.Params.{shapeAnswer}
+use Rattle.sketch.specs.Sketch.{Sketch, Freshened}
+use Rattle.sketch.specs.Packets.{moveAnswer, allAnswer, Inserted, AllInserted}
+use Rattle.sums.specs.Sums.{combineAnswer, Combined}
+use Rattle.peel.specs.declared.peeling.Peeled.{Peeled}
+use Rattle.peel.specs.Peel.{peeledOf, judged, walked, Peels}
+use Rattle.files.specs.declared.writing.Written.{Written}
+use Rattle.files.specs.Writing.{writtenOf}
+use Rattle.streamfile.specs.Streams.{streamAnswer, StreamRead}
+use Rattle.streamfile.specs.Writing as streams
+use Rattle.sketchfile.specs.Stored.{sketchAnswer, SketchRead}
+use Rattle.sketchfile.specs.Writing as sketches
+use Rattle.face.specs.Told.{Told, ToldLength, ToldFigures}
+
+abbrev pub FreshenedFor : Params → Sketch → ℕ → ℕ → Sketch → Type 0
+FreshenedFor P S r k S' = Told (shapeAnswer P (length (S .counts)) (length (S .idsums))) (λ x. Freshened P S x S') r k
+
+abbrev pub InsertedFor : Params → ℕ → ℕ → Sketch → ℕ → ℕ → Sketch → Type 0
+InsertedFor P f n S r k S' = Told (moveAnswer P false f n S) (λ x. Inserted P f n S x S') r k
+
+abbrev pub AllInsertedFor : Params → List ℕ → List ℕ → Sketch → ℕ → ℕ → Sketch → Type 0
+AllInsertedFor P fs ns S r k S' = Told (allAnswer P fs ns S) (λ x. AllInserted P fs ns S x S') r k
+
+-- the sum with T, or the difference where `minus` holds
+abbrev pub CombinedFor : Bool → Params → Params → Sketch → Sketch → ℕ → ℕ → Sketch → Type 0
+CombinedFor minus P Q S T r k S' = Told (combineAnswer minus P Q S T) (λ x. Combined minus P Q S T x S') r k
+
+abbrev pub StreamReadFor : Params → List ℕ → Sketch → ℕ → ℕ → Sketch → Type 0
+StreamReadFor P bs S r k S' = Told (streamAnswer P bs S) (λ x. StreamRead P bs S x S') r k
+
+abbrev pub SketchReadFor : Params → List ℕ → Sketch → ℕ → ℕ → Sketch → Type 0
+SketchReadFor P bs S r k S' = Told (sketchAnswer P bs (length (S .counts)) (length (S .idsums))) (λ x. SketchRead P bs S x S') r k
+
+-- n is the length that the caller is told; out is the output before, out' after
+abbrev pub StreamWrittenFor : Params → List ℕ → List ℕ → List ℕ → ℕ → ℕ → ℕ → List ℕ → Type 0
+StreamWrittenFor P fs ns out r k n out' =
+    ToldLength (writtenOf (streams.streamWriting P fs ns (length out)) (length (streams.streamBytes P fs ns))) (λ x. streams.StreamWritten P fs ns out x out') r k n
+
+abbrev pub SketchWrittenFor : Params → Sketch → List ℕ → ℕ → ℕ → ℕ → List ℕ → Type 0
+SketchWrittenFor P S out r k n out' =
+    ToldLength (writtenOf (sketches.sketchWriting P S (length out)) (length (sketches.sketchBytes P S))) (λ x. sketches.SketchWritten P S out x out') r k n
+
+-- gs are the figures that the caller is told; fs, ns, q and ms the table's slices, the queue and the marks before, with a tick after
+module _ (P : Params) (allowance : ℕ) (S : Sketch) (fs : List ℕ) (ns : List ℤ) (q ms : List ℕ) where
+  abbrev pub PeelsFor : ℕ → ℕ → List ℤ → Sketch → List ℕ → List ℤ → List ℕ → List ℕ → Type 0
+  PeelsFor r k gs S' fs' ns' q' ms' =
+      ToldFigures (peeledOf (judged P allowance S fs ns q ms) (walked P allowance S fs ns q ms)) (λ x. Peels P allowance S fs ns q ms x S' fs' ns' q' ms') r k gs

@@ -1,0 +1,46 @@
+-- Ten numbers as parameters, and an answer as the numbers that a caller in C is told.
+use mathlib.Core.Path.{_≡_}
+use mathlib.Core.List.{List, [], _∷_}
+use Prim.Native.Nat.{ℕ}
+use lib.IntN.{ℤ, pos}
+use lib.ListN.{getD}
+use Rattle.params.specs.declared.params.Params.{Params}
+use Rattle.params.specs.declared.answers.Answer.{Answer}
+use Rattle.params.specs.Answers.{numberIn, indexIn}
+use Rattle.files.specs.declared.writing.Written.{Written}
+use Rattle.files.specs.Writing.{writtenNumber, writtenIndex, writtenLength}
+use Rattle.peel.specs.declared.peeling.Peeled.{Peeled}
+use Rattle.peel.specs.Peel.{peeledNumber, peeledIndex, peeledEnding, peeledEntries, peeledNet, peeledPops}
+
+-- d, m, the four multipliers, the four offsets
+unfoldable pub paramsOf : List ℕ → Params
+paramsOf ns =
+    record {
+      d = getD ns 0 0;
+      m = getD ns 1 0;
+      a = getD ns 2 0 ∷ getD ns 3 0 ∷ getD ns 4 0 ∷ getD ns 5 0 ∷ [];
+      b = getD ns 6 0 ∷ getD ns 7 0 ∷ getD ns 8 0 ∷ getD ns 9 0 ∷ [];
+    }
+
+-- the ending's number, the entries, the net figure and the pops
+abbrev pub figuresIn : Peeled → List ℤ
+figuresIn x = pos (peeledEnding x) ∷ pos (peeledEntries x) ∷ peeledNet x ∷ pos (peeledPops x) ∷ []
+
+-- What a caller is told of an answer, its number and its place, where `Contract` is what the library promises of a call that
+-- gives this answer; and the same with the length that a writer gives and with the figures of a walk.
+pub record Told (answer : Answer) (Contract : Answer → Type 0) (number place : ℕ) : Type 0 where
+  pub number-told : number ≡ numberIn answer
+  pub place-told : place ≡ indexIn answer
+  pub call : Contract answer
+
+pub record ToldLength (written : Written) (Contract : Written → Type 0) (number place length : ℕ) : Type 0 where
+  pub number-told : number ≡ writtenNumber written
+  pub place-told : place ≡ writtenIndex written
+  pub length-told : length ≡ writtenLength written
+  pub call : Contract written
+
+pub record ToldFigures (peeled : Peeled) (Contract : Peeled → Type 0) (number place : ℕ) (figures : List ℤ) : Type 0 where
+  pub number-told : number ≡ peeledNumber peeled
+  pub place-told : place ≡ peeledIndex peeled
+  pub figures-told : figures ≡ figuresIn peeled
+  pub call : Contract peeled

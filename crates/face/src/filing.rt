@@ -1,0 +1,73 @@
+// Stream files and sketch files, read and written, for C.
+ghost use Rattle.sketch.specs.Sketch.{sketch};
+ghost use Rattle.face.specs.Told.{paramsOf};
+ghost use Rattle.face.specs.Calls.{StreamReadFor, StreamWrittenFor, SketchReadFor, SketchWrittenFor};
+use crate::told::params_of;
+use crate::told::tell;
+use crate::told::tell_written;
+use sketchfile::reading::read_sketch;
+use sketchfile::writing::write_sketch;
+use streamfile::reading::read_stream;
+use streamfile::writing::write_stream;
+
+// Inserts the packets of a stream file.
+#[no_mangle]
+pub extern "C" fn gabunlitik_read_stream(
+    params: &[u32; 10],
+    counts: &mut [i32],
+    idsums: &mut [u32],
+    bytes: &[u8],
+    place: &mut usize,
+) -> u32
+    ensures { λ r. ⌜ StreamReadFor (paramsOf (now (params .entry))) (now (bytes .entry)) (sketch (now (counts .entry)) (now (idsums .entry))) r (now (place .exit)) (sketch (now (counts .exit)) (now (idsums .exit))) ⌝ }
+{
+    let answer = read_stream(params_of(params), counts, idsums, bytes);
+    tell(answer, place)
+}
+
+// Writes the stream file of these flows, each by its number.
+#[no_mangle]
+pub extern "C" fn gabunlitik_write_stream(
+    params: &[u32; 10],
+    flows: &[u32],
+    numbers: &[u32],
+    out: &mut [u8],
+    length: &mut usize,
+    place: &mut usize,
+) -> u32
+    ensures { λ r. ⌜ StreamWrittenFor (paramsOf (now (params .entry))) (now (flows .entry)) (now (numbers .entry)) (now (out .entry)) r (now (place .exit)) (now (length .exit)) (now (out .exit)) ⌝ }
+{
+    let written = write_stream(params_of(params), flows, numbers, out);
+    tell_written(written, length, place)
+}
+
+// Reads a sketch file in place of the lent sketch's content.
+#[no_mangle]
+pub extern "C" fn gabunlitik_read_sketch(
+    params: &[u32; 10],
+    counts: &mut [i32],
+    idsums: &mut [u32],
+    bytes: &[u8],
+    place: &mut usize,
+) -> u32
+    ensures { λ r. ⌜ SketchReadFor (paramsOf (now (params .entry))) (now (bytes .entry)) (sketch (now (counts .entry)) (now (idsums .entry))) r (now (place .exit)) (sketch (now (counts .exit)) (now (idsums .exit))) ⌝ }
+{
+    let answer = read_sketch(params_of(params), counts, idsums, bytes);
+    tell(answer, place)
+}
+
+// Writes the file of a sketch.
+#[no_mangle]
+pub extern "C" fn gabunlitik_write_sketch(
+    params: &[u32; 10],
+    counts: &[i32],
+    idsums: &[u32],
+    out: &mut [u8],
+    length: &mut usize,
+    place: &mut usize,
+) -> u32
+    ensures { λ r. ⌜ SketchWrittenFor (paramsOf (now (params .entry))) (sketch (now (counts .entry)) (now (idsums .entry))) (now (out .entry)) r (now (place .exit)) (now (length .exit)) (now (out .exit)) ⌝ }
+{
+    let written = write_sketch(params_of(params), counts, idsums, out);
+    tell_written(written, length, place)
+}

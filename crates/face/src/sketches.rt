@@ -1,0 +1,96 @@
+// Fresh sketches, packets put in, and sums and differences of two sketches, for C.
+ghost use mathlib.Core.Bool.{true, false};
+ghost use Rattle.sketch.specs.Sketch.{sketch};
+ghost use Rattle.face.specs.Told.{paramsOf};
+ghost use Rattle.face.specs.Calls.{FreshenedFor, InsertedFor, AllInsertedFor, CombinedFor};
+use crate::told::params_of;
+use crate::told::tell;
+use sketch::packets::fresh;
+use sketch::packets::insert;
+use sketch::packets::insert_all;
+use sums::add;
+use sums::subtract;
+
+// Zeros everywhere, whatever was there.
+#[no_mangle]
+pub extern "C" fn gabunlitik_fresh(
+    params: &[u32; 10],
+    counts: &mut [i32],
+    idsums: &mut [u32],
+    place: &mut usize,
+) -> u32
+    ensures { λ r. ⌜ FreshenedFor (paramsOf (now (params .entry))) (sketch (now (counts .entry)) (now (idsums .entry))) r (now (place .exit)) (sketch (now (counts .exit)) (now (idsums .exit))) ⌝ }
+{
+    let answer = fresh(params_of(params), counts, idsums);
+    tell(answer, place)
+}
+
+// Puts `number` packets of a flow in.
+#[no_mangle]
+pub extern "C" fn gabunlitik_insert(
+    params: &[u32; 10],
+    counts: &mut [i32],
+    idsums: &mut [u32],
+    flow: u32,
+    number: u32,
+    place: &mut usize,
+) -> u32
+    ensures { λ r. ⌜ InsertedFor (paramsOf (now (params .entry))) flow number (sketch (now (counts .entry)) (now (idsums .entry))) r (now (place .exit)) (sketch (now (counts .exit)) (now (idsums .exit))) ⌝ }
+{
+    let answer = insert(params_of(params), counts, idsums, flow, number);
+    tell(answer, place)
+}
+
+// Puts many packets in, each flow by its number, or none of them.
+#[no_mangle]
+pub extern "C" fn gabunlitik_insert_all(
+    params: &[u32; 10],
+    counts: &mut [i32],
+    idsums: &mut [u32],
+    flows: &[u32],
+    numbers: &[u32],
+    place: &mut usize,
+) -> u32
+    ensures { λ r. ⌜ AllInsertedFor (paramsOf (now (params .entry))) (now (flows .entry)) (now (numbers .entry)) (sketch (now (counts .entry)) (now (idsums .entry))) r (now (place .exit)) (sketch (now (counts .exit)) (now (idsums .exit))) ⌝ }
+{
+    let answer = insert_all(params_of(params), counts, idsums, flows, numbers);
+    tell(answer, place)
+}
+
+// Adds the other sketch to the first, bucket by bucket.
+#[no_mangle]
+pub extern "C" fn gabunlitik_add(
+    params: &[u32; 10],
+    other_params: &[u32; 10],
+    counts: &mut [i32],
+    idsums: &mut [u32],
+    other_counts: &[i32],
+    other_idsums: &[u32],
+    place: &mut usize,
+) -> u32
+    ensures { λ r. ⌜ CombinedFor false (paramsOf (now (params .entry))) (paramsOf (now («other_params» .entry))) (sketch (now (counts .entry)) (now (idsums .entry))) (sketch (now («other_counts» .entry)) (now («other_idsums» .entry))) r (now (place .exit)) (sketch (now (counts .exit)) (now (idsums .exit))) ⌝ }
+{
+    let p = params_of(params);
+    let q = params_of(other_params);
+    let answer = add(p, q, counts, idsums, other_counts, other_idsums);
+    tell(answer, place)
+}
+
+// Takes the other sketch from the first, bucket by bucket.
+#[no_mangle]
+pub extern "C" fn gabunlitik_subtract(
+    params: &[u32; 10],
+    other_params: &[u32; 10],
+    counts: &mut [i32],
+    idsums: &mut [u32],
+    other_counts: &[i32],
+    other_idsums: &[u32],
+    place: &mut usize,
+) -> u32
+    ensures { λ r. ⌜ CombinedFor true (paramsOf (now (params .entry))) (paramsOf (now («other_params» .entry))) (sketch (now (counts .entry)) (now (idsums .entry))) (sketch (now («other_counts» .entry)) (now («other_idsums» .entry))) r (now (place .exit)) (sketch (now (counts .exit)) (now (idsums .exit))) ⌝ }
+{
+    let p = params_of(params);
+    let q = params_of(other_params);
+    let answer = subtract(p, q, counts, idsums, other_counts, other_idsums);
+    tell(answer, place)
+}

@@ -1,0 +1,106 @@
+// Parameters from ten numbers, and answers as numbers: C knows neither our structs nor our enums.
+ghost use mathlib.Core.Path.{_≡_};
+ghost use Prim.Native.Nat.{_≤_};
+ghost use Rattle.params.specs.Answers.{numberIn, indexIn};
+ghost use Rattle.files.specs.Writing.{writtenNumber, writtenIndex, writtenLength};
+ghost use Rattle.walk.specs.Endings.{endingNumber};
+ghost use Rattle.peel.specs.Peel.{peeledNumber, peeledIndex, peeledEntries};
+ghost use Rattle.face.specs.Told.{paramsOf, figuresIn};
+use files::writing::Written;
+use params::Answer;
+use params::Params;
+use peel::peeling::Peeled;
+use walk::Ending;
+
+fn wide(n: u32) -> usize
+    ensures { λ r. ⌜ r ≡ n ⌝ }
+{
+    n as usize
+}
+
+// d, m, the four multipliers, the four offsets.
+pub(crate) fn params_of(params: &[u32; 10]) -> Params
+    ensures { λ r. ⌜ r ≡ paramsOf (now (params .entry)) ⌝ }
+{
+    let a = [params[2], params[3], params[4], params[5]];
+    let b = [params[6], params[7], params[8], params[9]];
+    Params {
+        d: wide(params[0]),
+        m: wide(params[1]),
+        a,
+        b,
+    }
+}
+
+// Writes an answer's place and gives its number.
+pub(crate) fn tell(answer: Answer, place: &mut usize) -> u32
+    ensures { λ r. ⌜ (r ≡ numberIn answer) × (now (place .exit) ≡ indexIn answer) ⌝ }
+{
+    match answer {
+        Answer::Done => {
+            *place = 0;
+            0
+        }
+        Answer::Refused(why, index) => {
+            *place = index;
+            why.number()
+        }
+    }
+}
+
+// The same for a writer, with the length of what was written.
+pub(crate) fn tell_written(written: Written, length: &mut usize, place: &mut usize) -> u32
+    ensures { λ r. ⌜ (r ≡ writtenNumber written) × (now (place .exit) ≡ writtenIndex written) × (now (length .exit) ≡ writtenLength written) ⌝ }
+{
+    match written {
+        Written::Bytes(bytes) => {
+            *length = bytes;
+            *place = 0;
+            0
+        }
+        Written::Refused(why, index) => {
+            *length = 0;
+            *place = index;
+            why.number()
+        }
+    }
+}
+
+fn ending_number(ending: Ending) -> u32
+    ensures { λ r. ⌜ r ≡ endingNumber ending ⌝ }
+{
+    match ending {
+        Ending::Clean => 1,
+        Ending::Stuck => 2,
+        Ending::Spent => 3,
+        Ending::NoInverse => 4,
+        Ending::Range => 5,
+        Ending::Full => 6,
+    }
+}
+
+// The same for peeling, with what the walk found.
+pub(crate) fn tell_peeled(peeled: Peeled, figures: &mut [i64; 4], place: &mut usize) -> u32
+    requires { ⌜ peeledEntries peeled ≤ 65536 ⌝ }
+    ensures { λ r. ⌜ (r ≡ peeledNumber peeled) × (now (place .exit) ≡ peeledIndex peeled) × (now (figures .exit) ≡ figuresIn peeled) ⌝ }
+{
+    match peeled {
+        Peeled::Ended(found) => {
+            let ending = found.ending;
+            let net = found.net;
+            *figures = [
+                ending_number(ending) as i64,
+                found.entries as i64,
+                net,
+                found.pops as i64,
+            ];
+            *place = 0;
+            0
+        }
+        Peeled::Refused(why, index) => {
+            *figures = [0; 4];
+            *place = index;
+            why.number()
+        }
+    }
+}

@@ -1,0 +1,36 @@
+// Peeling, for C.
+ghost use Rattle.sketch.specs.Sketch.{sketch};
+ghost use Rattle.face.specs.Told.{paramsOf};
+ghost use Rattle.face.specs.Calls.{PeelsFor};
+use crate::told::params_of;
+use crate::told::tell_peeled;
+use peel::peeling::peel;
+
+// Peels a sketch into a table and tells the ending's number, the entries, the net figure and the pops, in this order.
+#[no_mangle]
+pub extern "C" fn gabunlitik_peel(
+    params: &[u32; 10],
+    counts: &mut [i32],
+    idsums: &mut [u32],
+    table_flows: &mut [u32],
+    table_counts: &mut [i32],
+    queue: &mut [u32],
+    marks: &mut [u32],
+    allowance: u32,
+    figures: &mut [i64; 4],
+    place: &mut usize,
+) -> u32
+    ensures { λ r. ⌜ PeelsFor (paramsOf (now (params .entry))) allowance (sketch (now (counts .entry)) (now (idsums .entry))) (now («table_flows» .entry)) (now («table_counts» .entry)) (now (queue .entry)) (now (marks .entry)) r (now (place .exit)) (now (figures .exit)) (sketch (now (counts .exit)) (now (idsums .exit))) (now («table_flows» .exit)) (now («table_counts» .exit)) (now (queue .exit)) (now (marks .exit)) ⌝ }
+{
+    let peeled = peel(
+        params_of(params),
+        counts,
+        idsums,
+        table_flows,
+        table_counts,
+        queue,
+        marks,
+        allowance,
+    );
+    tell_peeled(peeled, figures, place)
+}

@@ -1,0 +1,61 @@
+/* Two switches sketch the packets that pass them; what was lost between them is the difference, peeled. Prints
+ *
+ *     loss 12 2
+ *     loss 7 1
+ *     ending 1, 3 pops, 3 packets lost
+ */
+#include <stdio.h>
+
+#include "gabunlitik.h"
+
+enum { D = 2, M = 5, BUCKETS = D * M, SLOTS = BUCKETS };
+
+static const uint32_t params[GABUNLITIK_PARAMS] = {D, M, 1, 1073741824, 0, 0, 0, 0, 0, 0};
+
+struct sketch {
+    int32_t counts[BUCKETS];
+    uint32_t idsums[BUCKETS];
+};
+
+/* Says what was refused, and gives back whether something was. */
+static int refused(const char *call, uint32_t number, size_t place) {
+    if (number != GABUNLITIK_DONE)
+        printf("%s: refused %u at %zu\n", call, number, place);
+    return number != GABUNLITIK_DONE;
+}
+
+static int build(struct sketch *s, const uint32_t *flows, const uint32_t *numbers, size_t n) {
+    size_t place;
+    uint32_t told = gabunlitik_fresh(params, s->counts, BUCKETS, s->idsums, BUCKETS, &place);
+    if (refused("fresh", told, place))
+        return 1;
+    told = gabunlitik_insert_all(params, s->counts, BUCKETS, s->idsums, BUCKETS, flows, n, numbers, n, &place);
+    return refused("insert_all", told, place);
+}
+
+int main(void) {
+    static const uint32_t sent_flows[] = {7, 12, 11}, sent[] = {3, 2, 1};
+    static const uint32_t arrived_flows[] = {7, 11}, arrived[] = {2, 1};
+    struct sketch upstream, downstream;
+    if (build(&upstream, sent_flows, sent, 3) || build(&downstream, arrived_flows, arrived, 2))
+        return 1;
+
+    size_t place;
+    uint32_t told = gabunlitik_subtract(params, params, upstream.counts, BUCKETS, upstream.idsums, BUCKETS,
+                                        downstream.counts, BUCKETS, downstream.idsums, BUCKETS, &place);
+    if (refused("subtract", told, place))
+        return 1;
+
+    uint32_t flows[SLOTS], queue[BUCKETS], marks[BUCKETS];
+    int32_t counts[SLOTS];
+    int64_t figures[GABUNLITIK_FIGURES];
+    told = gabunlitik_peel(params, upstream.counts, BUCKETS, upstream.idsums, BUCKETS, flows, SLOTS, counts, SLOTS,
+                           queue, BUCKETS, marks, BUCKETS, 8 * BUCKETS, figures, &place);
+    if (refused("peel", told, place))
+        return 1;
+    for (int64_t i = 0; i < figures[GABUNLITIK_ENTRIES]; i++)
+        printf("loss %u %d\n", flows[i], counts[i]);
+    printf("ending %lld, %lld pops, %lld packets lost\n", (long long)figures[GABUNLITIK_ENDING],
+           (long long)figures[GABUNLITIK_POPS], (long long)figures[GABUNLITIK_NET]);
+    return 0;
+}

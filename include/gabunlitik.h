@@ -1,0 +1,169 @@
+/* gabunlitik.h: packet loss measured with Fermat sketches, for C.
+ *
+ * Link target/staticlib/libface.a, which `rt staticlib face` proves and writes for x86-64 Linux. examples/lost.c is a first program.
+ *
+ * What every call promises
+ *
+ * It ends, and it takes every input: what cannot be done is refused by number. It returns 0 where it is done and else one of the
+ * refusals below. *place is then the lowest bucket at fault for DAMAGE and RANGE, the offset of the record at fault where a file is
+ * read, and 0 for anything else, as it is where nothing was refused. A refusal alters no lent memory but what the call tells through
+ * `place`, `length` and `figures`. Where several things are wrong the lowest number is told, save that MISMATCH comes after PARAM
+ * and before LENGTH, and that a file is judged in its own order (docs/FORMAT.md).
+ *
+ * What the memory must be, which no call can check
+ *
+ * A slice goes as a pointer and the number of its elements. Every pointer is aligned for its type and not NULL, even where the
+ * length is 0, and points to at least so many elements that may be read, and written where it is not const, until the call returns.
+ * Nothing that a call may write, `place`, `length` and `figures` among it, overlaps anything else that is handed to that call. What
+ * a call writes is not to be read or written by another thread meanwhile.
+ *
+ * A sketch is lent as two slices, counts and idsums, each d * m long; a slice of another length is LENGTH. The lengths are
+ * parameters of their own, so that a slice which is too short is refused and not read past its end.
+ */
+#ifndef GABUNLITIK_H
+#define GABUNLITIK_H
+
+#include <stddef.h>
+#include <stdint.h>
+
+#ifdef __cplusplus
+extern "C" {
+#endif
+
+/* What a call returns: done, or why not. */
+enum {
+    GABUNLITIK_DONE = 0,
+    GABUNLITIK_PARAM = 1,    /* the parameters break a rule */
+    GABUNLITIK_LENGTH = 2,   /* a slice has a length other than stated */
+    GABUNLITIK_FLOW = 3,     /* a flow number of 2147483647 or more */
+    GABUNLITIK_COUNT = 4,    /* a packet's number is 0, or 2147483647 or more */
+    GABUNLITIK_DAMAGE = 5,   /* a bucket that was looked at is outside its limits */
+    GABUNLITIK_RANGE = 6,    /* a new count would leave its limits */
+    GABUNLITIK_MISMATCH = 7, /* two sketches, or a sketch and a file, with different parameters */
+    GABUNLITIK_FORM = 8      /* a file breaks the layout */
+};
+
+/* The ten numbers of `params`: d arrays, 2 to 4, of m buckets each, 1 to 16384, then four multipliers and four offsets. Of the first
+ * d pairs of a multiplier and an offset no two are equal, a multiplier is 1 to 2147483646 and an offset 0 to 2147483646; the numbers
+ * of the pairs after them are 0. */
+enum {
+    GABUNLITIK_PARAMS = 10,
+    GABUNLITIK_D = 0,
+    GABUNLITIK_M = 1,
+    GABUNLITIK_MULTIPLIERS = 2,
+    GABUNLITIK_OFFSETS = 6
+};
+
+/* What a walk tells in `figures`: its ending, how many entries the table has, the sum of their counts, and the pops made. */
+enum {
+    GABUNLITIK_FIGURES = 4,
+    GABUNLITIK_ENDING = 0,
+    GABUNLITIK_ENTRIES = 1,
+    GABUNLITIK_NET = 2,
+    GABUNLITIK_POPS = 3
+};
+
+/* How a walk ends. */
+enum {
+    GABUNLITIK_ENDED_CLEAN = 1,      /* every count and every idsum is 0 */
+    GABUNLITIK_ENDED_STUCK = 2,      /* something is left, and nothing waits in the queue */
+    GABUNLITIK_ENDED_SPENT = 3,      /* the allowance of pops is used up */
+    GABUNLITIK_ENDED_NO_INVERSE = 4, /* never, for a sketch within its limits */
+    GABUNLITIK_ENDED_RANGE = 5,      /* a take would bring a count outside its limits */
+    GABUNLITIK_ENDED_FULL = 6        /* a take needs a table slot, and none is left */
+};
+
+/* Writes zeros into every bucket, whatever was there. */
+uint32_t gabunlitik_fresh(const uint32_t params[GABUNLITIK_PARAMS],
+                          int32_t *counts, size_t counts_len,
+                          uint32_t *idsums, size_t idsums_len,
+                          size_t *place);
+
+/* Puts `number` packets of `flow` in. Only the flow's d buckets are looked at, and only they change. */
+uint32_t gabunlitik_insert(const uint32_t params[GABUNLITIK_PARAMS],
+                           int32_t *counts, size_t counts_len,
+                           uint32_t *idsums, size_t idsums_len,
+                           uint32_t flow, uint32_t number,
+                           size_t *place);
+
+/* Puts numbers[i] packets of flows[i] in, for each i in turn, or none at all: where one is refused the sketch is as it was before the
+ * call. The two lists have one length, and it may be any. */
+uint32_t gabunlitik_insert_all(const uint32_t params[GABUNLITIK_PARAMS],
+                               int32_t *counts, size_t counts_len,
+                               uint32_t *idsums, size_t idsums_len,
+                               const uint32_t *flows, size_t flows_len,
+                               const uint32_t *numbers, size_t numbers_len,
+                               size_t *place);
+
+/* Adds the other sketch to the first, bucket by bucket; the other is not changed. Every bucket of both is looked at. */
+uint32_t gabunlitik_add(const uint32_t params[GABUNLITIK_PARAMS],
+                        const uint32_t other_params[GABUNLITIK_PARAMS],
+                        int32_t *counts, size_t counts_len,
+                        uint32_t *idsums, size_t idsums_len,
+                        const int32_t *other_counts, size_t other_counts_len,
+                        const uint32_t *other_idsums, size_t other_idsums_len,
+                        size_t *place);
+
+/* Takes the other sketch from the first, likewise. */
+uint32_t gabunlitik_subtract(const uint32_t params[GABUNLITIK_PARAMS],
+                             const uint32_t other_params[GABUNLITIK_PARAMS],
+                             int32_t *counts, size_t counts_len,
+                             uint32_t *idsums, size_t idsums_len,
+                             const int32_t *other_counts, size_t other_counts_len,
+                             const uint32_t *other_idsums, size_t other_idsums_len,
+                             size_t *place);
+
+/* Peels the sketch into a table of flows and their counts with at most `allowance` pops, and tells the figures of the walk, all 0 where
+ * it is refused. The sketch then holds what remains: the table's own sketch added to it is the sketch that was lent, at every ending.
+ * Table slots past the last entry, the queue and the marks are 0 afterwards; what they held before has no effect. The two table
+ * slices have one length, 0 to 65536, which is how many flows the table takes; queue and marks are d * m long. */
+uint32_t gabunlitik_peel(const uint32_t params[GABUNLITIK_PARAMS],
+                         int32_t *counts, size_t counts_len,
+                         uint32_t *idsums, size_t idsums_len,
+                         uint32_t *table_flows, size_t table_flows_len,
+                         int32_t *table_counts, size_t table_counts_len,
+                         uint32_t *queue, size_t queue_len,
+                         uint32_t *marks, size_t marks_len,
+                         uint32_t allowance,
+                         int64_t figures[GABUNLITIK_FIGURES],
+                         size_t *place);
+
+/* Inserts the packets of a stream file, whose head has these parameters, in turn. After a refusal the sketch is as it was. Damage
+ * in the lent sketch is told at its bucket, and every fault of a record at the offset of its kind byte, or at the file's length where
+ * a record is missing. */
+uint32_t gabunlitik_read_stream(const uint32_t params[GABUNLITIK_PARAMS],
+                                int32_t *counts, size_t counts_len,
+                                uint32_t *idsums, size_t idsums_len,
+                                const uint8_t *bytes, size_t bytes_len,
+                                size_t *place);
+
+/* Writes the stream file of these flows, each by its number, at the start of `out`, whose rest is not touched, and tells the file's
+ * length, 0 where it is refused. A file of n flows has 43 + 9 * n bytes; the two lists have one length, 0 to 65536. */
+uint32_t gabunlitik_write_stream(const uint32_t params[GABUNLITIK_PARAMS],
+                                 const uint32_t *flows, size_t flows_len,
+                                 const uint32_t *numbers, size_t numbers_len,
+                                 uint8_t *out, size_t out_len,
+                                 size_t *length,
+                                 size_t *place);
+
+/* Reads a sketch file, whose head has these parameters, in place of the sketch's content, which is not looked at. */
+uint32_t gabunlitik_read_sketch(const uint32_t params[GABUNLITIK_PARAMS],
+                                int32_t *counts, size_t counts_len,
+                                uint32_t *idsums, size_t idsums_len,
+                                const uint8_t *bytes, size_t bytes_len,
+                                size_t *place);
+
+/* Writes the one file of the sketch at the start of `out`, whose rest is not touched, and tells its length, 0 where it is refused. A file
+ * of n buckets that are not all zero has 43 + 13 * n bytes. */
+uint32_t gabunlitik_write_sketch(const uint32_t params[GABUNLITIK_PARAMS],
+                                 const int32_t *counts, size_t counts_len,
+                                 const uint32_t *idsums, size_t idsums_len,
+                                 uint8_t *out, size_t out_len,
+                                 size_t *length,
+                                 size_t *place);
+
+#ifdef __cplusplus
+}
+#endif
+
+#endif

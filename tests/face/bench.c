@@ -1,0 +1,120 @@
+/* The bench of the tests: checks, the scope's example sketches, and short forms of the calls. Runs all tests. */
+#include "bench.h"
+
+#include <stdio.h>
+
+const uint32_t K[GABUNLITIK_PARAMS] = {D, M, 1, 1073741824, 0, 0, 0, 0, 0, 0};
+const uint32_t OTHER[GABUNLITIK_PARAMS] = {D, M, 1, 1073741824, 0, 0, 0, 1, 0, 0};
+const uint32_t BAD[GABUNLITIK_PARAMS] = {5, M, 1, 1073741824, 0, 0, 0, 0, 0, 0};
+
+static const int32_t GUARD = -2023406815;
+static int checks, failures;
+
+void check(int held, const char *file, int line, const char *what) {
+    checks++;
+    if (held)
+        return;
+    failures++;
+    printf("%s:%d: does not hold: %s\n", file, line, what);
+}
+
+void check_told(struct told told, uint32_t number, size_t place, const char *file, int line, const char *what) {
+    check(told.number == number && told.place == place, file, line, what);
+    if (told.number != number || told.place != place)
+        printf("    told %u at %zu, expected %u at %zu\n", told.number, told.place, number, place);
+}
+
+struct sketch fresh_sketch(void) {
+    struct sketch s;
+    struct told t = UNTOLD;
+    memset(&s, 0x80, sizeof s);
+    s.counts_guard = GUARD;
+    s.idsums_guard = (uint32_t)GUARD;
+    t.number = gabunlitik_fresh(K, s.counts, BUCKETS, s.idsums, BUCKETS, &t.place);
+    CHECK_DONE(t);
+    CHECK(used(&s) == 0);
+    return s;
+}
+
+struct sketch e1(void) {
+    struct sketch s = fresh_sketch();
+    CHECK_DONE(insert(&s, 7, 1));
+    CHECK_DONE(insert(&s, 12, 2));
+    return s;
+}
+
+struct sketch e3(void) {
+    struct sketch s = fresh_sketch();
+    CHECK_DONE(insert(&s, 2, 1));
+    CHECK_DONE(insert(&s, 12, 1));
+    return s;
+}
+
+struct sketch e5(void) {
+    struct sketch s = fresh_sketch(), t = fresh_sketch();
+    CHECK_DONE(insert(&s, 2, 1));
+    CHECK_DONE(insert(&t, 12, 1));
+    CHECK_DONE(subtract(&s, &t));
+    return s;
+}
+
+struct sketch e6(void) {
+    struct sketch s = fresh_sketch(), t = fresh_sketch();
+    CHECK_DONE(insert(&t, 7, 4));
+    CHECK_DONE(subtract(&s, &t));
+    return s;
+}
+
+struct sketch e7(void) {
+    struct sketch s = fresh_sketch();
+    CHECK_DONE(insert(&s, 2147483646, 2147483646));
+    return s;
+}
+
+struct told insert(struct sketch *s, uint32_t flow, uint32_t number) {
+    struct told t = UNTOLD;
+    t.number = gabunlitik_insert(K, s->counts, BUCKETS, s->idsums, BUCKETS, flow, number, &t.place);
+    return t;
+}
+
+struct told insert_all(struct sketch *s, const uint32_t *flows, const uint32_t *numbers, size_t n) {
+    struct told t = UNTOLD;
+    t.number = gabunlitik_insert_all(K, s->counts, BUCKETS, s->idsums, BUCKETS, flows, n, numbers, n, &t.place);
+    return t;
+}
+
+struct told add(struct sketch *s, const struct sketch *other) {
+    struct told t = UNTOLD;
+    t.number = gabunlitik_add(K, K, s->counts, BUCKETS, s->idsums, BUCKETS, other->counts, BUCKETS, other->idsums,
+                              BUCKETS, &t.place);
+    return t;
+}
+
+struct told subtract(struct sketch *s, const struct sketch *other) {
+    struct told t = UNTOLD;
+    t.number = gabunlitik_subtract(K, K, s->counts, BUCKETS, s->idsums, BUCKETS, other->counts, BUCKETS, other->idsums,
+                                   BUCKETS, &t.place);
+    return t;
+}
+
+int same(const struct sketch *s, const struct sketch *t) { return memcmp(s, t, sizeof *s) == 0; }
+
+int bucket_is(const struct sketch *s, size_t index, int32_t count, uint32_t idsum) {
+    return s->counts[index] == count && s->idsums[index] == idsum && s->counts_guard == GUARD &&
+           s->idsums_guard == (uint32_t)GUARD;
+}
+
+int used(const struct sketch *s) {
+    int n = 0;
+    for (size_t k = 0; k < BUCKETS; k++)
+        n += !bucket_is(s, k, 0, 0);
+    return n;
+}
+
+int main(void) {
+    test_sketches();
+    test_walks();
+    test_files();
+    printf("face: %d checks, %d failed\n", checks, failures);
+    return failures != 0;
+}

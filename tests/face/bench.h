@@ -1,0 +1,65 @@
+/* What the tests of the calls from C share: the bench's parameters, a sketch of them with a guard after each slice, and checks. */
+#ifndef BENCH_H
+#define BENCH_H
+
+#include <string.h>
+
+#include "gabunlitik.h"
+
+enum { D = 2, M = 5, BUCKETS = D * M };
+
+/* d = 2, m = 5, pairs (1, 0) and (1073741824, 0): the parameters of the scope's examples. */
+extern const uint32_t K[GABUNLITIK_PARAMS];
+
+/* The same but for an offset, and with an array too many. */
+extern const uint32_t OTHER[GABUNLITIK_PARAMS];
+extern const uint32_t BAD[GABUNLITIK_PARAMS];
+
+struct sketch {
+    int32_t counts[BUCKETS];
+    int32_t counts_guard;
+    uint32_t idsums[BUCKETS];
+    uint32_t idsums_guard;
+};
+
+/* What a call told: both are something else before it, so that a call that tells nothing is seen. */
+struct told {
+    uint32_t number;
+    size_t place;
+};
+
+#define UNTOLD {77, 77}
+
+#define CHECK(held) check((held) != 0, __FILE__, __LINE__, #held)
+#define CHECK_TOLD(call, number, place) check_told((call), (number), (place), __FILE__, __LINE__, #call)
+#define CHECK_DONE(call) CHECK_TOLD(call, GABUNLITIK_DONE, 0)
+
+void check(int held, const char *file, int line, const char *what);
+void check_told(struct told told, uint32_t number, size_t place, const char *file, int line, const char *what);
+
+/* A sketch that `fresh` made of slices full of damage. */
+struct sketch fresh_sketch(void);
+
+/* E1 to E7 of the scope, as far as they are sketches: flow by number. */
+struct sketch e1(void); /* 7 by 1, 12 by 2 */
+struct sketch e3(void); /* 2 by 1, 12 by 1 */
+struct sketch e5(void); /* 2 by 1, 12 by -1 */
+struct sketch e6(void); /* 7 by -4 */
+struct sketch e7(void); /* 2147483646 by 2147483646 */
+
+struct told insert(struct sketch *s, uint32_t flow, uint32_t number);
+struct told insert_all(struct sketch *s, const uint32_t *flows, const uint32_t *numbers, size_t n);
+struct told add(struct sketch *s, const struct sketch *other);
+struct told subtract(struct sketch *s, const struct sketch *other);
+
+int same(const struct sketch *s, const struct sketch *t);
+int bucket_is(const struct sketch *s, size_t index, int32_t count, uint32_t idsum);
+
+/* How many buckets are not all zero. */
+int used(const struct sketch *s);
+
+void test_sketches(void);
+void test_walks(void);
+void test_files(void);
+
+#endif

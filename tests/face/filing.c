@@ -1,0 +1,179 @@
+/* Stream files and sketch files, read and written, called from C. */
+#include "bench.h"
+
+#define HEAD 1, 2, 0, 0, 0, 5, 0, 0, 0, 1, 0, 0, 0, 0, 64, 0, 0, 0, 0, 0, 0, 0, ZEROS_16
+#define ZEROS_16 0, 0, 0, 0, 0, 0, 0, 0, 0, 0, 0, 0, 0, 0, 0, 0
+
+enum { STREAM = 38 + 2 * 9 + 5, SKETCH = 38 + 3 * 13 + 5, ROOM = 96 };
+
+/* E1's packets, and E1's sketch. */
+static const uint32_t flows[] = {7, 12}, numbers[] = {1, 2};
+static const uint8_t stream[STREAM] = {HEAD, 2, 0, 0, 0, 7, 0, 0, 0, 1, 2, 0, 0, 0, 12, 0, 0, 0, 2, 4, 0, 0, 0, 2};
+static const uint8_t stored[SKETCH] = {HEAD, 3, 0, 0, 0, 2, 0, 0, 0, 3, 0, 0, 0, 31, 3, 0, 0, 0, 6, 0, 0, 0, 2,
+                                       0, 0, 0, 24, 3, 0, 0, 0, 7, 0, 0, 0, 1, 0, 0, 0, 7, 4, 0, 0, 0, 3};
+
+/* An output, and the length that a writer told. */
+struct output {
+    uint8_t bytes[ROOM];
+    size_t length;
+};
+
+static struct output unwritten(void) {
+    struct output o;
+    memset(&o, 0xa5, sizeof o);
+    return o;
+}
+
+/* The file, with the rest of the output as it was. */
+static int holds(const struct output *o, const uint8_t *file, size_t length) {
+    struct output rest = unwritten();
+    return o->length == length && memcmp(o->bytes, file, length) == 0 &&
+           memcmp(o->bytes + length, rest.bytes + length, ROOM - length) == 0;
+}
+
+static struct told read_stream(struct sketch *s, const uint8_t *bytes, size_t length) {
+    struct told t = UNTOLD;
+    t.number = gabunlitik_read_stream(K, s->counts, BUCKETS, s->idsums, BUCKETS, bytes, length, &t.place);
+    return t;
+}
+
+static struct told read_sketch(struct sketch *s, const uint8_t *bytes, size_t length) {
+    struct told t = UNTOLD;
+    t.number = gabunlitik_read_sketch(K, s->counts, BUCKETS, s->idsums, BUCKETS, bytes, length, &t.place);
+    return t;
+}
+
+static struct told write_stream(struct output *o, size_t room, const uint32_t *of, size_t n, const uint32_t *by) {
+    struct told t = UNTOLD;
+    t.number = gabunlitik_write_stream(K, of, n, by, n, o->bytes, room, &o->length, &t.place);
+    return t;
+}
+
+static struct told write_sketch(struct output *o, size_t room, const struct sketch *s) {
+    struct told t = UNTOLD;
+    t.number = gabunlitik_write_sketch(K, s->counts, BUCKETS, s->idsums, BUCKETS, o->bytes, room, &o->length, &t.place);
+    return t;
+}
+
+static void there_and_back(void) {
+    struct sketch s = fresh_sketch(), wanted = e1();
+    struct output o = unwritten();
+    CHECK_DONE(write_stream(&o, ROOM, flows, 2, numbers));
+    CHECK(holds(&o, stream, STREAM));
+    CHECK_DONE(read_stream(&s, o.bytes, o.length));
+    CHECK(same(&s, &wanted));
+    o = unwritten();
+    CHECK_DONE(write_sketch(&o, SKETCH, &s));
+    CHECK(holds(&o, stored, SKETCH));
+    s = e7();
+    s.counts[9] = -2147483647; /* damage, which is not looked at */
+    CHECK_DONE(read_sketch(&s, o.bytes, o.length));
+    CHECK(same(&s, &wanted));
+    CHECK_DONE(read_stream(&s, stream, STREAM));
+    CHECK_DONE(subtract(&s, &wanted));
+    CHECK(same(&s, &wanted));
+}
+
+/* A copy of a file with one byte changed. */
+static struct output changed(const uint8_t *file, size_t length, size_t at, uint8_t byte) {
+    struct output o = unwritten();
+    for (size_t i = 0; i < length; i++)
+        o.bytes[i] = file[i];
+    o.bytes[at] = byte;
+    o.length = length;
+    return o;
+}
+
+static struct told read_changed_stream(struct sketch *s, size_t at, uint8_t byte) {
+    struct output o = changed(stream, STREAM, at, byte);
+    return read_stream(s, o.bytes, o.length);
+}
+
+static struct told read_changed_sketch(struct sketch *s, size_t at, uint8_t byte) {
+    struct output o = changed(stored, SKETCH, at, byte);
+    return read_sketch(s, o.bytes, o.length);
+}
+
+static void refused_streams(void) {
+    struct sketch s = e7(), kept = s;
+    struct output longer = changed(stream, STREAM, STREAM, 0);
+    struct told t = UNTOLD;
+    t.number = gabunlitik_read_stream(BAD, s.counts, BUCKETS, s.idsums, BUCKETS, stream, STREAM, &t.place);
+    CHECK_TOLD(t, GABUNLITIK_PARAM, 0);
+    t.place = 77;
+    t.number = gabunlitik_read_stream(OTHER, s.counts, BUCKETS, s.idsums, BUCKETS, stream, STREAM, &t.place);
+    CHECK_TOLD(t, GABUNLITIK_MISMATCH, 0);
+    t.place = 77;
+    t.number = gabunlitik_read_stream(K, s.counts, BUCKETS, s.idsums, BUCKETS - 1, stream, STREAM, &t.place);
+    CHECK_TOLD(t, GABUNLITIK_LENGTH, 0);
+    CHECK_TOLD(read_stream(&s, stream, 37), GABUNLITIK_FORM, 0);
+    CHECK_TOLD(read_stream(&s, stream, STREAM - 1), GABUNLITIK_FORM, 56);
+    CHECK_TOLD(read_stream(&s, stream, 56), GABUNLITIK_FORM, 56);
+    CHECK_TOLD(read_stream(&s, longer.bytes, STREAM + 1), GABUNLITIK_FORM, STREAM);
+    CHECK_TOLD(read_stream(&s, stored, SKETCH), GABUNLITIK_FORM, 38);
+    CHECK_TOLD(read_changed_stream(&s, 48, 255), GABUNLITIK_FLOW, 47);
+    CHECK_TOLD(read_changed_stream(&s, 55, 0), GABUNLITIK_COUNT, 47);
+    CHECK_TOLD(read_changed_stream(&s, 51, 1), GABUNLITIK_RANGE, 47); /* flow 1 */
+    CHECK(same(&s, &kept));
+    s.counts[9] = kept.counts[9] = -2147483647;
+    CHECK_TOLD(read_stream(&s, stream, STREAM), GABUNLITIK_DAMAGE, 9);
+    CHECK(same(&s, &kept));
+}
+
+static void refused_sketches(void) {
+    struct sketch s = e7(), kept = s;
+    struct output longer = changed(stored, SKETCH, SKETCH, 4);
+    struct told t = UNTOLD;
+    t.number = gabunlitik_read_sketch(BAD, s.counts, BUCKETS, s.idsums, BUCKETS, stored, SKETCH, &t.place);
+    CHECK_TOLD(t, GABUNLITIK_PARAM, 0);
+    t.place = 77;
+    t.number = gabunlitik_read_sketch(OTHER, s.counts, BUCKETS, s.idsums, BUCKETS, stored, SKETCH, &t.place);
+    CHECK_TOLD(t, GABUNLITIK_MISMATCH, 0);
+    t.place = 77;
+    t.number = gabunlitik_read_sketch(K, s.counts, BUCKETS - 1, s.idsums, BUCKETS, stored, SKETCH, &t.place);
+    CHECK_TOLD(t, GABUNLITIK_LENGTH, 0);
+    CHECK_TOLD(read_sketch(&s, longer.bytes, SKETCH + 1), GABUNLITIK_FORM, SKETCH);
+    CHECK_TOLD(read_sketch(&s, stream, STREAM), GABUNLITIK_FORM, 38);
+    CHECK_TOLD(read_changed_sketch(&s, 60, 255), GABUNLITIK_DAMAGE, 51); /* an idsum above its limit */
+    CHECK_TOLD(read_changed_sketch(&s, 55, 2), GABUNLITIK_FORM, 51);     /* index 2 again */
+    CHECK_TOLD(read_changed_sketch(&s, 81, 2), GABUNLITIK_FORM, 77);     /* a wrong end count */
+    CHECK(same(&s, &kept));
+}
+
+/* A refused writer tells the length 0 and leaves its output alone. */
+static void check_unwritten(struct output *o) {
+    CHECK(holds(o, stream, 0));
+    o->length = 77;
+}
+
+static void refused_writing(void) {
+    const uint32_t no_flow[] = {7, 2147483647}, no_number[] = {0, 1};
+    struct sketch s = e1();
+    struct output o = unwritten();
+    struct told t = UNTOLD;
+    t.number = gabunlitik_write_stream(BAD, flows, 2, numbers, 2, o.bytes, ROOM, &o.length, &t.place);
+    CHECK_TOLD(t, GABUNLITIK_PARAM, 0);
+    check_unwritten(&o);
+    CHECK_TOLD(write_stream(&o, STREAM - 1, flows, 2, numbers), GABUNLITIK_LENGTH, 0);
+    check_unwritten(&o);
+    CHECK_TOLD(write_stream(&o, ROOM, no_flow, 2, no_number), GABUNLITIK_FLOW, 0);
+    check_unwritten(&o);
+    CHECK_TOLD(write_stream(&o, ROOM, flows, 2, no_number), GABUNLITIK_COUNT, 0);
+    check_unwritten(&o);
+    t.place = 77;
+    t.number = gabunlitik_write_sketch(BAD, s.counts, BUCKETS, s.idsums, BUCKETS, o.bytes, ROOM, &o.length, &t.place);
+    CHECK_TOLD(t, GABUNLITIK_PARAM, 0);
+    check_unwritten(&o);
+    CHECK_TOLD(write_sketch(&o, SKETCH - 1, &s), GABUNLITIK_LENGTH, 0);
+    check_unwritten(&o);
+    s.idsums[7] = 2147483647;
+    CHECK_TOLD(write_sketch(&o, ROOM, &s), GABUNLITIK_DAMAGE, 7);
+    check_unwritten(&o);
+}
+
+void test_files(void) {
+    there_and_back();
+    refused_streams();
+    refused_sketches();
+    refused_writing();
+}

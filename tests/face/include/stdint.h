@@ -1,0 +1,8 @@
+/* The integer types of C's stdint.h that the header speaks of: the kit's clang comes without headers. */
+#ifndef STDINT_H
+#define STDINT_H
+typedef __UINT8_TYPE__ uint8_t;
+typedef __UINT32_TYPE__ uint32_t;
+typedef __INT32_TYPE__ int32_t;
+typedef __INT64_TYPE__ int64_t;
+#endif

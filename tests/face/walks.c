@@ -1,0 +1,136 @@
+/* Peeling, called from C. */
+#include "bench.h"
+
+enum { MOST_SLOTS = 4 };
+
+/* All that a walk is lent beside the sketch, and the figures it tells. */
+struct walk {
+    uint32_t flows[MOST_SLOTS];
+    int32_t counts[MOST_SLOTS];
+    uint32_t queue[BUCKETS];
+    uint32_t marks[BUCKETS];
+    int64_t figures[GABUNLITIK_FIGURES];
+};
+
+/* Full of what has no effect on a walk. */
+static struct walk unwalked(void) {
+    struct walk w;
+    memset(&w, 0xa5, sizeof w);
+    return w;
+}
+
+static struct told peel(struct sketch *s, struct walk *w, size_t slots, uint32_t allowance) {
+    struct told t = UNTOLD;
+    t.number = gabunlitik_peel(K, s->counts, BUCKETS, s->idsums, BUCKETS, w->flows, slots, w->counts, slots, w->queue,
+                               BUCKETS, w->marks, BUCKETS, allowance, w->figures, &t.place);
+    return t;
+}
+
+static int figures_are(const struct walk *w, int64_t ending, int64_t entries, int64_t net, int64_t pops) {
+    return w->figures[GABUNLITIK_ENDING] == ending && w->figures[GABUNLITIK_ENTRIES] == entries &&
+           w->figures[GABUNLITIK_NET] == net && w->figures[GABUNLITIK_POPS] == pops;
+}
+
+/* The slots past the entries, the queue and the marks are 0. */
+static int cleared(const struct walk *w) {
+    uint32_t rest = 0;
+    for (size_t i = (size_t)w->figures[GABUNLITIK_ENTRIES]; i < MOST_SLOTS; i++)
+        rest |= w->flows[i] | (uint32_t)w->counts[i];
+    for (size_t k = 0; k < BUCKETS; k++)
+        rest |= w->queue[k] | w->marks[k];
+    return rest == 0;
+}
+
+static void clean(void) {
+    struct sketch s = e1();
+    struct walk w = unwalked();
+    CHECK_DONE(peel(&s, &w, MOST_SLOTS, 80)); /* E2 */
+    CHECK(figures_are(&w, GABUNLITIK_ENDED_CLEAN, 2, 3, 3));
+    CHECK(w.flows[0] == 12 && w.counts[0] == 2 && w.flows[1] == 7 && w.counts[1] == 1);
+    CHECK(cleared(&w));
+    CHECK(used(&s) == 0);
+    s = e6();
+    w = unwalked();
+    CHECK_DONE(peel(&s, &w, MOST_SLOTS, 80)); /* E6 */
+    CHECK(figures_are(&w, GABUNLITIK_ENDED_CLEAN, 1, -4, 1));
+    CHECK(w.flows[0] == 7 && w.counts[0] == -4);
+    CHECK(cleared(&w));
+    CHECK(used(&s) == 0);
+    s = fresh_sketch();
+    CHECK_DONE(peel(&s, &w, MOST_SLOTS, 0)); /* E9 */
+    CHECK(figures_are(&w, GABUNLITIK_ENDED_CLEAN, 0, 0, 0));
+    CHECK(cleared(&w));
+}
+
+static void spent(void) {
+    struct sketch s = e3(), kept = s;
+    struct walk w = unwalked();
+    CHECK_DONE(peel(&s, &w, MOST_SLOTS, 9)); /* E4 */
+    CHECK(figures_are(&w, GABUNLITIK_ENDED_SPENT, 0, 0, 9));
+    CHECK(cleared(&w));
+    CHECK(same(&s, &kept));
+    CHECK_DONE(peel(&s, &w, MOST_SLOTS, 10)); /* E3 */
+    CHECK(figures_are(&w, GABUNLITIK_ENDED_SPENT, 1, 2, 10));
+    CHECK(w.flows[0] == 7 && w.counts[0] == 2);
+    CHECK(cleared(&w));
+    CHECK(used(&s) == 2);
+    CHECK(bucket_is(&s, 6, 2, 14));
+    CHECK(bucket_is(&s, 7, -2, 2147483633));
+    s = kept = e1();
+    CHECK_DONE(peel(&s, &w, MOST_SLOTS, 0)); /* E9 */
+    CHECK(figures_are(&w, GABUNLITIK_ENDED_SPENT, 0, 0, 0));
+    CHECK(same(&s, &kept));
+}
+
+static void stuck_and_full(void) {
+    struct sketch s = e5(), kept = s;
+    struct walk w = unwalked();
+    CHECK_DONE(peel(&s, &w, MOST_SLOTS, 80)); /* E5 */
+    CHECK(figures_are(&w, GABUNLITIK_ENDED_STUCK, 0, 0, 0));
+    CHECK(cleared(&w));
+    CHECK(same(&s, &kept));
+    s = kept = e1();
+    CHECK_DONE(peel(&s, &w, 0, 80)); /* E10 */
+    CHECK(figures_are(&w, GABUNLITIK_ENDED_FULL, 0, 0, 2));
+    CHECK(cleared(&w));
+    CHECK(same(&s, &kept));
+}
+
+/* A refused walk tells figures that are all 0, and alters nothing else. */
+static void check_unwalked(struct walk *w) {
+    struct walk untouched = unwalked();
+    CHECK(figures_are(w, 0, 0, 0, 0));
+    memset(w->figures, 0xa5, sizeof w->figures);
+    CHECK(memcmp(w, &untouched, sizeof untouched) == 0);
+}
+
+static void refused(void) {
+    struct sketch s = e1(), kept = s;
+    struct walk w = unwalked();
+    struct told t = UNTOLD;
+    t.number = gabunlitik_peel(BAD, s.counts, BUCKETS, s.idsums, BUCKETS, w.flows, 4, w.counts, 4, w.queue, BUCKETS,
+                               w.marks, BUCKETS, 80, w.figures, &t.place);
+    CHECK_TOLD(t, GABUNLITIK_PARAM, 0);
+    check_unwalked(&w);
+    t.place = 77;
+    t.number = gabunlitik_peel(K, s.counts, BUCKETS, s.idsums, BUCKETS, w.flows, 4, w.counts, 3, w.queue, BUCKETS,
+                               w.marks, BUCKETS, 80, w.figures, &t.place);
+    CHECK_TOLD(t, GABUNLITIK_LENGTH, 0);
+    check_unwalked(&w);
+    t.place = 77;
+    t.number = gabunlitik_peel(K, s.counts, BUCKETS, s.idsums, BUCKETS, w.flows, 4, w.counts, 4, w.queue, BUCKETS,
+                               w.marks, BUCKETS - 1, 80, w.figures, &t.place);
+    CHECK_TOLD(t, GABUNLITIK_LENGTH, 0);
+    check_unwalked(&w);
+    s.idsums[4] = kept.idsums[4] = 2147483647;
+    CHECK_TOLD(peel(&s, &w, MOST_SLOTS, 80), GABUNLITIK_DAMAGE, 4);
+    check_unwalked(&w);
+    CHECK(same(&s, &kept));
+}
+
+void test_walks(void) {
+    clean();
+    spent();
+    stuck_and_full();
+    refused();
+}
