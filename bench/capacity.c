@@ -7,7 +7,7 @@
 
 enum { CELLS_LOG2 = 17, MOST_ENDING = FULL };
 
-// Walks of one setting differ in their seed alone. A flow loses least to most packets; the allowance is some pops a bucket.
+// Walks of one setting differ in their seed alone. A flow loses least to most packets; the allowance is pops a bucket.
 struct setting {
     uint32_t d;
     uint32_t m;
@@ -80,6 +80,7 @@ static struct sketch fresh(const struct params *params) {
     return (struct sketch){*params, counts, idsums};
 }
 
+// Nothing here comes near a limit; were a flow refused all the same, no figure would be worth printing.
 static void insert(struct sketch *sketch, uint32_t flow, uint32_t number) {
     size_t place;
     if (baseline_insert(sketch, flow, number, &place) != DONE)
@@ -181,7 +182,7 @@ static void add_walk(struct tally *tally, const struct setting *setting, uint64_
     tally->told_apart += (uint64_t)are_told_apart(&params);
 }
 
-// Prints one line of the data file: what became of the walks of seeds 1 to the last.
+// Prints one line of the data file: what became of the walks of seeds 1 to the last. The ending 'no inverse' cannot occur.
 static void print_tally(const struct setting *setting, uint64_t last_seed) {
     struct tally tally = {0};
     for (uint64_t seed = 1; seed <= last_seed; seed++)
