@@ -23,11 +23,12 @@ struct list {
     uint64_t entries[MOST_BUCKETS];
 };
 
-// Listed entries and right ones are summed over the walks of an ending.
+// Listed entries, right ones and the buckets that are left are summed over the walks of an ending.
 struct tally {
     uint64_t walks[MOST_ENDING + 1];
     uint64_t listed[MOST_ENDING + 1];
     uint64_t right[MOST_ENDING + 1];
+    uint64_t left[MOST_ENDING + 1];
     uint64_t wrong_clean;
     uint64_t clean_pops;
     uint64_t told_apart;
@@ -129,6 +130,14 @@ static size_t count_right(size_t entries) {
     return right;
 }
 
+// How many buckets the walk has left that are not all zero.
+static size_t count_left(uint32_t size) {
+    size_t left = 0;
+    for (uint32_t k = 0; k < size; k++)
+        left += counts[k] != 0 || idsums[k] != 0;
+    return left;
+}
+
 // Enters the lost flows into buckets that keep how many flows they have and the sum of their places in the list.
 static void count_flows(const struct params *params, uint32_t *flows_in, uint32_t *places_in) {
     uint32_t buckets[4];
@@ -175,6 +184,7 @@ static void add_walk(struct tally *tally, const struct setting *setting, uint64_
     tally->walks[figures.ending]++;
     tally->listed[figures.ending] += figures.entries;
     tally->right[figures.ending] += right;
+    tally->left[figures.ending] += count_left(size_of(&params));
     if (figures.ending == CLEAN) {
         tally->wrong_clean += right != lost.length || figures.entries != lost.length;
         tally->clean_pops += figures.pops;
@@ -194,7 +204,8 @@ static void print_tally(const struct setting *setting, uint64_t last_seed) {
             printf(",%lu", (unsigned long)tally.walks[ending]);
     printf(",%lu,%lu", (unsigned long)tally.wrong_clean, (unsigned long)tally.clean_pops);
     for (int ending = STUCK; ending <= SPENT; ending++)
-        printf(",%lu,%lu", (unsigned long)tally.listed[ending], (unsigned long)tally.right[ending]);
+        printf(",%lu,%lu,%lu", (unsigned long)tally.listed[ending], (unsigned long)tally.right[ending],
+               (unsigned long)tally.left[ending]);
     printf("\n");
 }
 
