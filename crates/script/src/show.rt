@@ -32,12 +32,12 @@ fn sketch(counts: &[i32], idsums: &[u32]) {
     let end = longest(counts.len(), idsums.len());
     let mut i = 0;
     while i < end {
-        bucket(i as u32, count_at(counts, i), word_at(idsums, i));
+        bucket(i, count_at(counts, i), word_at(idsums, i));
         i += 1;
     }
 }
 
-fn bucket(index: u32, count: i32, idsum: u32) {
+fn bucket(index: usize, count: i32, idsum: u32) {
     let mut out = [0u8; 64];
     if count == 0 {
         if idsum == 0 {

@@ -25,9 +25,6 @@ longest-requires c κs = search needs
 loop-holds : tie.Need-loop-holds Inv-loop μ-loop
 loop-holds c = search needs
 
-cast-bucket : tie.Need-cast-bucket Inv-loop μ-loop
-cast-bucket c = search needs
-
 count-at-requires : tie.Need-count-at-requires Inv-loop μ-loop
 count-at-requires c κs = search needs
 
@@ -60,7 +57,6 @@ sketch-spec =
     lengths-requires
     longest-requires
     loop-holds
-    cast-bucket
     count-at-requires
     word-at-requires
     bucket-requires
