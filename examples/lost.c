@@ -36,7 +36,7 @@ static int build(struct sketch *s, const uint32_t *flows, const uint32_t *number
 int main(void) {
     static const uint32_t sent_flows[] = {7, 12, 11}, sent[] = {3, 2, 1};
     static const uint32_t arrived_flows[] = {7, 11}, arrived[] = {2, 1};
-    struct sketch upstream, downstream;
+    struct sketch upstream = {{0}, {0}}, downstream = {{0}, {0}};
     if (build(&upstream, sent_flows, sent, 3) || build(&downstream, arrived_flows, arrived, 2))
         return 1;
 
@@ -46,8 +46,8 @@ int main(void) {
     if (refused("subtract", told, place))
         return 1;
 
-    uint32_t flows[SLOTS], queue[BUCKETS], marks[BUCKETS];
-    int32_t counts[SLOTS];
+    uint32_t flows[SLOTS] = {0}, queue[BUCKETS] = {0}, marks[BUCKETS] = {0};
+    int32_t counts[SLOTS] = {0};
     int64_t figures[GABUNLITIK_FIGURES];
     told = gabunlitik_peel(params, upstream.counts, BUCKETS, upstream.idsums, BUCKETS, flows, SLOTS, counts, SLOTS,
                            queue, BUCKETS, marks, BUCKETS, 8 * BUCKETS, figures, &place);

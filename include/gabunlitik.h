@@ -5,15 +5,18 @@
  * What every call promises
  *
  * It ends, and it takes every input: what cannot be done is refused by number. It returns 0 where it is done and else one of the
- * refusals below. *place is then the lowest bucket at fault for DAMAGE and RANGE, the offset of the record at fault where a file is
- * read, and 0 for anything else, as it is where nothing was refused. A refusal alters no lent memory but what the call tells through
- * `place`, `length` and `figures`. Where several things are wrong the lowest number is told, save that MISMATCH comes after PARAM
- * and before LENGTH, and that a file is judged in its own order (docs/FORMAT.md).
+ * refusals below. *place is then the lowest bucket at fault for DAMAGE and RANGE of the sketches that are lent; for every fault of a
+ * record in a file that is read, the offset of its kind byte, or the file's length where a record is missing; and 0 for anything
+ * else, as it is where nothing was refused. A refusal alters no lent memory but what the call tells through `place`, `length` and
+ * `figures`. Where several things are wrong the lowest number is told, save that MISMATCH comes after PARAM and before LENGTH, that
+ * of a list of packets that are inserted the first that is refused decides, and that a file is judged in its own order
+ * (docs/FORMAT.md).
  *
  * What the memory must be, which no call can check
  *
  * A slice goes as a pointer and the number of its elements. Every pointer is aligned for its type and not NULL, even where the
  * length is 0, and points to at least so many elements that may be read, and written where it is not const, until the call returns.
+ * Memory that is lent holds numbers, of whatever value: it is initialised, save what `place`, `length` and `figures` point to.
  * Nothing that a call may write, `place`, `length` and `figures` among it, overlaps anything else that is handed to that call. What
  * a call writes is not to be read or written by another thread meanwhile.
  *
@@ -69,7 +72,7 @@ enum {
     GABUNLITIK_ENDED_STUCK = 2,      /* something is left, and nothing waits in the queue */
     GABUNLITIK_ENDED_SPENT = 3,      /* the allowance of pops is used up */
     GABUNLITIK_ENDED_NO_INVERSE = 4, /* never, for a sketch within its limits */
-    GABUNLITIK_ENDED_RANGE = 5,      /* a take would bring a count outside its limits */
+    GABUNLITIK_ENDED_RANGE = 5,      /* a take would bring a count or a table entry outside its limits */
     GABUNLITIK_ENDED_FULL = 6        /* a take needs a table slot, and none is left */
 };
 
@@ -86,8 +89,8 @@ uint32_t gabunlitik_insert(const uint32_t params[GABUNLITIK_PARAMS],
                            uint32_t flow, uint32_t number,
                            size_t *place);
 
-/* Puts numbers[i] packets of flows[i] in, for each i in turn, or none at all: the first that is refused is told, and the sketch is as
- * it was before the call. The two lists have one length, and it may be any. */
+/* Puts numbers[i] packets of flows[i] in, for each i in turn, or none at all: the first that is refused is told, with its bucket where
+ * one is at fault, and the sketch is as it was before the call. The two lists have one length, and it may be any. */
 uint32_t gabunlitik_insert_all(const uint32_t params[GABUNLITIK_PARAMS],
                                int32_t *counts, size_t counts_len,
                                uint32_t *idsums, size_t idsums_len,
@@ -129,8 +132,7 @@ uint32_t gabunlitik_peel(const uint32_t params[GABUNLITIK_PARAMS],
                          size_t *place);
 
 /* Inserts the packets of a stream file, whose head has these parameters, in turn. After a refusal the sketch is as it was. Damage
- * in the lent sketch is told at its bucket, and every fault of a record at the offset of its kind byte, or at the file's length where
- * a record is missing. */
+ * in the lent sketch is told at its bucket, RANGE of a packet at its record. */
 uint32_t gabunlitik_read_stream(const uint32_t params[GABUNLITIK_PARAMS],
                                 int32_t *counts, size_t counts_len,
                                 uint32_t *idsums, size_t idsums_len,
@@ -138,7 +140,8 @@ uint32_t gabunlitik_read_stream(const uint32_t params[GABUNLITIK_PARAMS],
                                 size_t *place);
 
 /* Writes the stream file of these flows, each by its number, at the start of `out`, whose rest is not touched, and tells the file's
- * length, 0 where it is refused. A file of n flows has 43 + 9 * n bytes; the two lists have one length, 0 to 65536. */
+ * length, 0 where it is refused. A file of n flows has 43 + 9 * n bytes, and an `out` that is shorter is LENGTH; the two lists have
+ * one length, 0 to 65536. */
 uint32_t gabunlitik_write_stream(const uint32_t params[GABUNLITIK_PARAMS],
                                  const uint32_t *flows, size_t flows_len,
                                  const uint32_t *numbers, size_t numbers_len,
@@ -154,7 +157,7 @@ uint32_t gabunlitik_read_sketch(const uint32_t params[GABUNLITIK_PARAMS],
                                 size_t *place);
 
 /* Writes the one file of the sketch at the start of `out`, whose rest is not touched, and tells its length, 0 where it is refused.
- * A file of n buckets that are not all zero has 43 + 13 * n bytes. */
+ * A file of n buckets that are not all zero, damaged ones among them, has 43 + 13 * n bytes, and an `out` that is shorter is LENGTH. */
 uint32_t gabunlitik_write_sketch(const uint32_t params[GABUNLITIK_PARAMS],
                                  const int32_t *counts, size_t counts_len,
                                  const uint32_t *idsums, size_t idsums_len,
