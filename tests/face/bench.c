@@ -24,9 +24,15 @@ void check_told(struct told told, uint32_t number, size_t place, const char *fil
         printf("    told %u at %zu, expected %u at %zu\n", told.number, told.place, number, place);
 }
 
+struct told untold(void) {
+    struct told t;
+    memset(&t, 0xa5, sizeof t);
+    return t;
+}
+
 struct sketch fresh_sketch(void) {
     struct sketch s;
-    struct told t = UNTOLD;
+    struct told t = untold();
     memset(&s, 0x80, sizeof s);
     s.counts_guard = GUARD;
     s.idsums_guard = (uint32_t)GUARD;
@@ -72,26 +78,26 @@ struct sketch e7(void) {
 }
 
 struct told insert(struct sketch *s, uint32_t flow, uint32_t number) {
-    struct told t = UNTOLD;
+    struct told t = untold();
     t.number = gabunlitik_insert(K, s->counts, BUCKETS, s->idsums, BUCKETS, flow, number, &t.place);
     return t;
 }
 
 struct told insert_all(struct sketch *s, const uint32_t *flows, const uint32_t *numbers, size_t n) {
-    struct told t = UNTOLD;
+    struct told t = untold();
     t.number = gabunlitik_insert_all(K, s->counts, BUCKETS, s->idsums, BUCKETS, flows, n, numbers, n, &t.place);
     return t;
 }
 
 struct told add(struct sketch *s, const struct sketch *other) {
-    struct told t = UNTOLD;
+    struct told t = untold();
     t.number = gabunlitik_add(K, K, s->counts, BUCKETS, s->idsums, BUCKETS, other->counts, BUCKETS, other->idsums,
                               BUCKETS, &t.place);
     return t;
 }
 
 struct told subtract(struct sketch *s, const struct sketch *other) {
-    struct told t = UNTOLD;
+    struct told t = untold();
     t.number = gabunlitik_subtract(K, K, s->counts, BUCKETS, s->idsums, BUCKETS, other->counts, BUCKETS, other->idsums,
                                    BUCKETS, &t.place);
     return t;
@@ -113,8 +119,11 @@ int used(const struct sketch *s) {
 
 int main(void) {
     test_sketches();
+    test_sums();
+    test_arrays();
     test_walks();
     test_files();
+    test_longest();
     printf("face: %d checks, %d failed\n", checks, failures);
     return failures != 0;
 }

@@ -22,17 +22,25 @@ struct sketch {
     uint32_t idsums_guard;
 };
 
-/* What a call told: both are something else before it, so that a call that tells nothing is seen. */
+/* What a call told. */
 struct told {
     uint32_t number;
     size_t place;
 };
 
-#define UNTOLD {77, 77}
+/* Every byte is 0xa5, so that a call that tells nothing, or a part of a number alone, is seen. */
+struct told untold(void);
 
 #define CHECK(held) check((held) != 0, __FILE__, __LINE__, #held)
 #define CHECK_TOLD(call, number, place) check_told((call), (number), (place), __FILE__, __LINE__, #call)
 #define CHECK_DONE(call) CHECK_TOLD(call, GABUNLITIK_DONE, 0)
+
+/* A refusal leaves the sketch `s` as `kept`, a copy from before. */
+#define CHECK_REFUSED(call, number, place, s, kept) \
+    do { \
+        CHECK_TOLD(call, number, place); \
+        CHECK(same(s, kept)); \
+    } while (0)
 
 void check(int held, const char *file, int line, const char *what);
 void check_told(struct told told, uint32_t number, size_t place, const char *file, int line, const char *what);
@@ -59,7 +67,10 @@ int bucket_is(const struct sketch *s, size_t index, int32_t count, uint32_t idsu
 int used(const struct sketch *s);
 
 void test_sketches(void);
+void test_sums(void);
+void test_arrays(void);
 void test_walks(void);
 void test_files(void);
+void test_longest(void);
 
 #endif

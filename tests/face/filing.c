@@ -32,25 +32,25 @@ static int holds(const struct output *o, const uint8_t *file, size_t length) {
 }
 
 static struct told read_stream(struct sketch *s, const uint8_t *bytes, size_t length) {
-    struct told t = UNTOLD;
+    struct told t = untold();
     t.number = gabunlitik_read_stream(K, s->counts, BUCKETS, s->idsums, BUCKETS, bytes, length, &t.place);
     return t;
 }
 
 static struct told read_sketch(struct sketch *s, const uint8_t *bytes, size_t length) {
-    struct told t = UNTOLD;
+    struct told t = untold();
     t.number = gabunlitik_read_sketch(K, s->counts, BUCKETS, s->idsums, BUCKETS, bytes, length, &t.place);
     return t;
 }
 
 static struct told write_stream(struct output *o, size_t room, const uint32_t *of, size_t n, const uint32_t *by) {
-    struct told t = UNTOLD;
+    struct told t = untold();
     t.number = gabunlitik_write_stream(K, of, n, by, n, o->bytes, room, &o->length, &t.place);
     return t;
 }
 
 static struct told write_sketch(struct output *o, size_t room, const struct sketch *s) {
-    struct told t = UNTOLD;
+    struct told t = untold();
     t.number = gabunlitik_write_sketch(K, s->counts, BUCKETS, s->idsums, BUCKETS, o->bytes, room, &o->length, &t.place);
     return t;
 }
@@ -97,62 +97,67 @@ static struct told read_changed_sketch(struct sketch *s, size_t at, uint8_t byte
 static void refused_streams(void) {
     struct sketch s = e7(), kept = s;
     struct output longer = changed(stream, STREAM, STREAM, 0);
-    struct told t = UNTOLD;
+    struct told t = untold();
     t.number = gabunlitik_read_stream(BAD, s.counts, BUCKETS, s.idsums, BUCKETS, stream, STREAM, &t.place);
-    CHECK_TOLD(t, GABUNLITIK_PARAM, 0);
-    t.place = 77;
+    CHECK_REFUSED(t, GABUNLITIK_PARAM, 0, &s, &kept);
+    t = untold();
     t.number = gabunlitik_read_stream(OTHER, s.counts, BUCKETS, s.idsums, BUCKETS, stream, STREAM, &t.place);
-    CHECK_TOLD(t, GABUNLITIK_MISMATCH, 0);
-    t.place = 77;
+    CHECK_REFUSED(t, GABUNLITIK_MISMATCH, 0, &s, &kept);
+    t = untold();
     t.number = gabunlitik_read_stream(K, s.counts, BUCKETS, s.idsums, BUCKETS - 1, stream, STREAM, &t.place);
-    CHECK_TOLD(t, GABUNLITIK_LENGTH, 0);
-    CHECK_TOLD(read_stream(&s, stream, 37), GABUNLITIK_FORM, 0);
-    CHECK_TOLD(read_stream(&s, stream, STREAM - 1), GABUNLITIK_FORM, 56);
-    CHECK_TOLD(read_stream(&s, stream, 56), GABUNLITIK_FORM, 56);
-    CHECK_TOLD(read_stream(&s, longer.bytes, STREAM + 1), GABUNLITIK_FORM, STREAM);
-    CHECK_TOLD(read_stream(&s, stored, SKETCH), GABUNLITIK_FORM, 38);
-    CHECK_TOLD(read_changed_stream(&s, 48, 255), GABUNLITIK_FLOW, 47);
-    CHECK_TOLD(read_changed_stream(&s, 55, 0), GABUNLITIK_COUNT, 47);
-    CHECK_TOLD(read_changed_stream(&s, 51, 1), GABUNLITIK_RANGE, 47); /* flow 1 */
-    CHECK(same(&s, &kept));
+    CHECK_REFUSED(t, GABUNLITIK_LENGTH, 0, &s, &kept);
+    CHECK_REFUSED(read_stream(&s, stream, 37), GABUNLITIK_FORM, 0, &s, &kept);
+    CHECK_REFUSED(read_stream(&s, stream, STREAM - 1), GABUNLITIK_FORM, 56, &s, &kept);
+    CHECK_REFUSED(read_stream(&s, stream, 56), GABUNLITIK_FORM, 56, &s, &kept);
+    CHECK_REFUSED(read_stream(&s, longer.bytes, STREAM + 1), GABUNLITIK_FORM, STREAM, &s, &kept);
+    CHECK_REFUSED(read_stream(&s, stored, SKETCH), GABUNLITIK_FORM, 38, &s, &kept);
+    CHECK_REFUSED(read_changed_stream(&s, 48, 255), GABUNLITIK_FLOW, 47, &s, &kept);
+    CHECK_REFUSED(read_changed_stream(&s, 55, 0), GABUNLITIK_COUNT, 47, &s, &kept);
+    CHECK_REFUSED(read_changed_stream(&s, 51, 1), GABUNLITIK_RANGE, 47, &s, &kept); /* flow 1 */
     s.counts[9] = kept.counts[9] = -2147483647;
-    CHECK_TOLD(read_stream(&s, stream, STREAM), GABUNLITIK_DAMAGE, 9);
-    CHECK(same(&s, &kept));
+    CHECK_REFUSED(read_stream(&s, stream, STREAM), GABUNLITIK_DAMAGE, 9, &s, &kept);
 }
 
 static void refused_sketches(void) {
     struct sketch s = e7(), kept = s;
     struct output longer = changed(stored, SKETCH, SKETCH, 4);
-    struct told t = UNTOLD;
+    struct told t = untold();
     t.number = gabunlitik_read_sketch(BAD, s.counts, BUCKETS, s.idsums, BUCKETS, stored, SKETCH, &t.place);
-    CHECK_TOLD(t, GABUNLITIK_PARAM, 0);
-    t.place = 77;
+    CHECK_REFUSED(t, GABUNLITIK_PARAM, 0, &s, &kept);
+    t = untold();
     t.number = gabunlitik_read_sketch(OTHER, s.counts, BUCKETS, s.idsums, BUCKETS, stored, SKETCH, &t.place);
-    CHECK_TOLD(t, GABUNLITIK_MISMATCH, 0);
-    t.place = 77;
+    CHECK_REFUSED(t, GABUNLITIK_MISMATCH, 0, &s, &kept);
+    t = untold();
     t.number = gabunlitik_read_sketch(K, s.counts, BUCKETS - 1, s.idsums, BUCKETS, stored, SKETCH, &t.place);
-    CHECK_TOLD(t, GABUNLITIK_LENGTH, 0);
-    CHECK_TOLD(read_sketch(&s, longer.bytes, SKETCH + 1), GABUNLITIK_FORM, SKETCH);
-    CHECK_TOLD(read_sketch(&s, stream, STREAM), GABUNLITIK_FORM, 38);
-    CHECK_TOLD(read_changed_sketch(&s, 60, 255), GABUNLITIK_DAMAGE, 51); /* an idsum above its limit */
-    CHECK_TOLD(read_changed_sketch(&s, 55, 2), GABUNLITIK_FORM, 51);     /* index 2 again */
-    CHECK_TOLD(read_changed_sketch(&s, 81, 2), GABUNLITIK_FORM, 77);     /* a wrong end count */
-    CHECK(same(&s, &kept));
+    CHECK_REFUSED(t, GABUNLITIK_LENGTH, 0, &s, &kept);
+    CHECK_REFUSED(read_sketch(&s, longer.bytes, SKETCH + 1), GABUNLITIK_FORM, SKETCH, &s, &kept);
+    CHECK_REFUSED(read_sketch(&s, stream, STREAM), GABUNLITIK_FORM, 38, &s, &kept);
+    CHECK_REFUSED(read_changed_sketch(&s, 60, 255), GABUNLITIK_DAMAGE, 51, &s, &kept); /* an idsum above its limit */
+    CHECK_REFUSED(read_changed_sketch(&s, 55, 2), GABUNLITIK_FORM, 51, &s, &kept);     /* index 2 again */
+    CHECK_REFUSED(read_changed_sketch(&s, 81, 2), GABUNLITIK_FORM, 77, &s, &kept);     /* a wrong end count */
 }
 
 /* A refused writer tells the length 0 and leaves its output alone. */
 static void check_unwritten(struct output *o) {
     CHECK(holds(o, stream, 0));
-    o->length = 77;
+    memset(&o->length, 0xa5, sizeof o->length);
 }
 
 static void refused_writing(void) {
-    const uint32_t no_flow[] = {7, 2147483647}, no_number[] = {0, 1};
-    struct sketch s = e1();
+    static const uint32_t no_flow[] = {7, 2147483647}, no_number[] = {0, 1};
+    struct sketch s = e1(), kept = s;
     struct output o = unwritten();
-    struct told t = UNTOLD;
+    struct told t = untold();
     t.number = gabunlitik_write_stream(BAD, flows, 2, numbers, 2, o.bytes, ROOM, &o.length, &t.place);
     CHECK_TOLD(t, GABUNLITIK_PARAM, 0);
+    check_unwritten(&o);
+    t = untold();
+    t.number = gabunlitik_write_stream(K, flows, 2, numbers, 1, o.bytes, ROOM, &o.length, &t.place);
+    CHECK_TOLD(t, GABUNLITIK_LENGTH, 0);
+    check_unwritten(&o);
+    t = untold();
+    t.number = gabunlitik_write_stream(K, flows, 1, numbers, 2, o.bytes, ROOM, &o.length, &t.place);
+    CHECK_TOLD(t, GABUNLITIK_LENGTH, 0);
     check_unwritten(&o);
     CHECK_TOLD(write_stream(&o, STREAM - 1, flows, 2, numbers), GABUNLITIK_LENGTH, 0);
     check_unwritten(&o);
@@ -160,14 +165,14 @@ static void refused_writing(void) {
     check_unwritten(&o);
     CHECK_TOLD(write_stream(&o, ROOM, flows, 2, no_number), GABUNLITIK_COUNT, 0);
     check_unwritten(&o);
-    t.place = 77;
+    t = untold();
     t.number = gabunlitik_write_sketch(BAD, s.counts, BUCKETS, s.idsums, BUCKETS, o.bytes, ROOM, &o.length, &t.place);
-    CHECK_TOLD(t, GABUNLITIK_PARAM, 0);
+    CHECK_REFUSED(t, GABUNLITIK_PARAM, 0, &s, &kept);
     check_unwritten(&o);
-    CHECK_TOLD(write_sketch(&o, SKETCH - 1, &s), GABUNLITIK_LENGTH, 0);
+    CHECK_REFUSED(write_sketch(&o, SKETCH - 1, &s), GABUNLITIK_LENGTH, 0, &s, &kept);
     check_unwritten(&o);
-    s.idsums[7] = 2147483647;
-    CHECK_TOLD(write_sketch(&o, ROOM, &s), GABUNLITIK_DAMAGE, 7);
+    s.idsums[7] = kept.idsums[7] = 2147483647;
+    CHECK_REFUSED(write_sketch(&o, ROOM, &s), GABUNLITIK_DAMAGE, 7, &s, &kept);
     check_unwritten(&o);
 }
 

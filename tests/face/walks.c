@@ -20,7 +20,7 @@ static struct walk unwalked(void) {
 }
 
 static struct told peel(struct sketch *s, struct walk *w, size_t slots, uint32_t allowance) {
-    struct told t = UNTOLD;
+    struct told t = untold();
     t.number = gabunlitik_peel(K, s->counts, BUCKETS, s->idsums, BUCKETS, w->flows, slots, w->counts, slots, w->queue,
                                BUCKETS, w->marks, BUCKETS, allowance, w->figures, &t.place);
     return t;
@@ -96,6 +96,25 @@ static void stuck_and_full(void) {
     CHECK(same(&s, &kept));
 }
 
+/* Index 2 passes as flow 7, whose other bucket would come to -3000000000. */
+static void range(void) {
+    struct sketch s = fresh_sketch(), other = fresh_sketch(), kept;
+    struct walk w = unwalked();
+    CHECK_DONE(insert(&s, 2, 1000000000));
+    CHECK_DONE(insert(&s, 12, 1000000000));
+    CHECK_DONE(insert(&other, 4, 1000000000));
+    CHECK_DONE(subtract(&s, &other));
+    kept = s;
+    CHECK_DONE(peel(&s, &w, MOST_SLOTS, 80));
+    CHECK(figures_are(&w, GABUNLITIK_ENDED_RANGE, 0, 0, 1));
+    CHECK(cleared(&w));
+    CHECK(same(&s, &kept));
+    w = unwalked();
+    CHECK_DONE(peel(&s, &w, 0, 80)); /* range comes before full */
+    CHECK(figures_are(&w, GABUNLITIK_ENDED_RANGE, 0, 0, 1));
+    CHECK(same(&s, &kept));
+}
+
 /* A refused walk tells figures that are all 0, and alters nothing else. */
 static void check_unwalked(struct walk *w) {
     struct walk untouched = unwalked();
@@ -107,30 +126,40 @@ static void check_unwalked(struct walk *w) {
 static void refused(void) {
     struct sketch s = e1(), kept = s;
     struct walk w = unwalked();
-    struct told t = UNTOLD;
+    struct told t = untold();
     t.number = gabunlitik_peel(BAD, s.counts, BUCKETS, s.idsums, BUCKETS, w.flows, 4, w.counts, 4, w.queue, BUCKETS,
                                w.marks, BUCKETS, 80, w.figures, &t.place);
-    CHECK_TOLD(t, GABUNLITIK_PARAM, 0);
+    CHECK_REFUSED(t, GABUNLITIK_PARAM, 0, &s, &kept);
     check_unwalked(&w);
-    t.place = 77;
+    t = untold();
     t.number = gabunlitik_peel(K, s.counts, BUCKETS, s.idsums, BUCKETS, w.flows, 4, w.counts, 3, w.queue, BUCKETS,
                                w.marks, BUCKETS, 80, w.figures, &t.place);
-    CHECK_TOLD(t, GABUNLITIK_LENGTH, 0);
+    CHECK_REFUSED(t, GABUNLITIK_LENGTH, 0, &s, &kept);
     check_unwalked(&w);
-    t.place = 77;
+    t = untold();
+    t.number = gabunlitik_peel(K, s.counts, BUCKETS, s.idsums, BUCKETS, w.flows, 4, w.counts, 4, w.queue, BUCKETS - 1,
+                               w.marks, BUCKETS, 80, w.figures, &t.place);
+    CHECK_REFUSED(t, GABUNLITIK_LENGTH, 0, &s, &kept);
+    check_unwalked(&w);
+    t = untold();
     t.number = gabunlitik_peel(K, s.counts, BUCKETS, s.idsums, BUCKETS, w.flows, 4, w.counts, 4, w.queue, BUCKETS,
                                w.marks, BUCKETS - 1, 80, w.figures, &t.place);
-    CHECK_TOLD(t, GABUNLITIK_LENGTH, 0);
+    CHECK_REFUSED(t, GABUNLITIK_LENGTH, 0, &s, &kept);
+    check_unwalked(&w);
+    t = untold();
+    t.number = gabunlitik_peel(K, s.counts, BUCKETS - 1, s.idsums, BUCKETS, w.flows, 4, w.counts, 4, w.queue, BUCKETS,
+                               w.marks, BUCKETS, 80, w.figures, &t.place);
+    CHECK_REFUSED(t, GABUNLITIK_LENGTH, 0, &s, &kept);
     check_unwalked(&w);
     s.idsums[4] = kept.idsums[4] = 2147483647;
-    CHECK_TOLD(peel(&s, &w, MOST_SLOTS, 80), GABUNLITIK_DAMAGE, 4);
+    CHECK_REFUSED(peel(&s, &w, MOST_SLOTS, 80), GABUNLITIK_DAMAGE, 4, &s, &kept);
     check_unwalked(&w);
-    CHECK(same(&s, &kept));
 }
 
 void test_walks(void) {
     clean();
     spent();
     stuck_and_full();
+    range();
     refused();
 }

@@ -94,6 +94,32 @@ def each_allowance(rng):
     return script.bytes
 
 
+# Arrays, and buckets in each, of sketches whose walks find more flows than there are buckets: four times two do so most often.
+CIRCLING = ((4, 2),) * 5 + ((3, 2),) * 2 + ((4, 1), (3, 1), (2, 2))
+
+
+def long_tables(rng):
+    """Few buckets of any content, walked round and round: many tables go on past the queue's length, and flows there are taken again."""
+    d, m = rng.choice(CIRCLING)
+    params = Params(d, m, four_pairs(rng, d))
+    size = d * m
+    script = Script()
+    script.sketch(1, params)
+    script.sketch(2, params)
+    for _ in range(rng.randint(2, 5)):
+        most = rng.choice((3, 1000, 10**6, 10**6, MOST // 50))
+        if rng.random() < 0.8:
+            for index in range(size):
+                script.bucket(index, rng.choice((-1, 1)) * rng.randint(1, most), rng.randint(0, P - 1))
+        else:
+            put_in(rng, script, 2, [(rng.randint(0, P - 1), rng.randint(1, most)) for _ in range(rng.randint(2, size))])
+            script.add("subtract")
+        script.table(params, rng.choice((size + 1, 2 * size, 5 * size, 1000, 1000)), rng.choice((0, 9, WORD)))
+        script.add("peel", 1, (rng.choice((100, 500, 2000)),))
+        script.add("show")
+    return script.bytes
+
+
 def any_buckets(rng):
     """Buckets of any content peeled: such as no packets made, at the limits, with a count of 0 and an idsum that is not."""
     params = any_params(rng, 1, rng.choice((1, 3, 6)))
@@ -248,9 +274,7 @@ def orders(rng):
             script.params(sketch, rng.choice((bad_params, changed))(rng, params))
     for _ in range(rng.choice((0, 1, 1, 2))):
         wrong_slice(rng, script, size)
-    for name, operands in calls(rng, params):
-        script.add(name, 1, operands)
-    script.show()
+    call_all(rng, script, params)
     return script.bytes
 
 
@@ -270,6 +294,15 @@ def calls(rng, params):
         ("index", (rng.randint(0, params.d + 1), flow)), ("fresh", ())]
     rng.shuffle(made)
     return made
+
+
+def call_all(rng, script, params):
+    """All these calls; a show comes before each that may write over what a refused one altered, and at the end."""
+    for name, operands in calls(rng, params):
+        if name in ("fresh", "peel", "read sketch back", "write stream", "write sketch"):
+            script.show()
+        script.add(name, 1, operands)
+    script.show()
 
 
 def lengths(rng):
@@ -307,9 +340,7 @@ def parameters(rng):
     script.table(params, 4, 3)
     script.length("output", 100)
     script.params(rng.choice((1, 1, 2)), bad_params(rng, params))
-    for name, operands in calls(rng, params):
-        script.add(name, 1, operands)
-    script.show()
+    call_all(rng, script, params)
     return script.bytes
 
 

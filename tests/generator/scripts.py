@@ -60,9 +60,10 @@ def empty(_rng):
 
 
 KINDS = (
-    (script_calls.walks, 14), (script_calls.each_allowance, 10), (script_calls.any_buckets, 10), (script_calls.one_flow, 2),
-    (script_calls.inserts, 10), (script_calls.lists, 8), (script_calls.sums, 10), (script_calls.orders, 10), (script_calls.lengths, 8),
-    (script_calls.parameters, 6), (script_calls.places, 4), (script_calls.long_lists, 0.5), (script_calls.largest, 0.3),
+    (script_calls.walks, 14), (script_calls.each_allowance, 10), (script_calls.long_tables, 6), (script_calls.any_buckets, 10),
+    (script_calls.one_flow, 2), (script_calls.inserts, 10), (script_calls.lists, 8), (script_calls.sums, 10),
+    (script_calls.orders, 10), (script_calls.lengths, 8), (script_calls.parameters, 6), (script_calls.places, 4),
+    (script_calls.long_lists, 0.5), (script_calls.largest, 0.3),
     (script_files.streams_read, 14), (script_files.sketches_read, 16), (script_files.every_cut, 3),
     (script_files.streams_written, 8), (script_files.sketches_written, 8),
     (any_calls, 10), (any_operands, 6), (broken_off, 4), (empty, 0.1),

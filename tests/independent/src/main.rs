@@ -31,7 +31,7 @@ fn report(bytes: &[u8]) -> String {
         Err(refusal) => print::refused(&refusal),
         Ok((mut difference, downstream)) => {
             let subtracted = difference.combine(-1, &downstream);
-            debug_assert!(subtracted.is_ok(), "both sketches have counts of 0 or more, so no difference leaves the range");
+            assert!(subtracted.is_ok(), "both sketches have counts of 0 or more, so no difference leaves the range");
             let size = difference.buckets.len();
             let walked = walk::walk(&mut difference, size, 8 * size);
             print::walked(&walked, &difference)
