@@ -9,10 +9,10 @@ use lib.Dec.{eqb, leb}
 use lib.ListN.{length, getD, drop, length-append, length-drop, List·getD-append}
 use lib.Seq.{drop-at, drop-drop, getD-drop}
 use Rattle.params.specs.declared.params.Params.{Params}
-use Rattle.params.specs.declared.answers.Why.the-variants.{Param, Mismatch, Form}
+use Rattle.params.specs.declared.answers.Why.the-variants.{Param, Form}
 use Rattle.params.specs.declared.answers.Answer.the-variants.{Done}
 use Rattle.params.specs.Answers.{first, kept}
-use Rattle.params.specs.Params.{size, goodParams, sameParams}
+use Rattle.params.specs.Params.{size, goodParams}
 use Rattle.sketch.specs.Sketch.{Sketch, zeros}
 use Rattle.files.specs.Bytes.{word}
 use Rattle.params.proofs.Searches.{and-true}
@@ -27,7 +27,6 @@ use Rattle.streamfile.proofs.Accepting.{stream-done}
 use Rattle.desk.specs.declared.states.Stage.the-variants.{Packets, Head, Over}
 use Rattle.desk.specs.declared.states.State.{State}
 use Rattle.desk.specs.declared.states.Fed.{Fed}
-use Rattle.desk.specs.declared.stages.Due.the-variants.{Here}
 use Rattle.desk.specs.Desk.{fewEnough, beginAnswer, beginOf, started, stageAfter, taken, takenAnswer, afterTaken, isDue, packetsState, dueOf, dueEnd, endedState, secondAnswer, headedState, packetsStage, packetsSketch, endStage, headStage, overStage, rest, inReach, firstPackets, firstEnd, secondHead, secondPackets, secondEnd, fedState, Feeds, finishAnswer}
 use Rattle.desk.proofs.Whole.{whole-record}
 use Rattle.desk.proofs.FirstHead.{begin-settled}

@@ -1,7 +1,7 @@
 -- The queue as a ring of places with marks. An index is in the low 16 bits of its place, and a mark is the low bit of its number; what
 -- stands above them is for the chains of table slots.
 use mathlib.Core.Path.{_≡_}
-use mathlib.Core.Bool.{Bool, true, false, cond}
+use mathlib.Core.Bool.{cond}
 use mathlib.Core.List.{List, [], _∷_}
 use Prim.Native.Nat.{ℕ, _+_, _*_, _-_, _/_, _%_, _<_, _≤_}
 use lib.IntN.{ℤ}

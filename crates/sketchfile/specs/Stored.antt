@@ -1,10 +1,10 @@
 -- A sketch file read: a head, the buckets that are not all zero in rising index, each once, an end.
 use mathlib.Core.Path.{_≡_}
-use mathlib.Core.Bool.{Bool, not, _&&_}
+use mathlib.Core.Bool.{not, _&&_}
 use mathlib.Core.List.{List}
 use Prim.Native.Nat.{ℕ, zero, suc, _+_}
 use lib.IntN.{ℤ}
-use lib.Dec.{eqb, leb, ltb}
+use lib.Dec.{leb, ltb}
 use lib.ListN.{length, set}
 use Rattle.params.specs.declared.params.Params.{Params}
 use Rattle.params.specs.declared.answers.Why.the-variants.{Damage, Form}

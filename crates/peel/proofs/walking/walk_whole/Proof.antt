@@ -1,5 +1,5 @@
 -- `peel::walking::walk_whole` meets its contract: the start makes the definition's first state.
-use mathlib.Core.Path.{_≡_, sym, ap, _∙_}
+use mathlib.Core.Path.{sym, ap, _∙_}
 use native.Mathlib.Omega.{arith}
 use lib.ListN.{length}
 use denote.Ref.{now}
