@@ -14,7 +14,7 @@ use Rattle.params.specs.declared.answers.Answer.the-variants.{Done}
 use Rattle.params.specs.Lists.{from}
 use Rattle.params.specs.Answers.{kept}
 use Rattle.params.specs.Params.{size, goodParams, sameParams, lengthsAnswer}
-use Rattle.sketch.specs.Buckets.{inLimits}
+use Rattle.buckets.specs.Buckets.{inLimits}
 use Rattle.sketch.specs.Sketch.{Sketch, zeros, damagedAt}
 use Rattle.sketch.specs.Packets.{after}
 use Rattle.sketch.proofs.Tables.{from-same}

@@ -1,5 +1,4 @@
 // Records taken as they come: those of the upstream stream go into one sketch, those of the downstream one into another.
-ghost use mathlib.Core.Path.{_≡_};
 ghost use Rattle.sketch.specs.Sketch.{sketch};
 ghost use Rattle.desk.specs.Desk.{Feeds};
 use crate::stages::end;

@@ -16,7 +16,7 @@ use files::records::is_kind;
 use params::Answer;
 use params::Params;
 use params::Why;
-use sketch::packets::step;
+use sketch::packets::put_in;
 
 // What stands where a record of a kind is due: it, not yet all of it, or something else.
 pub(crate) enum Due {
@@ -43,7 +43,7 @@ fn take_packets(p: Params, counts: &mut [i32], idsums: &mut [u32], bytes: &[u8])
         let Packets::Of(flow, number) = found else {
             break;
         };
-        let told = step(false, p, counts, idsums, flow, number);
+        let told = put_in(p, counts, idsums, flow, number);
         let Answer::Done = told else {
             return Run { taken, told };
         };

@@ -2,7 +2,7 @@
 // number is its residue, so arguments need not be below p, and modulo 0 the only residue is 0. What holds of inverses and
 // flows holds where p is prime.
 ghost use mathlib.Core.Path.{_≡_};
-ghost use Prim.Native.Nat.{ℕ, _+_, _*_};
+ghost use Prim.Native.Nat.{_+_, _*_};
 ghost use lib.IntN.{pos, negℤ, _-ℤ_};
 ghost use Rattle.field.specs.Residue.{residue};
 ghost use Rattle.field.specs.Flow.{inverse as «inverse-of», flow as «flow-of»};

@@ -18,7 +18,7 @@ use mir.Val.{SFits}
 use Rattle.params.proofs.Searches.{and-true}
 use Rattle.files.specs.Bytes.{over}
 use Rattle.files.proofs.Overwriting.{over-none}
-use Rattle.sketch.specs.Buckets.{allZero}
+use Rattle.buckets.specs.Buckets.{allZero}
 use Rattle.walk.specs.declared.Ending.{Ending}
 use Rattle.walk.specs.Endings.{endingWord}
 use Rattle.lines.specs.Decimal.{decimal, signedDecimal}

@@ -5,7 +5,7 @@ use Prim.Native.Nat.{ℕ, zero, suc, _+_, _*_}
 use lib.IntN.{ℤ, pos}
 use lib.Dec.{eqb, leb}
 use lib.ListN.{length, getD}
-use Rattle.sketch.specs.Buckets.{allZero}
+use Rattle.buckets.specs.Buckets.{allZero}
 use Rattle.sketch.specs.Sketch.{Entry}
 use Rattle.walk.specs.declared.Ending.{Ending}
 use Rattle.walk.specs.Walk.{Outcome, close, net}

@@ -2,13 +2,13 @@
 ghost use mathlib.Core.Path.{_≡_};
 ghost use Prim.Native.Nat.{_+_, _*_, _≤_};
 ghost use lib.ListN.{length};
-ghost use Rattle.lines.specs.Lines.{lossLine, leftLine, endLine, Lined};
+ghost use Rattle.lines.specs.Lines.{lossLine, Lined};
 ghost use Rattle.lines.specs.Reports.{lossLines, leftIfAny, leftLines, reportText, reportFits};
 ghost use Rattle.lines.specs.Texts.{Placed};
 use crate::lines::end;
 use crate::lines::left;
 use crate::lines::loss;
-use sketch::buckets::all_zero;
+use buckets::all_zero;
 use walk::Ending;
 
 // Whether a report can be written: of so many bytes, entries of a table, and buckets.

@@ -4,6 +4,7 @@ pub mod Changes
 pub mod Judging
 pub mod Sizes
 pub mod Rules
+pub mod Standing
 pub mod Lowest
 pub mod InOrder
 pub mod SameParams

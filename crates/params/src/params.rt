@@ -278,19 +278,37 @@ impl Params {
         self.spot(i - 1, f)
     }
 
-    // Whether a flow stands in bucket k; in no bucket where the sizes break a rule.
+    // Whether a flow stands in bucket k; in no bucket where the sizes break a rule. Written out, as the checks are: with an index that
+    // is not a constant, both arrays of pairs would be copied at every call.
     pub fn stands(self, f: u32, k: usize) -> bool
         ensures { λ r. ⌜ r ≡ (goodSizes self && «stands-of» self f k) ⌝ }
     {
         if !self.sized() {
             return false;
         }
+        let d = self.d;
         let m = self.m;
-        let i = k / m;
-        if self.d <= i {
+        let a = self.a;
+        let b = self.b;
+        if k < m {
+            return k == place(a[0], b[0], m, f);
+        }
+        if k < 2 * m {
+            return k == m + place(a[1], b[1], m, f);
+        }
+        if d <= 2 {
             return false;
         }
-        self.spot(i, f) == k % m
+        if k < 3 * m {
+            return k == 2 * m + place(a[2], b[2], m, f);
+        }
+        if d <= 3 {
+            return false;
+        }
+        if k < 4 * m {
+            return k == 3 * m + place(a[3], b[3], m, f);
+        }
+        false
     }
 
     // A flow's place in each array, found once for all that a caller does with them. Where the sizes break a rule nothing is written.

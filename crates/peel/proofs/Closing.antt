@@ -1,6 +1,6 @@
 -- Laws of the close and of the net figure, an entry at a time.
-use mathlib.Core.Path.{_≡_, refl, sym, ap, ap₂, _∙_}
-use mathlib.Core.Bool.{Bool, true, false, cond}
+use mathlib.Core.Path.{_≡_, sym, ap, ap₂, _∙_}
+use mathlib.Core.Bool.{true, false, cond}
 use mathlib.Core.List.{List, [], _∷_, _++_, append-assoc, append-nil}
 use Prim.Native.Nat.{ℕ, suc, _+_, _-_, _<_, _≤_}
 use native.Mathlib.Nat.{sub-zero, zero-add}
@@ -13,8 +13,7 @@ use Rattle.params.specs.Lists.{from}
 use Rattle.sketch.specs.Sketch.{Entry, by}
 use Rattle.sketch.proofs.Tables.{from-same}
 use Rattle.walk.specs.Walk.{close, net}
-use Rattle.sketch.specs.Buckets.{isZero}
-use Rattle.sketch.proofs.Zeros.{zero-is}
+use Rattle.buckets.specs.Buckets.{isZero}
 use Rattle.peel.specs.Table.{row, tableOf}
 use Rattle.peel.proofs.Froms.{from-last}
 

@@ -16,7 +16,7 @@ use Rattle.params.specs.declared.answers.Answer.the-variants.{Done, Refused}
 use Rattle.params.specs.Lists.{least}
 use Rattle.params.specs.Answers.{refuseAt}
 use Rattle.params.specs.Params.{prime, size, Sized, shapeAnswer}
-use Rattle.sketch.specs.Buckets.{inLimits}
+use Rattle.buckets.specs.Buckets.{inLimits}
 use Rattle.sketch.specs.Sketch.{Sketch, sketch, damagedAt}
 use Rattle.params.proofs.Judging.{Refusal, first-refused, first-passed, first-done, refuse-done, refuse-at-done, refuse-found, refuse-past}
 use Rattle.params.proofs.Rules.{shape-done}

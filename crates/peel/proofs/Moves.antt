@@ -10,7 +10,7 @@ use Rattle.walk.specs.declared.Ending.{Ending}
 use Rattle.walk.specs.declared.Ending.the-variants.{Clean, Stuck, Spent, NoInverse, Range, Full}
 use Rattle.walk.specs.declared.Found.the-variants.{Undefined, Impure, Pure}
 use Rattle.walk.specs.Walk.{Rule, State, stops, goes, out, queued, join, nothingLeft, requeue, inRange, hasRoom, taken, takes, follows, popped, before, after, run}
-use Rattle.sketch.specs.Buckets.{isZero}
+use Rattle.buckets.specs.Buckets.{isZero}
 
 module _ (R : Rule) (slots : ℕ) where
   -- the moves

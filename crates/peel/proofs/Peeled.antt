@@ -1,7 +1,7 @@
 -- The record `Peels` put together from its parts, where peeling is refused and where it is done.
-use mathlib.Core.Path.{_≡_, refl, sym, ap, _∙_}
+use mathlib.Core.Path.{_≡_, sym, ap, _∙_}
 use mathlib.Core.List.{List}
-use Prim.Native.Nat.{ℕ, _≤_}
+use Prim.Native.Nat.{ℕ}
 use native.Mathlib.Omega.{arith}
 use lib.IntN.{ℤ, pos}
 use lib.ListN.{length, replicate}
@@ -15,8 +15,7 @@ use Rattle.sketch.specs.Sketch.{Sketch, sketch}
 use Rattle.walk.specs.Walk.{Outcome, close}
 use Rattle.peel.specs.declared.peeling.Figures.{Figures}
 use Rattle.peel.specs.declared.peeling.Peeled.the-variants.{Ended, Refused as NotPeeled}
-use Rattle.peel.specs.Table.{tableOf}
-use Rattle.peel.specs.Rep.{Sound, Leaves}
+use Rattle.peel.specs.Rep.{Leaves}
 use Rattle.peel.specs.Peel.{figuresOf, peeledOf, flowsOf, numbersOf, padded, judged, walked, Peels}
 use Rattle.peel.proofs.Padding.{all-zeros, entries-many, padded-flows, padded-numbers}
 use Rattle.peel.proofs.Judged.{judged-sound}

@@ -11,7 +11,7 @@ use lib.ListN.{length, getD, drop}
 use lib.Seq.{drop-cons, drop-length}
 use Rattle.sketch.specs.Sketch.{Sketch, countIn}
 use Rattle.walk.specs.Walk.{join, requeue, firstQueue}
-use Rattle.sketch.specs.Buckets.{isZero}
+use Rattle.buckets.specs.Buckets.{isZero}
 use Rattle.peel.specs.Ring.{occ}
 use Rattle.peel.proofs.Occurrences.{bit-other, occ-nil, occ-snoc, join-new}
 

@@ -1,15 +1,14 @@
 -- Laws of a take's range: what the loop over a flow's arrays finds by the places that it keeps, as the definition's test says it.
-use mathlib.Core.Path.{_≡_, refl}
+use mathlib.Core.Path.{_≡_}
 use mathlib.Core.Bool.{Bool, true, false}
 use mathlib.Core.List.{List}
-use Prim.Native.Nat.{ℕ, zero, suc, _+_, _*_, _<_}
-use native.Mathlib.Omega.{arith}
+use Prim.Native.Nat.{ℕ, _+_, _*_, _<_}
 use lib.IntN.{ℤ, pos, _+ℤ_, _-ℤ_}
 use lib.ListN.{getD}
 use Rattle.params.specs.declared.params.Params.{Params}
 use Rattle.params.specs.Lists.{below}
 use Rattle.params.specs.Places.{stand, Placed}
-use Rattle.sketch.specs.Buckets.{inLimits}
+use Rattle.buckets.specs.Buckets.{inLimits}
 use Rattle.sketch.specs.Sketch.{countIn}
 use Rattle.params.proofs.Searches.{all-below, below-fails}
 use Rattle.walk.specs.Walk.{State, entryOf, inRange}

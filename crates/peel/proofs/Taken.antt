@@ -14,13 +14,13 @@ use Rattle.field.specs.Residue.{residue}
 use Rattle.field.proofs.Residues.{residue-below}
 use Rattle.params.specs.declared.params.Params.{Params}
 use Rattle.params.specs.Lists.{touched}
-use Rattle.params.specs.Params.{prime, Sized}
-use Rattle.params.specs.Places.{standsIn, Placed, Reached}
-use Rattle.sketch.specs.Buckets.{inLimits}
+use Rattle.params.specs.Params.{prime}
+use Rattle.params.specs.Places.{standsIn, Placed}
+use Rattle.buckets.specs.Buckets.{inLimits}
 use Rattle.sketch.specs.Sketch.{Sketch, sketch, changedIn}
 use Rattle.params.proofs.Searches.{and-true}
 use Rattle.params.proofs.Changes.{length-touched, getD-touched}
-use Rattle.sketch.proofs.Steps.{stand-below, placed}
+use Rattle.sketch.proofs.Steps.{placed}
 use Rattle.walk.specs.Walk.{less}
 use Rattle.walk.specs.Purity.{ruleOf}
 use Rattle.peel.specs.Dirt.{Sane, Applied}

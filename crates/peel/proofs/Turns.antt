@@ -13,7 +13,7 @@ use Rattle.params.specs.declared.params.Params.{Params}
 use Rattle.params.specs.Lists.{from}
 use Rattle.params.specs.Params.{prime, Sized}
 use Rattle.params.specs.Places.{stand, stands, Placed}
-use Rattle.sketch.specs.Buckets.{inLimits}
+use Rattle.buckets.specs.Buckets.{inLimits}
 use Rattle.sketch.specs.Sketch.{Sketch, Entry, sketch}
 use Rattle.walk.specs.declared.Ending.{Ending}
 use Rattle.walk.specs.declared.Ending.the-variants.{Clean, Stuck, Spent, NoInverse, Range, Full}

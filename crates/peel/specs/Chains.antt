@@ -1,6 +1,6 @@
--- The chains of table slots by which a flow is looked up. The flows with one key stand in one chain, the newest first: above its mark, the
--- number of key k holds 1 + the newest slot; above its index, the queue's place e holds 1 + the slot before e; 0 ends a chain. Slots past
--- the queue's end are in no chain.
+-- The chains of table slots by which a flow is looked up. A flow has a key, which in the walk is its place in array 1 (`stand P 0`), and the
+-- slots of the flows with key k make chain k, the newest first: `marks[k] / 2` is 1 + the newest slot of chain k, and `queue[e] / 65536` is
+-- 1 + the slot after e in its chain, a lower one; 0 ends a chain. Slots past the queue's end are in no chain.
 use mathlib.Core.Path.{_≡_}
 use mathlib.Core.List.{List}
 use Prim.Native.Nat.{ℕ, _+_, _*_, _-_, _/_, _%_, _<_, _≤_, min}

@@ -9,9 +9,8 @@ use lib.ListN.{getD, length, set}
 use Rattle.field.specs.Residue.{residue}
 use Rattle.params.specs.Params.{prime}
 use Rattle.params.specs.Places.{standsIn}
-use Rattle.sketch.specs.Buckets.{inLimits}
 use Rattle.sketch.specs.Sketch.{sketch, changedIn}
-use Rattle.sketch.specs.Buckets.{isZero}
+use Rattle.buckets.specs.Buckets.{isZero, inLimits}
 
 -- 1 where a bucket is not all zero, and the number of those
 unfoldable pub some : ℤ → ℕ → ℕ
@@ -30,10 +29,12 @@ pub record Sane (n : ℕ) (cs : List ℤ) (ss : List ℕ) : Type 0 where
   pub idsums : (k : ℕ) → getD ss k 0 < prime
 
 -- one bucket's part of a take, and all of a flow's
-pub record Takes (cs : List ℤ) (ss : List ℕ) (j : ℕ) (c : ℤ) (left : ℕ) : Type 0 where
+pub record Takes (cs : List ℤ) (ss : List ℕ) (j : ℕ) (c : ℤ) (s left : ℕ) : Type 0 where
   pub inside : j < length cs
   pub inside-ids : j < length ss
   pub limits : inLimits (getD cs j (pos 0) -ℤ c) ≡ true
+  pub idsum : getD ss j 0 < prime
+  pub small : s < prime
   pub dirt : left ≡ dirty cs ss
 
 pub record Took (cs : List ℤ) (ss : List ℕ) (j : ℕ) (c : ℤ) (s : ℕ) (cs' : List ℤ) (ss' : List ℕ) (left : ℕ) : Type 0 where

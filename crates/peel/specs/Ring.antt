@@ -1,5 +1,5 @@
--- The queue as a ring of places with marks. An index is in the low 16 bits of its place, and a mark is the low bit of its number; what
--- stands above them is for the chains of table slots.
+-- The queue as a ring of places, with marks: `queue[e] % 65536` is the bucket at place e, and `marks[k] % 2` is 1 where bucket k waits. What
+-- stands above these is for the chains of table slots.
 use mathlib.Core.Path.{_≡_}
 use mathlib.Core.Bool.{cond}
 use mathlib.Core.List.{List, [], _∷_}

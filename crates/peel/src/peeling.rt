@@ -1,6 +1,5 @@
 // Peeling, whole: the refusals, then the start, the walk and the close.
 ghost use mathlib.Core.Path.{_≡_};
-ghost use Prim.Native.Nat.{ℕ};
 ghost use lib.ListN.{length};
 ghost use Rattle.sketch.specs.Sketch.{sketch};
 ghost use Rattle.walk.specs.Walk.{walk as «walk-of»};
@@ -10,10 +9,10 @@ ghost use Rattle.peel.specs.Peel.{peelAnswer, Peels};
 use crate::queue::clear;
 use crate::table::close;
 use crate::walking::walk_whole;
+use buckets::first_damaged;
 use params::Answer;
 use params::Params;
 use params::Why;
-use sketch::buckets::first_damaged;
 use walk::Ending;
 
 // What a walk found: its ending, the entries left in the table, the sum of their counts, and the pops made.

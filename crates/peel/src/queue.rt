@@ -1,8 +1,8 @@
-// The ring of waiting buckets: `waiting` indexes from place `head` on, each in the low 16 bits of its place, and a mark for each bucket
-// that waits, the low bit of its number. The bits above belong to the table's chains, and stay.
+// The ring of waiting buckets: `queue[e] % 65536` is the bucket at place e, for `waiting` places from `head` on, and `marks[k] % 2` is 1
+// where bucket k waits. What stands above these belongs to the table's chains, and stays.
 ghost use mathlib.Core.Path.{_≡_};
-ghost use Prim.Native.Nat.{ℕ, _+_, _*_, _<_, _≤_};
-ghost use lib.ListN.{length, getD};
+ghost use Prim.Native.Nat.{_+_, _*_, _<_, _≤_};
+ghost use lib.ListN.{length};
 ghost use Rattle.params.specs.Places.{Reached};
 ghost use Rattle.peel.specs.Ring.{slot, Ring, Popped, Joined, Requeued, Started, Cleared};
 

@@ -1,13 +1,13 @@
 // The table of flows: the first n places of two slices, in the order of first takes. Flows that stand at one place of array 1 are
-// chained, so that a flow is looked up among these alone: above its low bit, the number of that place in `marks` holds 1 + the newest
-// slot, and `queue[e]`, above its low 16 bits, 1 + the slot before e. A slot past the queue's end has no place for a link, and is scanned.
+// chained, so that a flow is looked up among these alone: `marks[k] / 2` is 1 + the newest slot of a flow that stands at k, and
+// `queue[e] / 65536` is 1 + the next lower slot with the place of slot e. A slot past the queue's end has no place for a link, and is scanned.
 ghost use mathlib.Core.Path.{_≡_};
 ghost use mathlib.Core.Bool.{true};
 ghost use mathlib.Core.List.{List};
 ghost use Prim.Native.Nat.{ℕ, _/_, _<_, _≤_};
 ghost use lib.IntN.{pos, _+ℤ_};
 ghost use lib.ListN.{length, getD};
-ghost use Rattle.sketch.specs.Buckets.{inLimits};
+ghost use Rattle.buckets.specs.Buckets.{inLimits};
 ghost use Rattle.walk.specs.Walk.{entryOf, net};
 ghost use Rattle.peel.specs.Ring.{Cleared};
 ghost use Rattle.peel.specs.Chains.{Chained, Linked, Relinked};

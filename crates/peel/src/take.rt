@@ -4,12 +4,13 @@ ghost use mathlib.Core.Bool.{true};
 ghost use Prim.Native.Nat.{ℕ, _+_, _*_, _<_};
 ghost use lib.IntN.{pos, _-ℤ_};
 ghost use lib.ListN.{length, getD};
+ghost use Rattle.params.specs.Params.{prime};
 ghost use Rattle.params.specs.Places.{Reached};
-ghost use Rattle.sketch.specs.Buckets.{inLimits, plusMinus};
+ghost use Rattle.buckets.specs.Buckets.{inLimits, plusMinus};
 ghost use Rattle.peel.specs.Dirt.{some, dirty, Takes, Took, Applied};
-use sketch::buckets::moved;
-use sketch::buckets::within;
-use sketch::buckets::wound;
+use buckets::moved;
+use buckets::within;
+use buckets::wound;
 
 // x more c, or x less c, keeps within the limits.
 pub(crate) fn fits(minus: bool, x: i32, c: i32) -> bool
@@ -46,7 +47,7 @@ pub(crate) fn count_left(counts: &[i32], idsums: &[u32]) -> usize
 
 // Bucket j less c and s: how many buckets are not all zero then.
 fn take_one(counts: &mut [i32], idsums: &mut [u32], j: usize, c: i32, s: u32, dirt: usize) -> usize
-    requires { ⌜ Takes (now counts) (now idsums) j c dirt ⌝ }
+    requires { ⌜ Takes (now counts) (now idsums) j c s dirt ⌝ }
     ensures { λ r. ⌜ Took (now (counts .entry)) (now (idsums .entry)) j c s (now (counts .exit)) (now (idsums .exit)) r ⌝ }
 {
     let x = counts[j];
@@ -71,6 +72,7 @@ pub(crate) fn apply(
 ) -> usize
     requires { ⌜ Reached d m (now ks) (length (now counts)) (length (now idsums)) × (dirt ≡ dirty (now counts) (now idsums)) ⌝ }
     requires { ⌜ ((i : ℕ) → i < d → inLimits (getD (now counts) (i * m + getD (now ks) i 0) (pos 0) -ℤ c) ≡ true) ⌝ }
+    requires { ⌜ ((i : ℕ) → i < d → getD (now idsums) (i * m + getD (now ks) i 0) 0 < prime) × (s < prime) ⌝ }
     ensures { λ r. ⌜ Applied d m (now (ks .entry)) c s (now (counts .entry)) (now (idsums .entry)) (now (counts .exit)) (now (idsums .exit)) r ⌝ }
 {
     let mut left = dirt;

@@ -1,6 +1,5 @@
 // The walk: a loop that yields its ending, out of the nested range test over the arrays too.
-ghost use mathlib.Core.Path.{_≡_};
-ghost use Prim.Native.Nat.{ℕ, _+_, _<_, _≤_};
+ghost use Prim.Native.Nat.{_+_, _<_};
 ghost use lib.ListN.{length};
 ghost use Rattle.sketch.specs.Sketch.{sketch};
 ghost use Rattle.walk.specs.Walk.{run, walk as «walk-of»};

@@ -21,10 +21,10 @@ use Rattle.params.specs.Params.{prime, size, goodParams, lengthsAnswer}
 use Rattle.params.proofs.SameParams.{same-itself}
 use Rattle.params.proofs.Changes.{length-mapFrom, getD-mapFrom}
 use Rattle.params.proofs.Judging.{first-passed, refuse-none}
-use Rattle.sketch.specs.Buckets.{inLimits}
+use Rattle.buckets.specs.Buckets.{inLimits}
 use Rattle.sketch.specs.Sketch.{Sketch, countIn, idsumIn, damagedAt}
-use Rattle.sketch.proofs.Idsums.{prime-pos}
-use Rattle.sketch.proofs.Limits.{limits-size, whole, whole-back}
+use Rattle.buckets.proofs.Idsums.{prime-pos}
+use Rattle.buckets.proofs.Limits.{limits-size, whole, whole-back}
 use Rattle.sums.specs.Sums.{shapesAnswer, eitherDamaged, leaves, bucketsAnswer, combineAnswer, combined}
 use Rattle.sums.proofs.TwoSketches.{combine-done}
 use Rattle.walk.proofs.Promises.{Whole}

@@ -9,8 +9,9 @@ use borrow.Rule.Slice.PartMut.{putMid}
 use Rattle.params.specs.Lists.{touched}
 use Rattle.params.specs.Places.{standsIn}
 use Rattle.params.proofs.Changes.{length-touched, touched-none}
+use Rattle.params.proofs.Standing.{standing-past}
 use Rattle.sketch.proofs.LentParts.{part-long, part-old, part-next}
-use Rattle.sketch.proofs.Standing.{standing-none, standing-past, standing-next}
+use Rattle.sketch.proofs.Standing.{standing-none, standing-next}
 
 pub turns-start : {A : Type 0} (d : A) (m : ℕ) (g : ℕ → ℕ) (h : ℕ → A → A) (xs : List A) → xs ≡ touched (standsIn 0 m g) h xs
 turns-start d m g h xs = sym (ap (λ (t : ℕ → Bool). touched t h xs) (standing-none m g) ∙ touched-none h xs d)

@@ -1,5 +1,4 @@
 -- The laws of sketches, which the proofs of this crate and of those above it cite.
-pub mod Limits
 pub mod LentParts
 pub mod Fills
 pub mod Standing
@@ -7,9 +6,7 @@ pub mod ArrayTurns
 pub mod Steps
 pub mod Stretches
 pub mod Tables
-pub mod Idsums
 pub mod TakenBack
 pub mod ManyPackets
 pub mod Lowest
 pub mod InOrder
-pub mod Zeros

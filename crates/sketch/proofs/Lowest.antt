@@ -15,7 +15,7 @@ use Rattle.params.specs.declared.answers.Answer.the-variants.{Done, Refused}
 use Rattle.params.specs.Answers.{refuseIf, refuseAt, first}
 use Rattle.params.specs.Params.{prime, size, goodSizes, goodParams, lengthsAnswer, sizesAnswer}
 use Rattle.params.specs.Places.{stands}
-use Rattle.sketch.specs.Buckets.{inLimits, damaged, plusMinus}
+use Rattle.buckets.specs.Buckets.{inLimits, damaged, plusMinus}
 use Rattle.sketch.specs.Sketch.{Sketch, countIn, idsumIn, damagedIn, leavesIn, standingAnswer}
 use Rattle.sketch.specs.Packets.{packetAnswer, entryAnswer, stepAnswer, moveAnswer}
 use Rattle.params.proofs.Searches.{and-true, and-rest}

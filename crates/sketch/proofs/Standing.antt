@@ -1,9 +1,9 @@
--- Laws of `standsIn`: one bucket an array, array by array. They hold of any places g, a flow's or those that the code keeps.
+-- Laws of `standsIn`, array by array. They hold of any places g, a flow's or those that the code keeps.
 use mathlib.Core.Path.{_≡_, refl, sym, ap, _∙_, fun-ext}
 use mathlib.Core.Bool.{Bool, true, false, cond, _&&_}
 use mathlib.Core.List.{List}
 use Prim.Native.Nat.{ℕ, suc, _+_, _-_, _*_, _/_, _%_, _≤_, _<_}
-use native.Mathlib.Nat.{div-eq-of-lt-le, div-lt-iff-lt-mul, le-div-iff-mul-le, mod-add-div', suc-mul}
+use native.Mathlib.Nat.{div-lt-iff-lt-mul, mod-add-div', suc-mul}
 use native.Mathlib.Numerals.{add-one}
 use native.Mathlib.Decide.{ℕ-discrete, decLt}
 use native.Mathlib.Omega.{arith}
@@ -14,27 +14,7 @@ use Rattle.params.specs.Lists.{least}
 use Rattle.params.specs.Places.{standsIn, Reached}
 use Rattle.params.proofs.Searches.{and-false, least-here, least-skip}
 use Rattle.params.proofs.Sizes.{stretch-within, small}
-
--- the array of a bucket
-pub array-of : (m i k : ℕ) → i * m ≤ k → k < i * m + m → k / m ≡ i
-array-of m i k h l = div-eq-of-lt-le {k = i} m {m = k} h (omega (arith, suc-mul i m))
-
--- within the array that i others stand before, the one bucket is at its place
-pub standing-in : (d m : ℕ) (g : ℕ → ℕ) (i k : ℕ) → i < d → i * m ≤ k → k < i * m + m → standsIn d m g k ≡ eqb k (i * m + g i)
-unfolding standsIn
-standing-in d m g i k low h l = rw (array-of m i k h l, lt-ltb i d low) (go (ℕ-discrete k (i * m + g i)))
-  where
-    rest : k % m + i * m ≡ k
-    rest = ap (λ (n : ℕ). k % m + n * m) (sym (array-of m i k h l)) ∙ mod-add-div' k m
-
-    go : Dec (k ≡ i * m + g i) → eqb (g i) (k % m) ≡ eqb k (i * m + g i)
-    go (yes p) = eq-eqb (g i) (k % m) (omega (arith, rest)) ∙ sym (eq-eqb k (i * m + g i) p)
-    go (no q) = ne-eqb (g i) (k % m) (λ e. q (omega (arith, rest))) ∙ sym (ne-eqb k (i * m + g i) q)
-
--- past the last array nothing stands
-pub standing-past : (d m : ℕ) (g : ℕ → ℕ) (k : ℕ) → 1 ≤ m → d * m ≤ k → standsIn d m g k ≡ false
-unfolding standsIn
-standing-past d m g k low h = rw (le-ltb (k / m) d (le-div-iff-mul-le low .1 h))
+use Rattle.params.proofs.Standing.{standing-in, standing-past}
 
 -- one array more
 pub standing-next : (m : ℕ) (g : ℕ → ℕ) (i : ℕ) → 1 ≤ m → g i < m → standsIn (i + 1) m g ≡ (λ k. cond (eqb k (i * m + g i)) true (standsIn i m g k))
@@ -68,6 +48,18 @@ standing-same d m g h e = fun-ext (λ k. at k (decLt (k / m) d))
     at : (k : ℕ) → Dec (k / m < d) → (ltb (k / m) d && eqb (g (k / m)) (k % m)) ≡ (ltb (k / m) d && eqb (h (k / m)) (k % m))
     at k (yes l) = rw (e (k / m) l)
     at k (no l) = rw (le-ltb (k / m) d (omega arith))
+
+-- what fails at the place in each array fails at every bucket that stands there
+pub none-standing : (d m : ℕ) (g : ℕ → ℕ) (q : ℕ → Bool) → ((i : ℕ) → i < d → q (i * m + g i) ≡ false) → (k : ℕ) → (standsIn d m g k && q k) ≡ false
+unfolding standsIn
+none-standing d m g q h k = at (decLt (k / m) d) (ℕ-discrete (g (k / m)) (k % m))
+  where
+    at : Dec (k / m < d) → Dec (g (k / m) ≡ k % m) → (standsIn d m g k && q k) ≡ false
+    at (yes l) (yes e) =
+        let here : k ≡ k / m * m + g (k / m) = omega (arith, mod-add-div' k m) in
+        and-false (standsIn d m g k) (q k) (ap q here ∙ h (k / m) l)
+    at (yes l) (no e) = rw (lt-ltb (k / m) d l, ne-eqb (g (k / m)) (k % m) e)
+    at (no l) e = rw (le-ltb (k / m) d (omega arith))
 
 -- where the code reaches: each of the d places is a bucket, and no index is large
 pub record Within (d m i k : ℕ) : Type 0 where

@@ -7,23 +7,25 @@ use native.Mathlib.Nat.{mod-lt}
 use native.Mathlib.Omega.{arith}
 use borrow.Author.Tests.{leb-true, ltb-true, not-false, eq-eqb}
 use lib.Dec.{leb, ltb}
-use lib.IntN.{ℤ, pos}
+use lib.IntN.{ℤ, pos, natAbs}
 use lib.ListN.{length, getD}
 use Rattle.params.specs.declared.params.Params.{Params}
 use Rattle.params.specs.declared.answers.Why.the-variants.{Param, Flow, Count, Damage, Range}
 use Rattle.params.specs.declared.answers.Answer.{Answer}
 use Rattle.params.specs.declared.answers.Answer.the-variants.{Done, Refused}
 use Rattle.params.specs.Answers.{kept}
+use Rattle.params.specs.Lists.{below}
 use Rattle.params.specs.Params.{prime, primeOf, size, Sized, goodParams, sizesAnswer}
 use Rattle.params.specs.Places.{stand, standsIn, stands, Placed, Reached}
-use Rattle.sketch.specs.Buckets.{inLimits, damaged, plusMinus, weight}
-use Rattle.sketch.specs.Sketch.{Sketch, countIn, idsumIn, damagedIn, leavesIn, standingAnswer, changedIn}
+use Rattle.buckets.specs.Buckets.{inLimits, damaged, plusMinus, weight}
+use Rattle.sketch.specs.Sketch.{Sketch, countIn, idsumIn, damagedAt, leavesAt, quietAt, damagedIn, leavesIn, standingAnswer, changedIn}
 use Rattle.sketch.specs.Packets.{packetAnswer, entryAnswer, stepAnswer, changed, Stepped, moveAnswer, Moved}
-use Rattle.params.proofs.Judging.{Refusal, first-refused, first-passed, first-done, kept-old, kept-new, refuse-done, refuse-at-done}
+use Rattle.params.proofs.Judging.{Refusal, first-refused, first-passed, first-done, kept-old, kept-new, refuse-done, refuse-none, refuse-at-done}
 use Rattle.params.proofs.Rules.{sizes-done}
-use Rattle.params.proofs.Searches.{and-true, and-rest}
-use Rattle.sketch.proofs.Limits.{whole}
-use Rattle.sketch.proofs.Standing.{standing-in, standing-same}
+use Rattle.params.proofs.Searches.{and-true, and-rest, below-at}
+use Rattle.params.proofs.Standing.{standing-in}
+use Rattle.buckets.proofs.Limits.{whole, quiet-whole, quiet-size, quiet-stays}
+use Rattle.sketch.proofs.Standing.{standing-same, none-standing}
 
 -- what an entry that was let in says of its sizes and its packet
 pub record Let (P : Params) (c s f n : ℕ) : Type 0 where
@@ -92,10 +94,23 @@ standing-done N on minus n S e k l h =
     (and-rest (on k) _ h (d .0 k l), not-false _ (and-rest (on k) _ h (r .0 k l)))
 
 pub has-room : (d m : ℕ) (g : ℕ → ℕ) (minus : Bool) (n : ℤ) (S : Sketch) → standingAnswer (d * m) (standsIn d m g) minus n S ≡ Done
-    → (i : ℕ) → i < d → g i < m → i * m + m ≤ d * m → inLimits (plusMinus minus (countIn S (i * m + g i)) n) ≡ true
+    → (i : ℕ) → i < d → g i < m → i * m + m ≤ d * m
+    → (inLimits (plusMinus minus (countIn S (i * m + g i)) n) ≡ true) × (idsumIn S (i * m + g i) < prime)
 has-room d m g minus n S e i h l end =
+    let b =
     standing-done (d * m) (standsIn d m g) minus n S e (i * m + g i) (omega arith)
-    (standing-in d m g i (i * m + g i) h (omega arith) (omega arith) ∙ eq-eqb (i * m + g i) (i * m + g i) refl) .1
+    (standing-in d m g i (i * m + g i) h (omega arith) (omega arith) ∙ eq-eqb (i * m + g i) (i * m + g i) refl)
+    in
+    (b .1, whole _ _ (b .0) .1)
+
+-- where each of them is quiet, and what is moved is as small, none is at fault
+pub quiet-done : (d m : ℕ) (g : ℕ → ℕ) (minus : Bool) (n : ℤ) (S : Sketch) → natAbs n ≤ 1000000000 → below d (λ i. quietAt S (i * m + g i)) ≡ true
+    → standingAnswer (d * m) (standsIn d m g) minus n S ≡ Done
+unfolding standingAnswer damagedIn leavesIn
+quiet-done d m g minus n S small e =
+    refuse-none (d * m) (damagedIn (standsIn d m g) S) Damage _ (λ k l. none-standing d m g (damagedAt S) (λ i h. quiet-whole _ _ (below-at d i _ e h)) k)
+    ∙ refuse-none (d * m) (leavesIn (standsIn d m g) minus n (S .counts)) Range Done
+    (λ k l. none-standing d m g (leavesAt minus n (S .counts)) (λ i h. ap not (quiet-stays minus _ n (quiet-size _ _ (below-at d i _ e h)) small)) k)
 
 -- what a step that is not refused tells
 pub record StepDone (P : Params) (minus : Bool) (f n : ℕ) (S : Sketch) : Type 0 where

@@ -13,15 +13,15 @@ use Rattle.params.specs.declared.answers.Answer.the-variants.{Done}
 use Rattle.params.specs.Answers.{kept}
 use Rattle.params.specs.Params.{prime, size}
 use Rattle.params.specs.Places.{stands}
-use Rattle.sketch.specs.Buckets.{inLimits, damaged, plusMinus, weight}
+use Rattle.buckets.specs.Buckets.{inLimits, damaged, plusMinus, weight}
 use Rattle.sketch.specs.Sketch.{Sketch, sketch, countIn, idsumIn, damagedIn, leavesIn, standingAnswer, changedIn}
 use Rattle.sketch.specs.Packets.{stepAnswer, changed, Inserted, Withdrawn}
 use Rattle.params.proofs.Changes.{length-touched, getD-touched}
 use Rattle.params.proofs.Judging.{first-passed, kept-new, refuse-none}
 use Rattle.sketch.proofs.Tables.{touched-back}
-use Rattle.sketch.proofs.Limits.{whole-back}
+use Rattle.buckets.proofs.Limits.{whole-back}
 use Rattle.sketch.proofs.Steps.{StepDone, step-done, move-done, move-good}
-use Rattle.sketch.proofs.Idsums.{prime-pos, wound-back}
+use Rattle.buckets.proofs.Idsums.{prime-pos, wound-back}
 
 -- it is enough that the idsums of the flow's buckets are below p
 pub changed-back : (P : Params) (f n : ℕ) (S : Sketch) → ((k : ℕ) → k < length (S .idsums) → stands P f k ≡ true → idsumIn S k < prime)

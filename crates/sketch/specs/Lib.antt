@@ -1,5 +1,4 @@
 -- What a reader must believe of sketches, in the words of the scope.
-pub mod Buckets
 pub mod Sketch
 pub mod Packets
 pub mod Arrays

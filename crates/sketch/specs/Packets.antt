@@ -13,7 +13,7 @@ use Rattle.params.specs.declared.answers.Answer.the-variants.{Done}
 use Rattle.params.specs.Answers.{refuseIf, first, kept}
 use Rattle.params.specs.Params.{prime, size, goodParams, sizesAnswer, shapeAnswer}
 use Rattle.params.specs.Places.{stands}
-use Rattle.sketch.specs.Buckets.{weight}
+use Rattle.buckets.specs.Buckets.{weight}
 use Rattle.sketch.specs.Sketch.{Sketch, Entry, by, standingAnswer, changedIn}
 
 -- a packet's flow, and its number, from 1 to p - 1

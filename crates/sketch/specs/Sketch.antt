@@ -14,7 +14,7 @@ use Rattle.params.specs.Lists.{touched, from}
 use Rattle.params.specs.Answers.{refuseAt, kept}
 use Rattle.params.specs.Params.{prime, primeOf, size, shapeAnswer}
 use Rattle.params.specs.Places.{stands}
-use Rattle.sketch.specs.Buckets.{inLimits, damaged, plusMinus}
+use Rattle.buckets.specs.Buckets.{inLimits, damagedOf, quiet, plusMinus}
 
 pub record Sketch : Type 0 where
   pub counts : List ℤ
@@ -32,10 +32,14 @@ idsumIn S k = getD (S .idsums) k 0
 
 -- bucket k is outside its limits; n more, or n less, would bring its count outside
 abbrev pub damagedAt : Sketch → ℕ → Bool
-damagedAt S k = damaged (countIn S k) (idsumIn S k)
+damagedAt S = damagedOf (S .counts) (S .idsums)
 
 abbrev pub leavesAt : Bool → ℤ → List ℤ → ℕ → Bool
 leavesAt minus n cs k = not (inLimits (plusMinus minus (getD cs k (pos 0)) n))
+
+-- bucket k is quiet
+abbrev pub quietAt : Sketch → ℕ → Bool
+quietAt S k = quiet (countIn S k) (idsumIn S k)
 
 -- a list of (flow, signed number) entries
 pub record Entry : Type 0 where

@@ -5,17 +5,18 @@ ghost use Prim.Native.Nat.{ℕ, _+_, _*_, _<_, _≤_};
 ghost use lib.IntN.{pos};
 ghost use lib.ListN.{length, getD, set, replicate};
 ghost use Rattle.field.specs.Residue.{residue};
-ghost use Rattle.params.specs.Lists.{least};
+ghost use Rattle.params.specs.Lists.{below, least};
 ghost use Rattle.params.specs.Params.{prime};
 ghost use Rattle.params.specs.Places.{standsIn, Reached};
-ghost use Rattle.sketch.specs.Buckets.{inLimits, plusMinus};
-ghost use Rattle.sketch.specs.Sketch.{sketch, damagedIn, leavesIn, standingAnswer, changedIn, Freshened};
+ghost use Rattle.buckets.specs.Buckets.{inLimits, plusMinus};
+ghost use Rattle.sketch.specs.Sketch.{sketch, quietAt, damagedIn, leavesIn, standingAnswer, changedIn, Freshened};
 ghost use Rattle.sketch.specs.Packets.{packetAnswer, entryAnswer, Stepped, Inserted, Withdrawn, Unwound, PacketsInserted, AllInserted};
-use crate::buckets::moved;
-use crate::buckets::sound;
-use crate::buckets::weight;
-use crate::buckets::within;
-use crate::buckets::wound;
+use buckets::moved;
+use buckets::quiet;
+use buckets::sound;
+use buckets::weight;
+use buckets::within;
+use buckets::wound;
 use params::Answer;
 use params::PRIME;
 use params::Params;
@@ -73,6 +74,22 @@ fn entry(p: Params, counts: usize, idsums: usize, f: u32, n: u32) -> Answer
     packet(f, n)
 }
 
+// Whether each of a flow's buckets is quiet.
+fn all_quiet(d: usize, m: usize, ks: &[usize; 4], counts: &[i32], idsums: &[u32]) -> bool
+    requires { ⌜ Reached d m (now ks) (length (now counts)) (length (now idsums)) ⌝ }
+    ensures { λ r. ⌜ r ≡ below d (λ i. quietAt (sketch (now (counts .entry)) (now (idsums .entry))) (i * m + getD (now (ks .entry)) i 0)) ⌝ }
+{
+    let mut i = 0;
+    while i < d {
+        let k = i * m + ks[i];
+        if !quiet(counts[k], idsums[k]) {
+            return false;
+        }
+        i += 1;
+    }
+    true
+}
+
 // The index of the first of a flow's buckets that is outside its limits, or the sketch's size.
 fn first_damaged(d: usize, m: usize, ks: &[usize; 4], counts: &[i32], idsums: &[u32]) -> usize
     requires { ⌜ Reached d m (now ks) (length (now counts)) (length (now idsums)) ⌝ }
@@ -105,8 +122,8 @@ fn first_leaving(minus: bool, d: usize, m: usize, ks: &[usize; 4], counts: &[i32
     d * m
 }
 
-// A flow's buckets are whole and stay within their limits.
-fn buckets(
+// A flow's buckets are whole and stay within their limits. Where they are quiet, and n as small, no more is to be looked at.
+fn judge(
     minus: bool,
     d: usize,
     m: usize,
@@ -118,6 +135,11 @@ fn buckets(
     requires { ⌜ Reached d m (now ks) (length (now counts)) (length (now idsums)) ⌝ }
     ensures { λ r. ⌜ r ≡ standingAnswer (d * m) (standsIn d m (λ i. getD (now (ks .entry)) i 0)) minus n (sketch (now (counts .entry)) (now (idsums .entry))) ⌝ }
 {
+    if quiet(n, 0) {
+        if all_quiet(d, m, ks, counts, idsums) {
+            return Answer::Done;
+        }
+    }
     let x = first_damaged(d, m, ks, counts, idsums);
     if x < counts.len() {
         return Answer::Refused(Why::Damage, x);
@@ -133,6 +155,7 @@ fn buckets(
 fn put(minus: bool, counts: &mut [i32], idsums: &mut [u32], j: usize, n: i32, w: u32)
     requires { ⌜ (j < length (now counts)) × (j < length (now idsums)) ⌝ }
     requires { ⌜ inLimits (plusMinus minus (getD (now counts) j (pos 0)) n) ≡ true ⌝ }
+    requires { ⌜ (getD (now idsums) j 0 < prime) × (w < prime) ⌝ }
     ensures { λ r. ⌜ now (counts .exit) ≡ set (now (counts .entry)) j (plusMinus minus (getD (now (counts .entry)) j (pos 0)) n) ⌝ }
     ensures { λ r. ⌜ now (idsums .exit) ≡ set (now (idsums .entry)) j (residue prime (plusMinus minus (pos (getD (now (idsums .entry)) j 0)) (pos w))) ⌝ }
 {
@@ -153,6 +176,7 @@ fn put_all(
 )
     requires { ⌜ Reached d m (now ks) (length (now counts)) (length (now idsums)) ⌝ }
     requires { ⌜ ((i : ℕ) → i < d → inLimits (plusMinus minus (getD (now counts) (i * m + getD (now ks) i 0) (pos 0)) n) ≡ true) ⌝ }
+    requires { ⌜ ((i : ℕ) → i < d → getD (now idsums) (i * m + getD (now ks) i 0) 0 < prime) × (w < prime) ⌝ }
     ensures { λ r. ⌜ sketch (now (counts .exit)) (now (idsums .exit)) ≡ changedIn (standsIn d m (λ i. getD (now (ks .entry)) i 0)) minus n w (sketch (now (counts .entry)) (now (idsums .entry))) ⌝ }
 {
     let mut i = 0;
@@ -185,11 +209,53 @@ pub fn step(
     p.places(f, &mut ks);
     let d = p.d;
     let m = p.m;
-    let r = buckets(minus, d, m, &ks, counts, idsums, n as i32);
+    let r = judge(minus, d, m, &ks, counts, idsums, n as i32);
     let Answer::Done = r else {
         return r;
     };
     put_all(minus, d, m, &ks, counts, idsums, n as i32, weight(f, n));
+    r
+}
+
+// n packets of flow f go in: `step` without its choice, by the same contract. It stands here a second time so that the one loop of a program
+// that puts in the packets of a stream takes it in: the compiler does that with a function that has one caller, and then lifts the judging
+// of the sizes out of the loop.
+pub fn put_in(p: Params, counts: &mut [i32], idsums: &mut [u32], f: u32, n: u32) -> Answer
+    ensures { λ r. ⌜ Stepped false p f n (sketch (now (counts .entry)) (now (idsums .entry))) r (sketch (now (counts .exit)) (now (idsums .exit))) ⌝ }
+{
+    let e = entry(p, counts.len(), idsums.len(), f, n);
+    let Answer::Done = e else {
+        return e;
+    };
+    let mut ks: [usize; 4] = [0; 4];
+    p.places(f, &mut ks);
+    let d = p.d;
+    let m = p.m;
+    let r = judge(false, d, m, &ks, counts, idsums, n as i32);
+    let Answer::Done = r else {
+        return r;
+    };
+    put_all(false, d, m, &ks, counts, idsums, n as i32, weight(f, n));
+    r
+}
+
+// The same a third time, for the loop over a list of packets.
+fn put_listed(p: Params, counts: &mut [i32], idsums: &mut [u32], f: u32, n: u32) -> Answer
+    ensures { λ r. ⌜ Stepped false p f n (sketch (now (counts .entry)) (now (idsums .entry))) r (sketch (now (counts .exit)) (now (idsums .exit))) ⌝ }
+{
+    let e = entry(p, counts.len(), idsums.len(), f, n);
+    let Answer::Done = e else {
+        return e;
+    };
+    let mut ks: [usize; 4] = [0; 4];
+    p.places(f, &mut ks);
+    let d = p.d;
+    let m = p.m;
+    let r = judge(false, d, m, &ks, counts, idsums, n as i32);
+    let Answer::Done = r else {
+        return r;
+    };
+    put_all(false, d, m, &ks, counts, idsums, n as i32, weight(f, n));
     r
 }
 
@@ -245,7 +311,7 @@ fn insert_packets(
 {
     let mut i = 0;
     while i < flows.len() {
-        let r = step(false, p, counts, idsums, flows[i], numbers[i]);
+        let r = put_listed(p, counts, idsums, flows[i], numbers[i]);
         let Answer::Done = r else {
             withdraw_first(p, counts, idsums, flows, numbers, i);
             return r;

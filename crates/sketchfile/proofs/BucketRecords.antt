@@ -15,7 +15,7 @@ use Rattle.params.specs.declared.answers.Answer.{Answer}
 use Rattle.params.specs.declared.answers.Answer.the-variants.{Done, Refused}
 use Rattle.params.specs.Answers.{kept}
 use Rattle.params.specs.Params.{prime, shapeAnswer}
-use Rattle.sketch.specs.Buckets.{allZero, inLimits, damaged}
+use Rattle.buckets.specs.Buckets.{allZero, inLimits, damaged}
 use Rattle.sketch.specs.Sketch.{Sketch, sketch, Freshened}
 use Rattle.params.proofs.Searches.{and-true}
 use Rattle.params.proofs.Judging.{Refusal, first-refused, first-passed, first-done, refuse-done}

@@ -14,15 +14,15 @@ use mir.Val.{SFits, toZ}
 use mir.ValLaws.{toZ-ofZ, ofZ-toZ, ofZ-fits}
 use Rattle.sketch.specs.Sketch.{Sketch, countIn, idsumIn}
 use Rattle.params.proofs.Searches.{and-true}
-use Rattle.sketch.specs.Buckets.{isZero}
-use Rattle.sketch.proofs.Zeros.{zero-is}
+use Rattle.buckets.specs.Buckets.{isZero}
+use Rattle.buckets.proofs.Zeros.{zero-is}
 use Rattle.files.specs.Bytes.{word, wordBytes, countWord, countOf}
 use Rattle.files.specs.Records.{bodyLength, recordAt, isKind}
 use Rattle.files.specs.Layout.{bucketBytes}
 use Rattle.files.proofs.Standing.{kind-ends}
 use Rattle.files.proofs.RoundTrips.{digits-make, word-small, word-then, two-words}
 use Rattle.files.proofs.RecordTrips.{kind-written, word-written, record-read}
-use Rattle.sketch.specs.Buckets.{allZero}
+use Rattle.buckets.specs.Buckets.{allZero}
 use Rattle.sketchfile.specs.Writing.{zeroAt, bucketsBytes}
 
 -- a whole bucket record at an offset, by what it says

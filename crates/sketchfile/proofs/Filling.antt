@@ -13,7 +13,7 @@ use Rattle.params.specs.declared.params.Params.{Params}
 use Rattle.params.specs.declared.answers.Answer.the-variants.{Done}
 use Rattle.params.specs.Params.{size}
 use Rattle.sketch.specs.Sketch.{Sketch, countIn, idsumIn, damagedAt, zeros}
-use Rattle.sketch.proofs.Limits.{whole, limits-fit}
+use Rattle.buckets.proofs.Limits.{whole, limits-fit}
 use Rattle.files.specs.Bytes.{wordBytes}
 use Rattle.files.specs.Records.{recordAt, isKind}
 use Rattle.files.specs.Layout.{bucketBytes}

@@ -16,7 +16,7 @@ use Rattle.params.specs.declared.answers.Answer.the-variants.{Done, Refused}
 use Rattle.params.specs.Lists.{least}
 use Rattle.params.specs.Answers.{numberOf, numberIn, indexIn, refuseIf, refuseAt, first}
 use Rattle.params.specs.Params.{size, goodParams, lengthsAnswer, shapeAnswer}
-use Rattle.sketch.specs.Buckets.{allZero, damaged}
+use Rattle.buckets.specs.Buckets.{allZero, damaged}
 use Rattle.sketch.specs.Sketch.{Sketch, damagedAt}
 use Rattle.params.proofs.Judging.{first-either}
 use Rattle.params.proofs.Lowest.{Lowest, least-lowest}

@@ -12,7 +12,7 @@ use lib.Seq.{getD-set-same, getD-set-other, take-add, length-take-le}
 use Rattle.params.specs.declared.params.Params.{Params}
 use Rattle.params.specs.declared.answers.Answer.the-variants.{Done}
 use Rattle.params.specs.Params.{size}
-use Rattle.sketch.specs.Buckets.{allZero, inLimits, damaged}
+use Rattle.buckets.specs.Buckets.{allZero, inLimits, damaged}
 use Rattle.sketch.specs.Sketch.{Sketch, sketch, countIn, idsumIn, damagedAt, zeros}
 use Rattle.files.specs.Records.{recordAt, isKind}
 use Rattle.files.specs.Layout.{headBytes, bucketBytes, endBytes}

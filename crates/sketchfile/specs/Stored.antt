@@ -12,7 +12,7 @@ use Rattle.params.specs.declared.answers.Answer.{Answer}
 use Rattle.params.specs.declared.answers.Answer.the-variants.{Done}
 use Rattle.params.specs.Answers.{refuseIf, first, kept}
 use Rattle.params.specs.Params.{size}
-use Rattle.sketch.specs.Buckets.{allZero, damaged}
+use Rattle.buckets.specs.Buckets.{allZero, damaged}
 use Rattle.sketch.specs.Sketch.{Sketch, sketch, zeros}
 use Rattle.files.specs.Bytes.{word, countOf}
 use Rattle.files.specs.Heads.{openingAnswer}

@@ -16,7 +16,7 @@ use Rattle.files.specs.declared.writing.Written.{Written}
 use Rattle.files.specs.Bytes.{over}
 use Rattle.files.specs.Layout.{headBytes, bucketBytes, endBytes}
 use Rattle.files.specs.Writing.{writtenOf}
-use Rattle.sketch.specs.Buckets.{allZero}
+use Rattle.buckets.specs.Buckets.{allZero}
 
 -- bucket k is all zero
 abbrev pub zeroAt : Sketch → ℕ → Bool

@@ -4,6 +4,8 @@ ghost use Prim.Native.Nat.{ℕ, _<_};
 ghost use lib.ListN.{length};
 ghost use Rattle.sketch.specs.Sketch.{sketch};
 ghost use Rattle.sketchfile.specs.Stored.{bucketsIn, bucketIndex, bucketAnswer, bucketsJudged, stored, SketchRead};
+use buckets::all_zero;
+use buckets::sound;
 use files::ends::end;
 use files::fields::Bucket;
 use files::fields::bucket_at;
@@ -11,8 +13,6 @@ use files::heads::opening;
 use params::Answer;
 use params::Params;
 use params::Why;
-use sketch::buckets::all_zero;
-use sketch::buckets::sound;
 use sketch::packets::fresh;
 
 // One bucket record at an offset, in a sketch of `size` buckets, where no index below `low` may stand.

@@ -5,6 +5,8 @@ ghost use lib.ListN.{length};
 ghost use Rattle.sketch.specs.Sketch.{sketch};
 ghost use Rattle.files.specs.Bytes.{over};
 ghost use Rattle.sketchfile.specs.Writing.{bucketsBytes, usedBuckets, sketchWriting, SketchWritten};
+use buckets::all_zero;
+use buckets::first_damaged;
 use files::writing::Written;
 use files::writing::put_bucket;
 use files::writing::put_end;
@@ -12,8 +14,6 @@ use files::writing::put_head;
 use params::Answer;
 use params::Params;
 use params::Why;
-use sketch::buckets::all_zero;
-use sketch::buckets::first_damaged;
 
 // How many buckets are not all zero.
 fn used(counts: &[i32], idsums: &[u32]) -> usize

@@ -18,11 +18,11 @@ use Rattle.params.specs.Params.{prime, size, goodParams}
 use Rattle.params.specs.Places.{stands}
 use Rattle.params.proofs.Changes.{untouched}
 use Rattle.params.proofs.Rules.{lengths-done}
-use Rattle.sketch.specs.Buckets.{inLimits, damaged}
+use Rattle.buckets.specs.Buckets.{inLimits, damaged}
 use Rattle.sketch.specs.Sketch.{Sketch, countIn, idsumIn, damagedAt, zeros, changedIn}
 use Rattle.sketch.specs.Packets.{stepAnswer, changed, after, Accepted}
-use Rattle.sketch.proofs.Idsums.{prime-pos}
-use Rattle.sketch.proofs.Limits.{whole-back}
+use Rattle.buckets.proofs.Idsums.{prime-pos}
+use Rattle.buckets.proofs.Limits.{whole-back}
 use Rattle.sketch.proofs.Steps.{step-done}
 use Rattle.sketch.proofs.TakenBack.{count-changed, idsum-changed}
 use Rattle.sketch.proofs.ManyPackets.{Long, stepped-long, after-more, after-end}

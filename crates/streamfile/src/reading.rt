@@ -5,6 +5,7 @@ ghost use Rattle.sketch.specs.Sketch.{sketch};
 ghost use Rattle.sketch.specs.Packets.{Unwound};
 ghost use Rattle.files.specs.Turns.{toldAt};
 ghost use Rattle.streamfile.specs.Streams.{packetsIn, flowsIn, numbersIn, RecordsRead, StreamRead};
+use buckets::first_damaged;
 use files::ends::end;
 use files::fields::Packets;
 use files::fields::packets_at;
@@ -12,7 +13,7 @@ use files::heads::opening;
 use params::Answer;
 use params::Params;
 use params::Why;
-use sketch::buckets::first_damaged;
+use sketch::packets::put_in;
 use sketch::packets::step;
 
 // A refusal with an offset in place of its index.
@@ -52,7 +53,7 @@ fn read_records(p: Params, counts: &mut [i32], idsums: &mut [u32], bytes: &[u8])
         let Packets::Of(flow, number) = found else {
             break;
         };
-        let r = step(false, p, counts, idsums, flow, number);
+        let r = put_in(p, counts, idsums, flow, number);
         let Answer::Done = r else {
             withdraw_packets(p, counts, idsums, bytes, n);
             return told_at(at, r);

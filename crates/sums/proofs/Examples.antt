@@ -12,7 +12,7 @@ use Rattle.params.specs.Lists.{below, least}
 use Rattle.params.specs.Answers.{numberIn, indexIn, refuseAt, first}
 use Rattle.params.specs.Params.{pairAt, twins, goodSizes, goodParams, samePair, sameParams, lengthsAnswer, sizesAnswer}
 use Rattle.params.specs.Places.{stand, standAnswer, standsIn}
-use Rattle.sketch.specs.Buckets.{inLimits}
+use Rattle.buckets.specs.Buckets.{inLimits}
 use Rattle.sketch.specs.Sketch.{Sketch, sketch, zeros, damagedIn, leavesIn, standingAnswer}
 use Rattle.sketch.specs.Packets.{packetAnswer, entryAnswer, stepAnswer, moveAnswer}
 use Rattle.sketch.specs.Arrays.{arrayAnswer}

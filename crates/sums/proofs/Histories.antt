@@ -12,7 +12,7 @@ use Rattle.params.specs.Lists.{from}
 use Rattle.params.specs.Answers.{kept}
 use Rattle.params.specs.Params.{prime, size, goodParams, sameParams}
 use Rattle.params.specs.Places.{stands}
-use Rattle.sketch.specs.Buckets.{plusMinus, weight}
+use Rattle.buckets.specs.Buckets.{plusMinus, weight}
 use Rattle.sketch.specs.Sketch.{Sketch, sketch, Entry, by, countAt, weightAt, sketchOf, zeros, changedIn}
 use Rattle.sketch.specs.Packets.{changed, after, entriesOf}
 use Rattle.sums.specs.Sums.{combineAnswer, combined, Combined}
@@ -20,7 +20,7 @@ use Rattle.sums.specs.History.{History, freshly, inserting, stepping, in
 use Rattle.params.proofs.Judging.{first-done}
 use Rattle.sums.proofs.TwoSketches.{shapes-done}
 use Rattle.sketch.proofs.Tables.{replicate-from, touched-from}
-use Rattle.sketch.proofs.Idsums.{wound-both}
+use Rattle.buckets.proofs.Idsums.{wound-both}
 use Rattle.params.proofs.SameParams.{size-same, stands-same}
 use Rattle.sums.proofs.Weighted.{weighted, times-neg, count-weighted, weight-weighted, sketch-same}
 use Rattle.sums.proofs.Linear.{count-append, weight-append, joined, joined-less}

@@ -11,12 +11,12 @@ use Rattle.field.specs.Residue.{residue}
 use Rattle.params.specs.declared.params.Params.{Params}
 use Rattle.params.specs.Lists.{from}
 use Rattle.params.specs.Params.{prime, size}
-use Rattle.sketch.specs.Buckets.{plusMinus}
+use Rattle.buckets.specs.Buckets.{plusMinus}
 use Rattle.sketch.specs.Sketch.{Entry, sketch, countAt, weightAt, sketchOf}
 use Rattle.sums.specs.Sums.{combined}
 use Rattle.sums.specs.History.{negated}
 use Rattle.sketch.proofs.Tables.{getD-from, from-same, map-from}
-use Rattle.sketch.proofs.Idsums.{wound-both}
+use Rattle.buckets.proofs.Idsums.{wound-both}
 use Rattle.sums.proofs.Weighted.{count-weighted, weight-weighted, weighted-append, weighted-negated}
 
 module _ (P : Params) where

@@ -8,7 +8,7 @@ use Rattle.params.specs.declared.answers.Why.{Why}
 use Rattle.params.specs.declared.answers.Why.the-variants.{Param, Damage, Range, Mismatch}
 use Rattle.params.specs.declared.answers.Answer.the-variants.{Refused}
 use Rattle.params.specs.Params.{size, goodParams, sameParams}
-use Rattle.sketch.specs.Buckets.{inLimits, damaged, plusMinus}
+use Rattle.buckets.specs.Buckets.{inLimits, damaged, plusMinus}
 use Rattle.sketch.specs.Sketch.{Sketch, countIn, idsumIn}
 use Rattle.sums.specs.Sums.{shapesAnswer, eitherDamaged, leaves, bucketsAnswer, combineAnswer}
 use Rattle.sums.proofs.TwoSketches.{shapes-done}

@@ -13,7 +13,7 @@ use Rattle.params.specs.declared.answers.Answer.the-variants.{Done}
 use Rattle.params.specs.Lists.{mapFrom}
 use Rattle.params.specs.Answers.{refuseIf, refuseAt, first, kept}
 use Rattle.params.specs.Params.{prime, goodParams, sameParams, lengthsAnswer}
-use Rattle.sketch.specs.Buckets.{plusMinus}
+use Rattle.buckets.specs.Buckets.{plusMinus}
 use Rattle.sketch.specs.Sketch.{Sketch, sketch, countIn, idsumIn, damagedAt, leavesAt}
 
 -- the parameters of both sketches, whether they are the same, and the four lengths

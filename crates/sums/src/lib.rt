@@ -1,21 +1,23 @@
 // The sum and the difference of two sketches, bucket by bucket, into the first. Every call takes every input. What cannot be done is
 // refused by number, and a refusal alters nothing.
 ghost use mathlib.Core.Path.{_≡_};
-ghost use mathlib.Core.Bool.{true, false};
-ghost use Prim.Native.Nat.{ℕ, _<_};
+ghost use mathlib.Core.Bool.{true, false, _&&_};
+ghost use Prim.Native.Nat.{ℕ, _<_, _≤_};
 ghost use lib.IntN.{pos};
 ghost use lib.ListN.{length, getD};
-ghost use Rattle.params.specs.Lists.{least};
-ghost use Rattle.sketch.specs.Buckets.{inLimits, plusMinus};
-ghost use Rattle.sketch.specs.Sketch.{sketch};
+ghost use Rattle.params.specs.Lists.{below, least};
+ghost use Rattle.params.specs.Params.{prime};
+ghost use Rattle.buckets.specs.Buckets.{inLimits, plusMinus};
+ghost use Rattle.sketch.specs.Sketch.{sketch, quietAt};
 ghost use Rattle.sums.specs.Sums.{shapesAnswer, eitherDamaged, leaves, combineAnswer, combined, Combined};
+use buckets::moved;
+use buckets::quiet;
+use buckets::sound;
+use buckets::within;
+use buckets::wound;
 use params::Answer;
 use params::Params;
 use params::Why;
-use sketch::buckets::moved;
-use sketch::buckets::sound;
-use sketch::buckets::within;
-use sketch::buckets::wound;
 
 // The parameters of both sketches and the four lengths.
 fn shapes(p: Params, q: Params, c: usize, s: usize, e: usize, t: usize) -> Answer
@@ -70,7 +72,28 @@ fn first_leaving(minus: bool, counts: &[i32], others: &[i32]) -> usize
     i
 }
 
-// The answer, which alters nothing.
+// Whether every bucket of both sketches is quiet. Those that are not are counted, without an early end, so that the compiler can do
+// several buckets at once.
+fn all_quiet(counts: &[i32], idsums: &[u32], others: &[i32], weights: &[u32]) -> bool
+    requires { ⌜ (length (now idsums) ≡ length (now counts)) × (length (now others) ≡ length (now counts)) × (length (now weights) ≡ length (now counts)) ⌝ }
+    requires { ⌜ length (now counts) ≤ 65536 ⌝ }
+    ensures { λ r. ⌜ r ≡ below (length (now (counts .entry))) (λ k. quietAt (sketch (now (counts .entry)) (now (idsums .entry))) k && quietAt (sketch (now (others .entry)) (now (weights .entry))) k) ⌝ }
+{
+    let mut loud: u32 = 0;
+    let mut i = 0;
+    while i < counts.len() {
+        if !quiet(counts[i], idsums[i]) {
+            loud += 1;
+        }
+        if !quiet(others[i], weights[i]) {
+            loud += 1;
+        }
+        i += 1;
+    }
+    loud == 0
+}
+
+// The answer, which alters nothing. Where all buckets are quiet, no more is to be looked at.
 fn judge(
     minus: bool,
     p: Params,
@@ -93,6 +116,9 @@ fn judge(
     let Answer::Done = r else {
         return r;
     };
+    if all_quiet(counts, idsums, others, weights) {
+        return Answer::Done;
+    }
     let x = first_damaged(counts, idsums, others, weights);
     if x < counts.len() {
         return Answer::Refused(Why::Damage, x);
@@ -107,6 +133,7 @@ fn judge(
 fn put_all(minus: bool, counts: &mut [i32], idsums: &mut [u32], others: &[i32], weights: &[u32])
     requires { ⌜ (length (now idsums) ≡ length (now counts)) × (length (now others) ≡ length (now counts)) × (length (now weights) ≡ length (now counts)) ⌝ }
     requires { ⌜ ((k : ℕ) → k < length (now counts) → inLimits (plusMinus minus (getD (now counts) k (pos 0)) (getD (now others) k (pos 0))) ≡ true) ⌝ }
+    requires { ⌜ ((k : ℕ) → k < length (now counts) → (getD (now idsums) k 0 < prime) × (getD (now weights) k 0 < prime)) ⌝ }
     ensures { λ r. ⌜ sketch (now (counts .exit)) (now (idsums .exit)) ≡ combined minus (sketch (now (counts .entry)) (now (idsums .entry))) (sketch (now (others .entry)) (now (weights .entry))) ⌝ }
 {
     let mut i = 0;

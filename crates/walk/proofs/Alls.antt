@@ -12,8 +12,8 @@ use lib.ListN.{length, getD, List·getD-eq-default}
 use Rattle.sketch.specs.Sketch.{Sketch, countIn, idsumIn}
 use Rattle.params.proofs.Searches.{and-true}
 use Rattle.walk.specs.Walk.{all, nothingLeft}
-use Rattle.sketch.specs.Buckets.{isZero}
-use Rattle.sketch.proofs.Zeros.{is-zero, zero-is}
+use Rattle.buckets.specs.Buckets.{isZero}
+use Rattle.buckets.proofs.Zeros.{is-zero, zero-is}
 
 pub both-true : (s t : Bool) → s ≡ true → t ≡ true → (s && t) ≡ true
 both-true s t e h = rw (e, h)

@@ -6,13 +6,13 @@ use Prim.Native.Nat.{ℕ, _*_}
 use borrow.Author.Tests.{eqb-true}
 use lib.Dec.{eqb}
 use lib.IntN.{ℤ, _+ℤ_, _*ℤ_, +ℤ-assoc, +ℤ-idl, +ℤ-idr, zero-*ℤ}
-use Rattle.field.proofs.Parts.{int, up, down, up-down-add, up-mul, down-mul}
+use Rattle.field.proofs.Parts.{int, up-down-add}
 use Rattle.sketch.specs.Sketch.{Entry, by}
 use Rattle.sums.proofs.NetCounts.{times-sum}
 use Rattle.sums.proofs.Weighted.{weighted}
 use Rattle.walk.specs.Walk.{credited, close, net}
-use Rattle.sketch.specs.Buckets.{isZero}
-use Rattle.sketch.proofs.Zeros.{zero-is}
+use Rattle.buckets.specs.Buckets.{isZero}
+use Rattle.buckets.proofs.Zeros.{zero-is}
 
 -- a sum of three, in another order
 last-second : (x y z : ℤ) → (x +ℤ y) +ℤ z ≡ (x +ℤ z) +ℤ y

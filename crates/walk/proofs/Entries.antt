@@ -11,7 +11,7 @@ use lib.ListN.{length, getD}
 use Rattle.sketch.specs.Sketch.{Entry, by}
 use Rattle.params.proofs.Searches.{and-true}
 use Rattle.walk.specs.Walk.{all, any, has, entryOf, credited, hasRoom, close}
-use Rattle.sketch.specs.Buckets.{isZero}
+use Rattle.buckets.specs.Buckets.{isZero}
 use Rattle.walk.proofs.Alls.{both-true}
 
 -- a test of every entry

@@ -12,7 +12,7 @@ use Rattle.params.specs.Lists.{below, least, mapFrom, touched, from}
 use Rattle.params.specs.Answers.{numberIn, indexIn, refuseAt, first, kept}
 use Rattle.params.specs.Params.{primeOf, pairAt, twins, goodSizes, goodParams, lengthsAnswer, sizesAnswer}
 use Rattle.params.specs.Places.{stand, position, standsIn}
-use Rattle.sketch.specs.Buckets.{inLimits}
+use Rattle.buckets.specs.Buckets.{inLimits}
 use Rattle.sketch.specs.Sketch.{Sketch, sketch, Entry, by, countAt, weightAt, sketchOf, damagedIn, leavesIn, standingAnswer, changedIn}
 use Rattle.sketch.specs.Packets.{packetAnswer, entryAnswer, stepAnswer, changed, moveAnswer}
 use Rattle.walk.specs.declared.Found.{Found}

@@ -14,19 +14,19 @@ use Rattle.field.specs.Flow.{flow}
 use Rattle.params.specs.declared.params.Params.{Params}
 use Rattle.params.specs.Params.{primeOf, size, isFlow}
 use Rattle.params.specs.Places.{stands}
-use Rattle.sketch.specs.Buckets.{inLimits}
+use Rattle.buckets.specs.Buckets.{inLimits}
 use Rattle.sketch.specs.Sketch.{Sketch, countIn, idsumIn, damagedAt, Entry, by, sketchOf}
 use Rattle.sums.specs.Sums.{combined}
-use Rattle.sketch.proofs.Idsums.{prime-pos}
-use Rattle.sketch.proofs.Limits.{limits-size, whole, whole-back}
+use Rattle.buckets.proofs.Idsums.{prime-pos}
+use Rattle.buckets.proofs.Limits.{limits-size, whole, whole-back}
 use Rattle.walk.specs.declared.Ending.the-variants.{Clean, Stuck, Spent, NoInverse}
 use Rattle.walk.specs.declared.Found.the-variants.{Pure}
 use Rattle.walk.specs.Endings.{endingNumber}
 use Rattle.walk.specs.Walk.{Outcome, nothingLeft, walk, close, net}
-use Rattle.sketch.specs.Buckets.{isZero}
+use Rattle.buckets.specs.Buckets.{isZero}
 use Rattle.walk.specs.Purity.{pureTest, ruleOf}
 use Rattle.walk.proofs.Numbers.{ending-by-number}
-use Rattle.sketch.proofs.Zeros.{is-zero}
+use Rattle.buckets.proofs.Zeros.{is-zero}
 use Rattle.walk.proofs.Alls.{all-at, nothing-count, nothing-idsum, all-zero}
 use Rattle.walk.proofs.Balance.{Balanced, balanced, balanced-closed}
 use Rattle.walk.proofs.Rebuilt.{rebuilt, rebuilt-alone}

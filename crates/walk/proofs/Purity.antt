@@ -17,13 +17,13 @@ use Rattle.field.proofs.OneFlow.{the-flow}
 use Rattle.params.specs.declared.params.Params.{Params}
 use Rattle.params.specs.Params.{primeOf, size}
 use Rattle.params.specs.Places.{stand, standsIn, stands}
-use Rattle.sketch.specs.Buckets.{inLimits}
+use Rattle.buckets.specs.Buckets.{inLimits}
 use Rattle.params.proofs.Searches.{and-true}
-use Rattle.sketch.proofs.Limits.{limits-size}
+use Rattle.buckets.proofs.Limits.{limits-size}
 use Rattle.walk.specs.declared.Found.the-variants.{Undefined, Impure, Pure}
-use Rattle.sketch.specs.Buckets.{isZero}
+use Rattle.buckets.specs.Buckets.{isZero}
 use Rattle.walk.specs.Purity.{testIn, pureTest, ruleOf}
-use Rattle.sketch.proofs.Zeros.{not-zero}
+use Rattle.buckets.proofs.Zeros.{not-zero}
 use Rattle.walk.proofs.Balance.{Sound}
 use Rattle.walk.proofs.Stuck.{Placed}
 

@@ -17,7 +17,7 @@ use Rattle.sketch.specs.Sketch.{Sketch, sketch, countIn, idsumIn, Entry, countA
 use Rattle.sums.specs.Sums.{combined}
 use Rattle.params.proofs.Changes.{length-touched, getD-touched, touched-all}
 use Rattle.sketch.proofs.Tables.{length-from, getD-from}
-use Rattle.sketch.proofs.Idsums.{prime-pos}
+use Rattle.buckets.proofs.Idsums.{prime-pos}
 use Rattle.sums.proofs.Weighted.{count-weighted, weight-weighted}
 use Rattle.walk.specs.Walk.{nothingLeft}
 use Rattle.walk.specs.Purity.{ruleOf}

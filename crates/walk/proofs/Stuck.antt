@@ -11,8 +11,8 @@ use Rattle.sketch.specs.Sketch.{Sketch, countIn, idsumIn}
 use Rattle.walk.specs.declared.Ending.the-variants.{Stuck}
 use Rattle.walk.specs.declared.Found.the-variants.{Impure, Pure}
 use Rattle.walk.specs.Walk.{Rule, State, Outcome, queued, less, waits, requeue, taken, walk}
-use Rattle.sketch.specs.Buckets.{isZero}
-use Rattle.sketch.proofs.Zeros.{zero-is}
+use Rattle.buckets.specs.Buckets.{isZero}
+use Rattle.buckets.proofs.Zeros.{zero-is}
 use Rattle.walk.proofs.Carried.{found, takenAt, carried}
 use Rattle.walk.proofs.Lessened.{less-counts, less-idsums, less-count, less-idsum}
 use Rattle.walk.proofs.Waiting.{none-waits, waits-behind, requeue-keeps, requeue-adds, starts}

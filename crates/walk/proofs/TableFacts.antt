@@ -9,7 +9,7 @@ use lib.Dec.{ltb}
 use lib.IntN.{ℤ, _+ℤ_, _-ℤ_}
 use lib.ListN.{length}
 use Rattle.params.specs.Lists.{below}
-use Rattle.sketch.specs.Buckets.{inLimits}
+use Rattle.buckets.specs.Buckets.{inLimits}
 use Rattle.sketch.specs.Sketch.{Sketch, Entry, countIn}
 use Rattle.params.proofs.Searches.{and-true}
 use Rattle.walk.specs.Walk.{Rule, State, queued, all, entryOf, inRange, taken, walk}

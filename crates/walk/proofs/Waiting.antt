@@ -12,7 +12,7 @@ use lib.IntN.{ℤ, pos}
 use lib.ListN.{length, getD}
 use Rattle.sketch.specs.Sketch.{Sketch, countIn}
 use Rattle.walk.specs.Walk.{any, waits, join, requeue, firstQueue}
-use Rattle.sketch.specs.Buckets.{isZero}
+use Rattle.buckets.specs.Buckets.{isZero}
 
 pub or-true : (s t : Bool) → t ≡ true → (s || t) ≡ true
 or-true true t e = refl

@@ -11,7 +11,7 @@ use Rattle.params.specs.Places.{stand, stands}
 use Rattle.walk.specs.declared.Found.{Found}
 use Rattle.walk.specs.declared.Found.the-variants.{Undefined, Impure, Pure}
 use Rattle.walk.specs.Walk.{Rule}
-use Rattle.sketch.specs.Buckets.{isZero}
+use Rattle.buckets.specs.Buckets.{isZero}
 
 -- a bucket k with count c and idsum s, modulo p: pure when c is not 0 and the one number f with c * f congruent to s stands there
 unfoldable pub testIn : ℕ → (ℕ → ℕ → Bool) → ℕ → ℤ → ℕ → Found

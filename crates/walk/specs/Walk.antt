@@ -1,13 +1,13 @@
 -- The walk, over any prime for idsums, any placing of flows and any test of a popped bucket; the limits of counts are those of a sketch.
-use mathlib.Core.Bool.{Bool, true, false, cond, not, _&&_, _||_}
+use mathlib.Core.Bool.{Bool, true, false, cond, _&&_, _||_}
 use mathlib.Core.List.{List, [], _∷_, _++_}
 use Prim.Native.Nat.{ℕ, zero, suc}
 use lib.IntN.{ℤ, pos, _+ℤ_, _-ℤ_}
 use lib.Dec.{eqb, ltb}
-use lib.ListN.{getD, length}
+use lib.ListN.{length}
 use Rattle.field.specs.Residue.{residue}
 use Rattle.params.specs.Lists.{below, touched}
-use Rattle.sketch.specs.Buckets.{inLimits, isZero}
+use Rattle.buckets.specs.Buckets.{inLimits, isZero}
 use Rattle.sketch.specs.Sketch.{Sketch, sketch, Entry, by, countIn, idsumIn}
 use Rattle.walk.specs.declared.Ending.{Ending}
 use Rattle.walk.specs.declared.Ending.the-variants.{Clean, Stuck, Spent, NoInverse, Range, Full}

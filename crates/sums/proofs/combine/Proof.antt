@@ -1,4 +1,4 @@
--- `sums::combine` meets its contract: a refusal keeps the first sketch, and where nothing is refused each count stays within its limits.
+-- `sums::combine` meets its contract: a refusal keeps the first sketch, and where nothing is refused each count stays within its limits and each idsum is below the prime.
 use mathlib.Core.Path.{sym, _∙_}
 use borrow.Author.Needs.{needs}
 use Rattle.params.proofs.Judging.{kept-old, kept-new}
@@ -26,7 +26,8 @@ returns c = record { answer = c .before .before .judge .ensures; after = kept-ol
 
 put-all-requires : tie.Need-put-all-requires
 put-all-requires c κs =
-    combine-done _ _ _ _ _ (sym (c .before .before .before .before .judge .ensures) ∙ c .before .before .enum-told .given .1)
+    let h = combine-done _ _ _ _ _ (sym (c .before .before .before .before .judge .ensures) ∙ c .before .before .enum-told .given .1) in
+    (h .0, (h .1, h .2))
 
 same-length-3 : tie.Need-same-length-3
 same-length-3 c = search needs

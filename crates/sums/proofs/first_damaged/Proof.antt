@@ -12,7 +12,7 @@ use borrow.Author.Needs.{needs}
 use Rattle.field.proofs.Casts.{back}
 use Rattle.params.specs.Lists.{least}
 use Rattle.params.specs.Params.{prime}
-use Rattle.sketch.specs.Buckets.{inLimits}
+use Rattle.buckets.specs.Buckets.{inLimits}
 use Rattle.sketch.specs.Sketch.{Sketch, sketch, countIn, idsumIn}
 use Rattle.sums.specs.Sums.{eitherDamaged}
 use Rattle.params.proofs.Searches.{scan-start, scan-next, scan-found, scan-end}

@@ -9,7 +9,7 @@ use mir.Syntax.{w32, w64}
 use borrow.Author.Needs.{needs}
 use Rattle.field.proofs.Casts.{back}
 use Rattle.params.specs.Lists.{least}
-use Rattle.sketch.specs.Buckets.{inLimits}
+use Rattle.buckets.specs.Buckets.{inLimits}
 use Rattle.sums.specs.Sums.{leaves}
 use Rattle.params.proofs.Searches.{scan-start, scan-next, scan-found, scan-end}
 use Rattle.sums.proofs.first_leaving.Statement.{statement}

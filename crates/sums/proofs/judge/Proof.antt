@@ -1,4 +1,4 @@
--- `sums::judge` meets its contract: the shapes, then the first damaged bucket, then the first that would leave its limits.
+-- `sums::judge` meets its contract: the shapes; then nothing at fault where all is quiet, else the first damaged bucket, then the first that would leave its limits.
 use mathlib.Core.Path.{_≡_, sym, _∙_}
 use denote.Ref.{now}
 use lib.ListN.{length}
@@ -6,7 +6,7 @@ use borrow.Author.Needs.{needs}
 use Rattle.params.specs.declared.answers.Answer.the-variants.{Done}
 use Rattle.sums.specs.Sums.{shapesAnswer, bucketsAnswer, combineAnswer}
 use Rattle.params.proofs.Judging.{first-refused, first-passed, refuse-found, refuse-past}
-use Rattle.sums.proofs.TwoSketches.{shapes-done, same-lengths}
+use Rattle.sums.proofs.TwoSketches.{shapes-done, same-lengths, small-lengths, quiet-done}
 use Rattle.sums.proofs.judge.Statement.{statement}
 use Rattle.sums.proofs.judge.Tie as tie
 
@@ -27,29 +27,36 @@ returns : tie.Need-returns
 unfolding combineAnswer
 returns c = first-refused _ _ _ (c .before .before .shapes .ensures) (c .before .match .keys2)
 
-first-damaged-requires : tie.Need-first-damaged-requires
-first-damaged-requires c κs = same-lengths (shapes-done _ _ _ _ _ _ (shaped c))
+all-quiet-requires : tie.Need-all-quiet-requires
+all-quiet-requires c κs = let h = shapes-done _ _ _ _ _ _ (shaped c) in (same-lengths h, small-lengths h)
 
 returns-2 : tie.Need-returns-2
-unfolding combineAnswer bucketsAnswer
-returns-2 c = refuse-found _ _ _ _ _ (c .before .first-damaged .ensures) (c .if1 .taken) ∙ sym (first-passed _ _ (shaped (c .before .before)))
+unfolding combineAnswer
+returns-2 c = sym (first-passed _ _ (shaped (c .before .before)) ∙ quiet-done _ _ _ (sym (c .before .all-quiet .ensures) ∙ c .if1 .taken))
 
-first-leaving-requires : tie.Need-first-leaving-requires
-first-leaving-requires c κs = same-lengths (shapes-done _ _ _ _ _ _ (shaped (c .before .before))) .1
+first-damaged-requires : tie.Need-first-damaged-requires
+first-damaged-requires c κs = same-lengths (shapes-done _ _ _ _ _ _ (shaped (c .before .before)))
 
 returns-3 : tie.Need-returns-3
 unfolding combineAnswer bucketsAnswer
-returns-3 c =
-    refuse-found _ _ _ _ _ (c .before .first-leaving .ensures) (c .if2 .taken)
-    ∙ refuse-past _ _ _ _ _ (c .before .before .before .first-damaged .ensures) (c .before .before .if1 .left)
-    ∙ sym (first-passed _ _ (shaped (c .before .before .before .before)))
+returns-3 c = refuse-found _ _ _ _ _ (c .before .first-damaged .ensures) (c .if2 .taken) ∙ sym (first-passed _ _ (shaped (c .before .before .before .before)))
+
+first-leaving-requires : tie.Need-first-leaving-requires
+first-leaving-requires c κs = same-lengths (shapes-done _ _ _ _ _ _ (shaped (c .before .before .before .before))) .1
 
 returns-4 : tie.Need-returns-4
 unfolding combineAnswer bucketsAnswer
 returns-4 c =
-    refuse-past _ _ _ _ _ (c .before .first-leaving .ensures) (c .if2 .left)
-    ∙ refuse-past _ _ _ _ _ (c .before .before .before .first-damaged .ensures) (c .before .before .if1 .left)
-    ∙ sym (first-passed _ _ (shaped (c .before .before .before .before)))
+    refuse-found _ _ _ _ _ (c .before .first-leaving .ensures) (c .if3 .taken)
+    ∙ refuse-past _ _ _ _ _ (c .before .before .before .first-damaged .ensures) (c .before .before .if2 .left)
+    ∙ sym (first-passed _ _ (shaped (c .before .before .before .before .before .before)))
+
+returns-5 : tie.Need-returns-5
+unfolding combineAnswer bucketsAnswer
+returns-5 c =
+    refuse-past _ _ _ _ _ (c .before .first-leaving .ensures) (c .if3 .left)
+    ∙ refuse-past _ _ _ _ _ (c .before .before .before .first-damaged .ensures) (c .before .before .if2 .left)
+    ∙ sym (first-passed _ _ (shaped (c .before .before .before .before .before .before)))
 
 pub judge-spec : {M : Type 1} → statement M
 judge-spec =
@@ -59,8 +66,10 @@ judge-spec =
     enum-told
     enum-told-2
     returns
-    first-damaged-requires
+    all-quiet-requires
     returns-2
-    first-leaving-requires
+    first-damaged-requires
     returns-3
-    returns-4)
+    first-leaving-requires
+    returns-4
+    returns-5)

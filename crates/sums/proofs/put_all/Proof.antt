@@ -1,7 +1,7 @@
 -- `sums::put_all` meets its contract. The loop's invariant: the buckets passed are changed, and no others.
 use Prim.Native.Nat.{_-_, _≤_, _<_}
 use native.Mathlib.Omega.{arith}
-use mathlib.Core.Path.{_≡_, ap₂}
+use mathlib.Core.Path.{_≡_, ap₂, _∙_}
 use mathlib.Core.Bool.{true}
 use lib.IntN.{pos}
 use lib.ListN.{length, getD}
@@ -12,11 +12,12 @@ use Rattle.field.specs.Residue.{residue}
 use Rattle.field.proofs.Casts.{back}
 use Rattle.params.specs.Lists.{touched}
 use Rattle.params.specs.Params.{prime}
-use Rattle.sketch.specs.Buckets.{inLimits, plusMinus}
+use Rattle.buckets.specs.Buckets.{inLimits, plusMinus}
 use Rattle.sketch.specs.Sketch.{sketch}
 use Rattle.sums.specs.Sums.{combined}
 use Rattle.params.proofs.Changes.{upTo, each-none, each-old, each-long, each-next, each-all}
-use Rattle.sketch.proofs.Limits.{narrows, narrowed}
+use Rattle.buckets.proofs.Limits.{narrows, narrowed}
+use Rattle.buckets.proofs.Idsums.{wound-is}
 use Rattle.sums.proofs.put_all.Statement.{statement}
 use Rattle.sums.proofs.put_all.Tie as tie
 
@@ -63,7 +64,7 @@ new c =
 
 stays : (c : tie.After-moved Inv-loop μ-loop) → let s = c .before .before .before .before in let a = s .before .before .before .args in
     inLimits (plusMinus (a .minus) (getD (now (a .counts)) (s .loop .i) (pos 0)) (getD (now (a .others)) (s .loop .i) (pos 0))) ≡ true
-stays c = c .before .before .before .before .before .before .before .pre .1 _ (inside c)
+stays c = c .before .before .before .before .before .before .before .pre .1 .0 _ (inside c)
 
 cast-counts : tie.Need-cast-counts Inv-loop μ-loop
 cast-counts c = narrows (sfits-of (c .moved .ok)) (new c) (stays c)
@@ -106,11 +107,12 @@ loop-again c =
     let m = c .before .before .before in
     let s = m .before .before .before .before in
     let l = lens s in
+    let below = s .before .before .before .pre .1 .1 (s .loop .i) (inside m) in
     let k : s .loop .i < length (now (s .before .before .before .args .idsums)) = omega arith in
     let v = s .loop .inv in (
       omega arith,
       each-next (pos 0) _ _ _ _ _ (inside m) (v .1) (narrowed (sfits-of (m .moved .ok)) (new m) (stays m)),
-      each-next 0 _ _ _ _ _ k (v .2) (rw (each-old 0 _ _ _ _ k (v .2)) at (c .wound .ensures)),
+      each-next 0 _ _ _ _ _ k (v .2) (rw (each-old 0 _ _ _ _ k (v .2)) at (c .wound .ensures) ∙ wound-is _ _ _ (below .0) (below .1)),
     )
 
 same-length : tie.Need-same-length Inv-loop μ-loop

@@ -8,9 +8,8 @@ use Rattle.field.specs.Residue.{residue}
 use Rattle.field.specs.Flow.{flow}
 use Rattle.field.proofs.Casts.{zero-of-bits, bits-of-zero}
 use Rattle.params.specs.Params.{prime}
-use Rattle.walk.specs.declared.Found.the-variants.{Pure}
 use Rattle.walk.specs.Purity.{testIn}
-use Rattle.sketch.proofs.Zeros.{is-zero, not-zero}
+use Rattle.buckets.proofs.Zeros.{is-zero, not-zero}
 use Rattle.walk.proofs.test.Statement.{statement}
 use Rattle.walk.proofs.test.Tie as tie
 

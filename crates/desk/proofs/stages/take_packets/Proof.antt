@@ -40,8 +40,8 @@ enum-known-found c = search needs
 enum-told : tie.Need-enum-told Inv-loop μ-loop
 enum-told c = search needs
 
-step-requires : tie.Need-step-requires Inv-loop μ-loop
-step-requires c κs = search needs
+put-in-requires : tie.Need-put-in-requires Inv-loop μ-loop
+put-in-requires c κs = search needs
 
 enum-told-2 : tie.Need-enum-told-2 Inv-loop μ-loop
 enum-told-2 c = search needs
@@ -60,15 +60,15 @@ none : (c : tie.After-enum-told Inv-loop μ-loop)
 none c = packets-not-there _ _ _ (c .before .before .packets-at .ensures ∙ ap (packetsAt _) (c .before .before .before .loop .inv .0)) (c .before .match .keys2)
 
 same-length : tie.Need-same-length Inv-loop μ-loop
-same-length c = stepped-long (c .before .before .before .before .before .step .ensures) .counts ∙ c .before .before .before .before .before .before .before .before .before .before .before .before .loop .inv .1
+same-length c = stepped-long (c .before .before .before .before .before .put-in .ensures) .counts ∙ c .before .before .before .before .before .before .before .before .before .before .before .before .loop .inv .1
 
 same-length-2 : tie.Need-same-length-2 Inv-loop μ-loop
-same-length-2 c = stepped-long (c .before .before .before .before .before .step .ensures) .idsums ∙ c .before .before .before .before .before .before .before .before .before .before .before .before .loop .inv .2
+same-length-2 c = stepped-long (c .before .before .before .before .before .put-in .ensures) .idsums ∙ c .before .before .before .before .before .before .before .before .before .before .before .before .loop .inv .2
 
 returns : tie.Need-returns Inv-loop μ-loop
 returns c =
     let l = c .before .before .before .before .before .before .before .before .before .before .before .before .loop in
-    let z = c .before .before .before .before .before .step .ensures in
+    let z = c .before .before .before .before .before .put-in .ensures in
     let refused = c .before .match2 .keys2 in
     let r = run-refused _ _ _ _ _ (l .inv .3) _ _ (there (c .before .before .before .before .before .before .before .before)) _ (z .answer) refused in
     (r .0, z .after ∙ sym (kept-old _ _ _ refused) ∙ r .1)
@@ -85,7 +85,7 @@ loop-less c = let l = c .before .before .before .before .before .before .before 
 loop-again : tie.Need-loop-again Inv-loop μ-loop
 loop-again c =
     let l = c .before .before .before .before .before .before .before .before .before .before .before .before .loop in
-    let z = c .before .before .before .before .before .step .ensures in
+    let z = c .before .before .before .before .before .put-in .ensures in
     let done = c .enum-told2 .given .1 in
     let long = stepped-long z in (
       omega (arith, l .inv .0),
@@ -113,7 +113,7 @@ take-packets-spec =
     packets-at-requires
     enum-known-found
     enum-told
-    step-requires
+    put-in-requires
     enum-told-2
     enum-told-3
     same-length

@@ -1,5 +1,5 @@
 -- `peel::peeling::peel` meets its contract.
-use mathlib.Core.Path.{_≡_, refl, sym, ap, _∙_}
+use mathlib.Core.Path.{sym, _∙_}
 use borrow.Author.Needs.{needs}
 use Rattle.peel.proofs.Judged.{judged-sound}
 use Rattle.peel.proofs.Peeled.{not-peeled, peeled}

@@ -1,9 +1,8 @@
 -- `peel::peeling::unravel` meets its contract: the walk, the close, and the queue and the marks cleared.
-use mathlib.Core.Path.{_≡_, ap, _∙_}
-use Prim.Native.Nat.{ℕ}
+use mathlib.Core.Path.{ap, _∙_}
 use native.Mathlib.Omega.{arith}
 use mir.Facts.{toZ-ofZ}
-use borrow.Author.Needs.{needs, sfits-of}
+use borrow.Author.Needs.{needs}
 use Rattle.walk.specs.Walk.{Outcome, close, net}
 use Rattle.peel.proofs.peeling.unravel.Statement.{statement}
 use Rattle.peel.proofs.peeling.unravel.Tie as tie

@@ -11,7 +11,7 @@ use Rattle.field.proofs.Casts.{zero-of-bits, bits-of-zero}
 use Rattle.sketch.specs.Sketch.{sketch}
 use Rattle.sketch.proofs.Standing.{Within, reach}
 use Rattle.walk.specs.Walk.{requeue}
-use Rattle.sketch.proofs.Zeros.{is-zero, not-zero}
+use Rattle.buckets.proofs.Zeros.{is-zero, not-zero}
 use Rattle.peel.specs.Ring.{Ring, ring, SameAbove}
 use Rattle.peel.proofs.Queues.{Requeueing, requeue-none, requeue-past, requeue-join, requeue-all}
 use Rattle.peel.proofs.queue.requeue.Statement.{statement}

@@ -8,7 +8,7 @@ use lib.ListN.{getD, length}
 use borrow.Author.Needs.{needs, sfits-of}
 use Rattle.field.proofs.Casts.{zero-of-bits, bits-of-zero}
 use Rattle.walk.specs.Walk.{firstQueue}
-use Rattle.sketch.proofs.Zeros.{is-zero, not-zero}
+use Rattle.buckets.proofs.Zeros.{is-zero, not-zero}
 use Rattle.peel.specs.Ring.{Ring, ring}
 use Rattle.peel.proofs.Rings.{ring-nothing, ring-empty}
 use Rattle.peel.proofs.Queues.{Starting, first-none, first-past, first-join, first-all}

@@ -13,7 +13,7 @@ use borrow.Author.Needs.{needs, sfits-of}
 use Rattle.field.proofs.Casts.{zero-of-bits, bits-of-zero}
 use Rattle.params.specs.Lists.{from}
 use Rattle.walk.specs.Walk.{close}
-use Rattle.sketch.proofs.Zeros.{is-zero, not-zero}
+use Rattle.buckets.proofs.Zeros.{is-zero, not-zero}
 use Rattle.peel.specs.Table.{row, tableOf}
 use Rattle.peel.proofs.Closing.{close-none, close-past, close-keep, close-all}
 use Rattle.peel.proofs.table.compact.Statement.{statement}

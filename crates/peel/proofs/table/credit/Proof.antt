@@ -10,7 +10,7 @@ use mir.Syntax.{w32}
 use mir.Val.{SFits, toZ, ofZ}
 use borrow.Author.Needs.{needs}
 use Rattle.field.proofs.Casts.{as-is, back}
-use Rattle.sketch.proofs.Limits.{limits-fit}
+use Rattle.buckets.proofs.Limits.{limits-fit}
 use Rattle.peel.proofs.Entries.{table-held, credit-old, credit-new}
 use Rattle.peel.proofs.Chains.{relinked-old, relinked-past, relinked-new}
 use Rattle.peel.proofs.table.credit.Statement.{statement}

@@ -69,7 +69,9 @@ take-one-requires c κs =
     record {
       inside = omega (arith, w .bucket, e .0);
       inside-ids = omega (arith, w .bucket, e .1);
-      limits = rw (bucket-old (pos 0) (s .args .m) (λ j. getD (now (s .args .ks)) j 0) (l .i) _ (now (s .args .counts)) _ (r .m-low) (r .inside (l .i) h) (omega (arith, w .bucket, r .counts-long)) (l .inv .1), toZ-ofZ (s .fits .c)) (s .pre .1 (l .i) h);
+      limits = rw (bucket-old (pos 0) (s .args .m) (λ j. getD (now (s .args .ks)) j 0) (l .i) _ (now (s .args .counts)) _ (r .m-low) (r .inside (l .i) h) (omega (arith, w .bucket, r .counts-long)) (l .inv .1), toZ-ofZ (s .fits .c)) (s .pre .1 .0 (l .i) h);
+      idsum = rw (bucket-old 0 (s .args .m) (λ j. getD (now (s .args .ks)) j 0) (l .i) _ (now (s .args .idsums)) _ (r .m-low) (r .inside (l .i) h) (omega (arith, w .bucket, r .idsums-long)) (l .inv .2)) (s .pre .1 .1 .0 (l .i) h);
+      small = s .pre .1 .1 .1;
       dirt = l .inv .3;
     }
 

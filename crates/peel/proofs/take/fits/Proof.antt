@@ -2,7 +2,7 @@
 use mathlib.Core.Path.{ap, ap₂, _∙_}
 use mir.Facts.{toZ-ofZ}
 use borrow.Author.Needs.{needs, sfits-of}
-use Rattle.sketch.specs.Buckets.{inLimits, plusMinus}
+use Rattle.buckets.specs.Buckets.{inLimits, plusMinus}
 use Rattle.peel.proofs.take.fits.Statement.{statement}
 use Rattle.peel.proofs.take.fits.Tie as tie
 

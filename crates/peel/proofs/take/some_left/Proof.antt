@@ -1,7 +1,7 @@
 -- `peel::take::some_left` meets its contract.
 use borrow.Author.Tests.{eq-eqb, ne-eqb}
 use Rattle.field.proofs.Casts.{zero-of-bits, bits-of-zero}
-use Rattle.sketch.proofs.Zeros.{is-zero, not-zero}
+use Rattle.buckets.proofs.Zeros.{is-zero, not-zero}
 use Rattle.peel.specs.Dirt.{some}
 use Rattle.peel.proofs.take.some_left.Statement.{statement}
 use Rattle.peel.proofs.take.some_left.Tie as tie

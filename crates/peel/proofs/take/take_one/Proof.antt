@@ -1,5 +1,6 @@
 -- `peel::take::take_one` meets its contract.
-use mathlib.Core.Path.{_≡_, refl, ap}
+use mathlib.Core.Path.{_≡_, refl, ap, _∙_}
+use mathlib.Core.Bool.{true}
 use Prim.Native.Nat.{_+_, _≤_}
 use native.Mathlib.Omega.{arith}
 use lib.IntN.{pos, _-ℤ_}
@@ -8,7 +9,8 @@ use mir.Facts.{toZ-ofZ}
 use mir.Syntax.{w32}
 use mir.Val.{SFits, toZ, ofZ}
 use borrow.Author.Needs.{needs, sfits-of}
-use Rattle.sketch.proofs.Limits.{limits-fit}
+use Rattle.buckets.proofs.Idsums.{wound-is}
+use Rattle.buckets.proofs.Limits.{limits-fit}
 use Rattle.peel.specs.Dirt.{some, dirty}
 use Rattle.peel.proofs.Dirtiness.{some-most, dirty-most, dirty-set}
 use Rattle.peel.proofs.take.take_one.Statement.{statement}
@@ -100,7 +102,7 @@ returns c =
     rw (v-is (c .before .before .before .before))
     (record {
       counts = refl;
-      idsums = ap (set (b .args .idsums .now) (b .args .j)) (c .before .before .wound .ensures);
+      idsums = ap (set (b .args .idsums .now) (b .args .j)) (c .before .before .wound .ensures ∙ wound-is true _ _ (b .pre .idsum) (b .pre .small));
       dirt = omega (arith, account c);
     })
 

@@ -14,7 +14,7 @@ use mir.ValLaws.{toZ-ofZ}
 use borrow.Author.Needs.{needs}
 use borrow.Author.Count.{below-none, below-more}
 use borrow.Author.Tests.{not-true, not-false}
-use Rattle.sketch.specs.Buckets.{inLimits}
+use Rattle.buckets.specs.Buckets.{inLimits}
 use Rattle.params.specs.Places.{Placed, Reached}
 use Rattle.params.proofs.Sizes.{small}
 use Rattle.params.proofs.Rules.{places-found, places-long}
@@ -372,7 +372,8 @@ apply-requires : tie.Need-apply-requires Inv-loop μ-loop Inv-walk μ-walk
 apply-requires c κs =
     let m = c .before .before .before in
     let l = inner-of m in
-    rw (c-is (test-of l)) ((reached-is l, walk-of l .walk .inv .0 .holds .dirt), all-fit (done-of m))
+    let h = walk-of l .walk .inv .0 .holds in
+    rw (c-is (test-of l)) ((reached-is l, h .dirt), (all-fit (done-of m), (λ i e. h .sane .idsums _, h .sane .idsums _)))
 
 array-read-credit : tie.Need-array-read-credit Inv-loop μ-loop Inv-walk μ-walk
 array-read-credit c = search needs

@@ -30,20 +30,20 @@ loop-holds : tie.Need-loop-holds Inv-loop μ-loop
 unfolding after
 loop-holds c = (search needs, refl, refl, (λ j h. absurd (omega arith)), refl, refl)
 
-mul-step : tie.Need-mul-step Inv-loop μ-loop
-mul-step c = search needs
+mul-put-listed : tie.Need-mul-put-listed Inv-loop μ-loop
+mul-put-listed c = search needs
 
-shared-slice-read-step : tie.Need-shared-slice-read-step Inv-loop μ-loop
-shared-slice-read-step c = search needs
+shared-slice-read-put-listed : tie.Need-shared-slice-read-put-listed Inv-loop μ-loop
+shared-slice-read-put-listed c = search needs
 
-mul-step-2 : tie.Need-mul-step-2 Inv-loop μ-loop
-mul-step-2 c = omega arith
+mul-put-listed-2 : tie.Need-mul-put-listed-2 Inv-loop μ-loop
+mul-put-listed-2 c = omega arith
 
-shared-slice-read-step-2 : tie.Need-shared-slice-read-step-2 Inv-loop μ-loop
-shared-slice-read-step-2 c = omega arith
+shared-slice-read-put-listed-2 : tie.Need-shared-slice-read-put-listed-2 Inv-loop μ-loop
+shared-slice-read-put-listed-2 c = omega arith
 
-step-requires : tie.Need-step-requires Inv-loop μ-loop
-step-requires c κs = search needs
+put-listed-requires : tie.Need-put-listed-requires Inv-loop μ-loop
+put-listed-requires c κs = search needs
 
 enum-told : tie.Need-enum-told Inv-loop μ-loop
 enum-told c = search needs
@@ -60,7 +60,7 @@ restored : (c : tie.After-withdraw-first Inv-loop μ-loop)
 restored c =
     let l = c .before .before .before .before .before .before .before .before .before .before .before .before .before .before .loop in
     let refused = c .before .before .before .before .match .keys2 in
-    c .withdraw-first .ensures .back _ (l .inv .3) (c .before .before .before .before .before .before .before .before .step .ensures .after ∙ sym (kept-old _ _ _ refused) ∙ l .inv .4)
+    c .withdraw-first .ensures .back _ (l .inv .3) (c .before .before .before .before .before .before .before .before .put-listed .ensures .after ∙ sym (kept-old _ _ _ refused) ∙ l .inv .4)
 
 same-length : tie.Need-same-length Inv-loop μ-loop
 same-length c = ap (λ S. length (S .counts)) (restored (c .before .before .before))
@@ -73,7 +73,7 @@ returns c =
     let l = c .before .before .before .before .before .before .before .before .before .before .before .before .before .before .before .before .before .loop in
     let refused = c .before .before .before .before .before .before .before .match .keys2 in
     record {
-      answer = packet-refused _ _ _ _ (l .i) _ (omega arith) (omega arith) (l .inv .5) _ (c .before .before .before .before .before .before .before .before .before .before .before .step .ensures .answer) refused;
+      answer = packet-refused _ _ _ _ (l .i) _ (omega arith) (omega arith) (l .inv .5) _ (c .before .before .before .before .before .before .before .before .before .before .before .put-listed .ensures .answer) refused;
       after-all = restored (c .before .before .before) ∙ kept-old _ _ _ refused;
     }
 
@@ -87,7 +87,7 @@ loop-again : tie.Need-loop-again Inv-loop μ-loop
 loop-again c =
     let s = c .before .before .before .before .before .before .before .before .before .before .before .before .before .before .before in
     let l = c .before .before .before .before .before .before .before .before .before .before .before .loop in
-    let z = c .before .before .before .before .before .step .ensures in
+    let z = c .before .before .before .before .before .put-listed .ensures in
     let done = c .enum-told .given .1 in
     let passed = sym (z .answer) ∙ done in
     let next = z .after ∙ sym (kept-new _ _ _ done) in
@@ -121,11 +121,11 @@ insert-packets-spec =
     Inv-loop
     μ-loop
     loop-holds
-    mul-step
-    shared-slice-read-step
-    mul-step-2
-    shared-slice-read-step-2
-    step-requires
+    mul-put-listed
+    shared-slice-read-put-listed
+    mul-put-listed-2
+    shared-slice-read-put-listed-2
+    put-listed-requires
     enum-told
     enum-told-2
     withdraw-first-requires

@@ -1,13 +1,14 @@
 -- `sketch::packets::put` meets its contract.
-use mathlib.Core.Path.{_≡_, ap}
+use mathlib.Core.Path.{_≡_, ap, _∙_}
 use lib.IntN.{pos}
 use lib.ListN.{getD, set}
 use denote.Ref.{now}
 use mir.Facts.{toZ-ofZ}
 use mir.Syntax.{w32}
 use Rattle.field.proofs.Casts.{back}
-use Rattle.sketch.specs.Buckets.{plusMinus}
-use Rattle.sketch.proofs.Limits.{narrows, narrowed}
+use Rattle.buckets.specs.Buckets.{plusMinus}
+use Rattle.buckets.proofs.Limits.{narrows, narrowed}
+use Rattle.buckets.proofs.Idsums.{wound-is}
 use borrow.Author.Needs.{needs, sfits-of}
 use Rattle.sketch.proofs.packets.put.Statement.{statement}
 use Rattle.sketch.proofs.packets.put.Tie as tie
@@ -26,7 +27,7 @@ new : (c : tie.After-moved) → let a = c .before .before .before .args in c .mo
 new c = rw (back w32 _ (c .before .moved-arg .given), toZ-ofZ (c .before .before .before .fits .n)) at (c .moved .ensures)
 
 cast-counts : tie.Need-cast-counts
-cast-counts c = narrows (sfits-of (c .moved .ok)) (new c) (c .before .before .before .pre .1)
+cast-counts c = narrows (sfits-of (c .moved .ok)) (new c) (c .before .before .before .pre .1 .0)
 
 mul-t12 : tie.Need-mul-t12
 mul-t12 c = search needs
@@ -58,9 +59,10 @@ same-length-2 c = search needs
 returns : tie.Need-returns
 returns c =
     let m = c .before .before in
-    let a = m .before .before .before .args in (
-      ap (set (now (a .counts)) (a .j)) (narrowed (sfits-of (m .moved .ok)) (new m) (m .before .before .before .pre .1)),
-      ap (set (now (a .idsums)) (a .j)) (c .wound .ensures),
+    let a = m .before .before .before .args in
+    let below = m .before .before .before .pre .1 .1 in (
+      ap (set (now (a .counts)) (a .j)) (narrowed (sfits-of (m .moved .ok)) (new m) (m .before .before .before .pre .1 .0)),
+      ap (set (now (a .idsums)) (a .j)) (c .wound .ensures ∙ wound-is (a .minus) _ _ (below .0) (below .1)),
     )
 
 pub put-spec : {M : Type 1} → statement M

@@ -13,7 +13,7 @@ use Rattle.field.specs.Residue.{residue}
 use Rattle.params.specs.Lists.{touched}
 use Rattle.params.specs.Params.{prime}
 use Rattle.params.specs.Places.{standsIn}
-use Rattle.sketch.specs.Buckets.{plusMinus}
+use Rattle.buckets.specs.Buckets.{plusMinus}
 use Rattle.sketch.specs.Sketch.{sketch, changedIn}
 use Rattle.params.proofs.Changes.{length-touched}
 use Rattle.sketch.proofs.Standing.{Within, reach}
@@ -92,7 +92,13 @@ put-requires c κs =
         turn-long (pos 0) (s .args .m) (λ j. getD (now (s .args .ks)) j 0) (l .i) _ (now (s .args .counts)) _ (r .m-low) (omega arith) small (l .inv .1),
         turn-long 0 (s .args .m) (λ j. getD (now (s .args .ks)) j 0) (l .i) _ (now (s .args .idsums)) _ (r .m-low) (omega arith) small (l .inv .2),
       ),
-      rw (turn-old (pos 0) (s .args .m) (λ j. getD (now (s .args .ks)) j 0) (l .i) _ (now (s .args .counts)) _ (r .m-low) (omega arith) small (l .inv .1), toZ-ofZ (s .fits .n)) (s .pre .1 (l .i) h),
+      (
+        rw (turn-old (pos 0) (s .args .m) (λ j. getD (now (s .args .ks)) j 0) (l .i) _ (now (s .args .counts)) _ (r .m-low) (omega arith) small (l .inv .1), toZ-ofZ (s .fits .n)) (s .pre .1 .0 (l .i) h),
+        (
+          rw (turn-old 0 (s .args .m) (λ j. getD (now (s .args .ks)) j 0) (l .i) _ (now (s .args .idsums)) _ (r .m-low) (omega arith) small (l .inv .2)) (s .pre .1 .1 .0 (l .i) h),
+          s .pre .1 .1 .1,
+        ),
+      ),
     )
 
 add-i : tie.Need-add-i Inv-loop μ-loop

@@ -8,9 +8,12 @@ use mir.Syntax.{w32}
 use mir.Val.{toZ}
 use mir.ValLaws.{toZ-pos}
 use borrow.Author.Needs.{needs}
+use Rattle.field.proofs.Residues.{residue-below}
+use Rattle.params.specs.Params.{prime}
 use Rattle.params.specs.Places.{Placed}
 use Rattle.params.proofs.Sizes.{stretch-within}
 use Rattle.params.proofs.Rules.{places-found}
+use Rattle.buckets.proofs.Idsums.{prime-pos}
 use Rattle.sketch.proofs.Steps.{Let, entry-done, reached, placed-answer, placed-change, has-room, not-let, not-stepped, stepped}
 use Rattle.sketch.proofs.packets.step.Statement.{statement}
 use Rattle.sketch.proofs.packets.step.Tie as tie
@@ -41,11 +44,11 @@ places-requires c κs = search needs
 flow-places : (c : tie.After-places) → let a = c .before .before .before .before .before .before .args in Placed (a .p) (a .f) (c .places .last .1 .1 .0)
 flow-places c = rw (c .places .ensures) (places-found _ _ _ (let-in (c .before .before) .sized) refl)
 
-cast-buckets : tie.Need-cast-buckets
-cast-buckets c = record { sfits = omega (arith, let-in (c .before .before .before .before .before) .high) }
+cast-judge : tie.Need-cast-judge
+cast-judge c = record { sfits = omega (arith, let-in (c .before .before .before .before .before) .high) }
 
-buckets-requires : tie.Need-buckets-requires
-buckets-requires c κs = reached (let-in (c .before .before .before .before .before) .sized) (let-in (c .before .before .before .before .before) .counts) (let-in (c .before .before .before .before .before) .idsums) (flow-places (c .before .before .before))
+judge-requires : tie.Need-judge-requires
+judge-requires c κs = reached (let-in (c .before .before .before .before .before) .sized) (let-in (c .before .before .before .before .before) .counts) (let-in (c .before .before .before .before .before) .idsums) (flow-places (c .before .before .before))
 
 enum-told-3 : tie.Need-enum-told-3
 enum-told-3 c = search needs
@@ -63,7 +66,7 @@ returns-2 : tie.Need-returns-2
 returns-2 c =
     let s = c .before .before .before .before .before .before .before .before .before .before .before .before in
     not-stepped (s .args .minus) (s .args .p) (s .args .f) (s .args .n) _ _ (sym (c .before .before .before .before .before .before .before .before .before .before .entry .ensures) ∙ c .before .before .before .before .before .before .before .before .enum-told .given .1)
-    (placed-answer (flow-places (c .before .before .before .before .before .before)) (s .args .minus) _ (s .args .n) (as-count (c .before .before .before .before .before .before .before .before)) _ _ (c .before .before .buckets .ensures)) (c .before .match2 .keys2)
+    (placed-answer (flow-places (c .before .before .before .before .before .before)) (s .args .minus) _ (s .args .n) (as-count (c .before .before .before .before .before .before .before .before)) _ _ (c .before .before .judge .ensures)) (c .before .match2 .keys2)
 
 cast-put-all : tie.Need-cast-put-all
 cast-put-all c = record { sfits = omega (arith, let-in (c .before .before .before .before .before .before .before .before .before .before .before) .high) }
@@ -74,9 +77,13 @@ weight-requires c κs = search needs
 put-all-requires : tie.Need-put-all-requires
 put-all-requires c κs =
     let l = let-in (c .before .before .before .before .before .before .before .before .before .before .before .before) in
-    let r = reached (l .sized) (l .counts) (l .idsums) (flow-places (c .before .before .before .before .before .before .before .before .before .before)) in (
+    let r = reached (l .sized) (l .counts) (l .idsums) (flow-places (c .before .before .before .before .before .before .before .before .before .before)) in
+    let done = sym (c .before .before .before .before .before .before .judge .ensures) ∙ c .before .before .before .before .enum-told3 .given .1 in (
       r,
-      (λ i h. has-room _ _ _ _ _ _ (sym (c .before .before .before .before .before .before .buckets .ensures) ∙ c .before .before .before .before .enum-told3 .given .1) i h (r .inside i h) (stretch-within _ _ i h)),
+      (
+        (λ i h. has-room _ _ _ _ _ _ done i h (r .inside i h) (stretch-within _ _ i h) .0),
+        ((λ i h. has-room _ _ _ _ _ _ done i h (r .inside i h) (stretch-within _ _ i h) .1), rw (c .weight .ensures) (residue-below prime prime-pos _)),
+      ),
     )
 
 same-length-3 : tie.Need-same-length-3
@@ -91,7 +98,7 @@ returns-3 c =
     let p = flow-places (c .before .before .before .before .before .before .before .before .before .before .before .before .before .before) in
     let n = as-count (c .before .before .before .before .before .before .before .before .before .before .before .before .before .before .before .before) in
     stepped (s .args .minus) (s .args .p) (s .args .f) (s .args .n) _ _ _ (sym (c .before .before .before .before .before .before .before .before .before .before .before .before .before .before .before .before .before .before .entry .ensures) ∙ c .before .before .before .before .before .before .before .before .before .before .before .before .before .before .before .before .enum-told .given .1)
-    (placed-answer p (s .args .minus) _ (s .args .n) n _ _ (c .before .before .before .before .before .before .before .before .before .before .buckets .ensures)) (c .before .before .before .before .before .before .before .before .enum-told3 .given .1)
+    (placed-answer p (s .args .minus) _ (s .args .n) n _ _ (c .before .before .before .before .before .before .before .before .before .before .judge .ensures)) (c .before .before .before .before .before .before .before .before .enum-told3 .given .1)
     (placed-change p (s .args .minus) _ (s .args .n) n _ _ _ _ (c .before .before .before .before .weight .ensures) (c .before .before .before .put-all .ensures))
 
 pub step-spec : {M : Type 1} → statement M
@@ -103,8 +110,8 @@ step-spec =
     enum-told-2
     returns
     places-requires
-    cast-buckets
-    buckets-requires
+    cast-judge
+    judge-requires
     enum-told-3
     enum-told-4
     same-length

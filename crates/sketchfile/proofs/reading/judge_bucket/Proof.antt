@@ -6,7 +6,7 @@ use lib.Dec.{ltb}
 use mir.Facts.{toZ-ofZ}
 use borrow.Author.Needs.{needs}
 use Rattle.params.specs.Params.{prime}
-use Rattle.sketch.specs.Buckets.{inLimits}
+use Rattle.buckets.specs.Buckets.{inLimits}
 use Rattle.params.proofs.Searches.{test-held, test-failed}
 use Rattle.sketchfile.proofs.BucketRecords.{bucket-damaged, bucket-low, bucket-high, bucket-zero, bucket-passed}
 use Rattle.sketchfile.proofs.reading.judge_bucket.Statement.{statement}

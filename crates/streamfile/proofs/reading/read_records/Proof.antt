@@ -40,8 +40,8 @@ enum-known-found c = search needs
 enum-told : tie.Need-enum-told Inv-loop μ-loop
 enum-told c = search needs
 
-step-requires : tie.Need-step-requires Inv-loop μ-loop
-step-requires c κs = search needs
+put-in-requires : tie.Need-put-in-requires Inv-loop μ-loop
+put-in-requires c κs = search needs
 
 enum-told-2 : tie.Need-enum-told-2 Inv-loop μ-loop
 enum-told-2 c = search needs
@@ -71,7 +71,7 @@ restored : (c : tie.After-withdraw-packets Inv-loop μ-loop)
 restored c =
     let g = c .before .before .before .before .before .before .before .before .before .before .before .before .before .before .before .loop .inv .3 in
     let refused = c .before .before .before .before .match2 .keys2 in
-    c .withdraw-packets .ensures .back _ (g .accepted) (c .before .before .before .before .before .before .before .before .step .ensures .after ∙ sym (kept-old _ _ _ refused) ∙ g .made)
+    c .withdraw-packets .ensures .back _ (g .accepted) (c .before .before .before .before .before .before .before .before .put-in .ensures .after ∙ sym (kept-old _ _ _ refused) ∙ g .made)
 
 same-length : tie.Need-same-length Inv-loop μ-loop
 same-length c = ap (λ S. length (S .counts)) (restored (c .before .before .before .before))
@@ -83,10 +83,10 @@ returns : tie.Need-returns Inv-loop μ-loop
 returns c =
     let l = c .before .before .before .before .before .before .before .before .before .before .before .before .before .before .before .before .before .before .before .loop in
     let refused = c .before .before .before .before .before .before .before .before .match2 .keys2 in
-    let told = c .told-at .ensures ∙ ap (λ a. toldAt a (c .before .before .before .before .before .before .before .before .before .before .before .before .step .result)) (l .inv .0) in
+    let told = c .told-at .ensures ∙ ap (λ a. toldAt a (c .before .before .before .before .before .before .before .before .before .before .before .before .put-in .result)) (l .inv .0) in
     record {
-      answer = told ∙ packet-refused _ _ _ _ _ (l .inv .3) _ _ (there (c .before .before .before .before .before .before .before .before .before .before .before .before .before .before .before)) _ (c .before .before .before .before .before .before .before .before .before .before .before .before .step .ensures .answer) refused;
-      after-all = restored (c .before .before .before .before) ∙ kept-old _ _ _ (rw (c .told-at .ensures) (told-refusal _ (c .before .before .before .before .before .before .before .before .before .before .before .before .step .result) refused));
+      answer = told ∙ packet-refused _ _ _ _ _ (l .inv .3) _ _ (there (c .before .before .before .before .before .before .before .before .before .before .before .before .before .before .before)) _ (c .before .before .before .before .before .before .before .before .before .before .before .before .put-in .ensures .answer) refused;
+      after-all = restored (c .before .before .before .before) ∙ kept-old _ _ _ (rw (c .told-at .ensures) (told-refusal _ (c .before .before .before .before .before .before .before .before .before .before .before .before .put-in .result) refused));
     }
 
 add-at : tie.Need-add-at Inv-loop μ-loop
@@ -101,7 +101,7 @@ loop-less c = let l = c .before .before .before .before .before .before .before 
 loop-again : tie.Need-loop-again Inv-loop μ-loop
 loop-again c =
     let l = c .before .before .before .before .before .before .before .before .before .before .before .before .loop in
-    let z = c .before .before .before .before .before .step .ensures in
+    let z = c .before .before .before .before .before .put-in .ensures in
     let done = c .enum-told2 .given .1 in
     let long = stepped-long z in (
       omega (arith, l .inv .0),
@@ -169,7 +169,7 @@ read-records-spec =
     packets-at-requires
     enum-known-found
     enum-told
-    step-requires
+    put-in-requires
     enum-told-2
     enum-told-3
     withdraw-packets-requires

@@ -1,43 +1,157 @@
--- `params::params::Params::stands` meets its contract.
-use mathlib.Core.Path.{_≡_, sym, _∙_}
+-- `params::params::Params::stands` meets its contract: array by array, the flow's bucket there is the one that stands.
+use mathlib.Core.Path.{_≡_}
 use mathlib.Core.Bool.{true}
-use borrow.Author.Needs.{needs}
-use borrow.Author.Tests.{not-true, not-false, lt-ltb, le-ltb}
+use native.Mathlib.Omega.{arith}
 use Rattle.params.specs.Params.{Sized, goodSizes}
-use Rattle.params.specs.Places.{standsIn}
+use Rattle.params.specs.Places.{stand}
+use Rattle.params.proofs.Searches.{test-held, test-failed}
 use Rattle.params.proofs.Rules.{sized}
+use Rattle.params.proofs.Standing.{stands-in, stands-nowhere}
+use borrow.Author.Needs.{needs}
 use Rattle.params.proofs.params.Params.stands.Statement.{statement}
 use Rattle.params.proofs.params.Params.stands.Tie as tie
+
+passed : (c : tie.Else1) → goodSizes (c .before .before .args .self) ≡ true
+passed c = test-held (c .before .sized .ensures) (c .if1 .left)
+
+sizes : (c : tie.Else1) → Sized (c .before .before .args .self)
+sizes c = sized _ (passed c)
 
 sized-requires : tie.Need-sized-requires
 sized-requires c κs = search needs
 
 returns : tie.Need-returns
-returns c = rw (sym (c .before .sized .ensures) ∙ not-true _ (c .if1 .taken))
+returns c = rw (test-failed (c .before .sized .ensures) (c .if1 .taken))
 
-passed : (c : tie.Else1) → goodSizes (c .before .before .args .self) ≡ true
-passed c = sym (c .before .sized .ensures) ∙ not-false _ (c .if1 .left)
+array-read-place : tie.Need-array-read-place
+array-read-place c = search needs
 
-fits : (c : tie.Else1) → Sized (c .before .before .args .self)
-fits c = sized _ (passed c)
+array-read-place-2 : tie.Need-array-read-place-2
+array-read-place-2 c = search needs
 
-div-i : tie.Need-div-i
-div-i c = fits c .m-low
+place-requires : tie.Need-place-requires
+place-requires c κs = search needs
 
 returns-2 : tie.Need-returns-2
-unfolding standsIn
-returns-2 c = rw (passed (c .before .before), le-ltb _ _ (c .if2 .taken))
+unfolding stand
+returns-2 c =
+    let s = c .before .before .before .before in
+    stands-in (s .before .before .args .self) _ _ 0 (passed s) (omega (arith, sizes s)) (omega arith) (omega arith) (omega (arith, c .place .ensures .0))
 
-spot-requires : tie.Need-spot-requires
-spot-requires c κs = (fits (c .before .before), c .if2 .left)
+mul-if3 : tie.Need-mul-if3
+mul-if3 c = omega (arith, sizes (c .before .before .before))
 
-rem-result : tie.Need-rem-result
-rem-result c = fits (c .before .before .before) .m-low
+array-read-place-3 : tie.Need-array-read-place-3
+array-read-place-3 c = search needs
+
+array-read-place-4 : tie.Need-array-read-place-4
+array-read-place-4 c = search needs
+
+place-requires-2 : tie.Need-place-requires-2
+place-requires-2 c κs = search needs
+
+add-result : tie.Need-add-result
+add-result c = omega (arith, sizes (c .before .before .before .before .before))
 
 returns-3 : tie.Need-returns-3
-unfolding standsIn
-returns-3 c = rw (passed (c .before .before .before), lt-ltb _ _ (c .before .if2 .left), c .spot .ensures .0)
+unfolding stand
+returns-3 c =
+    let s = c .before .before .before .before .before in
+    stands-in (s .before .before .args .self) _ _ 1 (passed s) (omega (arith, sizes s)) (omega arith) (omega arith) (omega (arith, c .place2 .ensures .0))
+
+returns-4 : tie.Need-returns-4
+returns-4 c =
+    let s = c .before .before .before .before .before in
+    stands-nowhere (s .before .before .args .self) _ _ 2 (passed s) (omega arith) (omega arith)
+
+mul-if5 : tie.Need-mul-if5
+mul-if5 c = omega (arith, sizes (c .before .before .before .before .before))
+
+mul-result : tie.Need-mul-result
+mul-result c = search needs
+
+array-read-place-5 : tie.Need-array-read-place-5
+array-read-place-5 c = search needs
+
+array-read-place-6 : tie.Need-array-read-place-6
+array-read-place-6 c = search needs
+
+place-requires-3 : tie.Need-place-requires-3
+place-requires-3 c κs = search needs
+
+add-result-2 : tie.Need-add-result-2
+add-result-2 c = omega (arith, sizes (c .before .before .before .before .before .before .before))
+
+returns-5 : tie.Need-returns-5
+unfolding stand
+returns-5 c =
+    let s = c .before .before .before .before .before .before .before in
+    stands-in (s .before .before .args .self) _ _ 2 (passed s) (omega (arith, sizes s)) (omega arith) (omega arith) (omega (arith, c .place3 .ensures .0))
+
+returns-6 : tie.Need-returns-6
+returns-6 c =
+    let s = c .before .before .before .before .before .before .before in
+    stands-nowhere (s .before .before .args .self) _ _ 3 (passed s) (omega arith) (omega arith)
+
+mul-if7 : tie.Need-mul-if7
+mul-if7 c = omega (arith, sizes (c .before .before .before .before .before .before .before))
+
+mul-result-2 : tie.Need-mul-result-2
+mul-result-2 c = search needs
+
+array-read-place-7 : tie.Need-array-read-place-7
+array-read-place-7 c = search needs
+
+array-read-place-8 : tie.Need-array-read-place-8
+array-read-place-8 c = search needs
+
+place-requires-4 : tie.Need-place-requires-4
+place-requires-4 c κs = search needs
+
+add-result-3 : tie.Need-add-result-3
+add-result-3 c = omega (arith, sizes (c .before .before .before .before .before .before .before .before .before))
+
+returns-7 : tie.Need-returns-7
+unfolding stand
+returns-7 c =
+    let s = c .before .before .before .before .before .before .before .before .before in
+    stands-in (s .before .before .args .self) _ _ 3 (passed s) (omega (arith, sizes s)) (omega arith) (omega arith) (omega (arith, c .place4 .ensures .0))
+
+returns-8 : tie.Need-returns-8
+returns-8 c =
+    let s = c .before .before .before .before .before .before .before .before in
+    stands-nowhere (s .before .before .args .self) _ _ 4 (passed s) (sizes s .d-high) (omega arith)
 
 pub stands-spec : {M : Type 1} → statement M
 stands-spec =
-    tie.close (tie.spec sized-requires returns div-i returns-2 spot-requires rem-result returns-3)
+    tie.close
+    (tie.spec
+    sized-requires
+    returns
+    array-read-place
+    array-read-place-2
+    place-requires
+    returns-2
+    mul-if3
+    array-read-place-3
+    array-read-place-4
+    place-requires-2
+    add-result
+    returns-3
+    returns-4
+    mul-if5
+    mul-result
+    array-read-place-5
+    array-read-place-6
+    place-requires-3
+    add-result-2
+    returns-5
+    returns-6
+    mul-if7
+    mul-result-2
+    array-read-place-7
+    array-read-place-8
+    place-requires-4
+    add-result-3
+    returns-7
+    returns-8)
