@@ -10,8 +10,11 @@ DIFFERENCES = (
     sound.tiny, sound.tiny, sound.many_flows, sound.wide, sound.meets_the_range, sound.meets_the_table, sound.searched,
     sound.false_pure, sound.cancelled, sound.at_the_limits, sound.duplicates)
 
+# Where both counts are at most this in size, the library looks no further for a sum that leaves the limits.
+QUIET = 10**9
+
 # Counts and idsums at their limits and past them.
-COUNTS = (0, 1, -1, MOST, -MOST, MOST - 1, 1 - MOST)
+COUNTS = (0, 1, -1, MOST, -MOST, MOST - 1, 1 - MOST, QUIET, -QUIET, QUIET + 1, -QUIET - 1)
 IDSUMS = (0, 1, P - 1)
 DAMAGED_COUNTS = (P, -P, -2**31)
 DAMAGED_IDSUMS = (P, 2**31, WORD)
@@ -145,7 +148,7 @@ def one_flow(rng):
     script = Script()
     script.sketch(1, params)
     script.sketch(2, params)
-    script.add("insert", 2, (any_flow(rng), rng.choice((1, MOST, rng.randint(1, MOST)))))
+    script.add("insert", 2, (any_flow(rng), rng.choice((1, QUIET, QUIET + 1, MOST, rng.randint(1, MOST)))))
     script.add(rng.choice(("add", "subtract")))
     script.table(params, rng.choice((0, 1, 1, 5)), 3)
     script.add("peel", 1, (rng.choice((0, 1, WORD, WORD)),))
@@ -161,7 +164,8 @@ def inserts(rng):
     any_content(rng, script, 1, params)
     for _ in range(rng.randint(1, 4)):
         flow = any_flow(rng)
-        number = rng.choice((1, MOST, rng.randint(1, MOST), 0, P, WORD) if rng.random() < 0.2 else (1, rng.randint(1, 9), MOST))
+        numbers = (1, MOST, rng.randint(1, MOST), 0, P, WORD) if rng.random() < 0.2 else (1, rng.randint(1, 9), QUIET, QUIET + 1, MOST)
+        number = rng.choice(numbers)
         for index in indexes(params, flow):
             reached = rng.choice((MOST, MOST, MOST + 1, 0, 5))
             if rng.random() < 0.6:
