@@ -25,7 +25,7 @@ abbrev pub plusMinus : Bool → ℤ → ℤ → ℤ
 plusMinus false x y = x +ℤ y
 plusMinus true x y = x -ℤ y
 
--- The next two are what the code computes in place of more, for speed. No contract of another crate speaks of them.
+-- The next two are what the code computes in place of more, for speed. No public contract of another crate cites them.
 
 -- the sum, or the difference, of two idsums: the prime is taken off once where the sum is not below it, and put on once where the
 -- difference is below 0. Both are taken modulo 2^32, which two numbers below the prime do not reach: of these it is the residue
