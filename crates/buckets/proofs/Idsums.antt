@@ -12,22 +12,22 @@ use Rattle.field.proofs.Residues.{residue-pos, residue-own, residue-once, resid
 use Rattle.field.proofs.Remainders.{rest-is}
 use Rattle.field.proofs.Parts.{sub-up, sub-down}
 use Rattle.params.specs.Params.{prime}
-use Rattle.buckets.specs.Buckets.{plusMinus, wound}
+use Rattle.buckets.specs.Buckets.{plusMinus, idsumPlusMinus}
 
 pub prime-pos : 0 < prime
 prime-pos = omega arith
 
 -- the sum and the difference of two residues are those of the numbers
-pub wound-both : (minus : Bool) (a b : ℤ) → residue prime (plusMinus minus (pos (residue prime a)) (pos (residue prime b))) ≡ residue prime (plusMinus minus a b)
-wound-both false a b = residue-pos prime prime-pos (residue prime a + residue prime b) ∙ sym (residue-add prime prime-pos a b)
-wound-both true a b =
+pub idsum-plus-minus-both : (minus : Bool) (a b : ℤ) → residue prime (plusMinus minus (pos (residue prime a)) (pos (residue prime b))) ≡ residue prime (plusMinus minus a b)
+idsum-plus-minus-both false a b = residue-pos prime prime-pos (residue prime a + residue prime b) ∙ sym (residue-add prime prime-pos a b)
+idsum-plus-minus-both true a b =
     residue-sub prime prime-pos (pos (residue prime a)) (pos (residue prime b))
     ∙ ap₂ (λ (r s : ℕ). (r + (prime - s)) % prime) (residue-twice prime prime-pos a) (residue-twice prime prime-pos b)
     ∙ sym (residue-sub prime prime-pos a b)
 
 -- what is added to an idsum below p and taken away again leaves it
-pub wound-back : (x w : ℕ) → x < prime → residue prime (pos (residue prime (pos x +ℤ pos w)) -ℤ pos w) ≡ x
-wound-back x w l =
+pub idsum-plus-minus-back : (x w : ℕ) → x < prime → residue prime (pos (residue prime (pos x +ℤ pos w)) -ℤ pos w) ≡ x
+idsum-plus-minus-back x w l =
     residue-add-same prime prime-pos (pos (residue prime (pos x +ℤ pos w))) (pos x +ℤ pos w) (negℤ (pos w)) (residue-twice prime prime-pos (pos x +ℤ pos w))
     ∙ ap (residue prime) (+ℤ-negℤ-cancel (pos x) (pos w))
     ∙ residue-own prime prime-pos x l
@@ -50,9 +50,9 @@ taken-once s t h k false e =
     let l = ltb-false s t e in
     sym (residue-own prime prime-pos (s - t) (omega arith)) ∙ ap (residue prime) (sym (sub-up s t l))
 
-pub wound-is : (minus : Bool) (s t : ℕ) → s < prime → t < prime → wound minus s t ≡ residue prime (plusMinus minus (pos s) (pos t))
-unfolding wound
-wound-is false s t h k =
+pub idsum-plus-minus-is : (minus : Bool) (s t : ℕ) → s < prime → t < prime → idsumPlusMinus minus s t ≡ residue prime (plusMinus minus (pos s) (pos t))
+unfolding idsumPlusMinus
+idsum-plus-minus-is false s t h k =
     let short : (s + t) % 4294967296 ≡ s + t = mod-eq-of-lt (omega arith) in
     rw short (added-once s t h k (ltb (s + t) prime) refl)
-wound-is true s t h k = taken-once s t h k (ltb s t) refl
+idsum-plus-minus-is true s t h k = taken-once s t h k (ltb s t) refl

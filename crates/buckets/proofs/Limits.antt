@@ -12,7 +12,7 @@ use mir.Facts.{toZ-ofZ}
 use mir.Val.{SFits, toZ, ofZ}
 use Rattle.field.proofs.Parts.{sfits-of-abs, abs-of-sfits, abs-add, abs-sub}
 use Rattle.params.specs.Params.{prime}
-use Rattle.buckets.specs.Buckets.{inLimits, damaged, quiet, plusMinus}
+use Rattle.buckets.specs.Buckets.{inLimits, damaged, isSmall, plusMinus}
 use Rattle.params.proofs.Searches.{and-true}
 
 -- the code's two comparisons, with a bound and its opposite, are one of the number's size
@@ -40,20 +40,20 @@ pub whole-back : (c : ℤ) (s : ℕ) → inLimits c ≡ true → s < prime → d
 whole-back c s e l = rw (e, lt-ltb s prime l)
 
 -- a quiet bucket is within its limits, and stays there with a count no larger than a quiet one's
-pub quiet-whole : (c : ℤ) (s : ℕ) → quiet c s ≡ true → damaged c s ≡ false
-unfolding quiet inLimits
-quiet-whole c s e =
+pub small-whole : (c : ℤ) (s : ℕ) → isSmall c s ≡ true → damaged c s ≡ false
+unfolding isSmall inLimits
+small-whole c s e =
     let q = and-true (ltb s prime) (leb (natAbs c) 1000000000) e in
     whole-back c s (le-leb (natAbs c) 2147483646 (omega (arith, leb-true (natAbs c) 1000000000 (q .1)))) (ltb-true s prime (q .0))
 
-pub quiet-size : (c : ℤ) (s : ℕ) → quiet c s ≡ true → natAbs c ≤ 1000000000
-unfolding quiet
-quiet-size c s e = leb-true (natAbs c) 1000000000 (and-true (ltb s prime) (leb (natAbs c) 1000000000) e .1)
+pub small-size : (c : ℤ) (s : ℕ) → isSmall c s ≡ true → natAbs c ≤ 1000000000
+unfolding isSmall
+small-size c s e = leb-true (natAbs c) 1000000000 (and-true (ltb s prime) (leb (natAbs c) 1000000000) e .1)
 
-pub quiet-stays : (minus : Bool) (x y : ℤ) → natAbs x ≤ 1000000000 → natAbs y ≤ 1000000000 → inLimits (plusMinus minus x y) ≡ true
+pub small-stays : (minus : Bool) (x y : ℤ) → natAbs x ≤ 1000000000 → natAbs y ≤ 1000000000 → inLimits (plusMinus minus x y) ≡ true
 unfolding inLimits
-quiet-stays false x y h k = le-leb (natAbs (x +ℤ y)) 2147483646 (omega (arith, abs-add x y))
-quiet-stays true x y h k = le-leb (natAbs (x -ℤ y)) 2147483646 (omega (arith, abs-sub x y))
+small-stays false x y h k = le-leb (natAbs (x +ℤ y)) 2147483646 (omega (arith, abs-add x y))
+small-stays true x y h k = le-leb (natAbs (x -ℤ y)) 2147483646 (omega (arith, abs-sub x y))
 
 -- the sum and the difference of two counts fit the wide width
 pub wide : (minus : Bool) (x y : ℤ) → SFits w32 x → SFits w32 y → SFits w64 (plusMinus minus x y)

@@ -29,14 +29,14 @@ plusMinus true x y = x -ℤ y
 
 -- the sum, or the difference, of two idsums: the prime is taken off once where the sum is not below it, and put on once where the
 -- difference is below 0. Both are taken modulo 2^32, which two numbers below the prime do not reach: of these it is the residue
-unfoldable pub wound : Bool → ℕ → ℕ → ℕ
-wound false s t = cond (ltb ((s + t) % 4294967296) prime) ((s + t) % 4294967296) ((s + t) % 4294967296 - prime)
-wound true s t = cond (ltb s t) ((s + prime + 4294967296 - t) % 4294967296) (s - t)
+unfoldable pub idsumPlusMinus : Bool → ℕ → ℕ → ℕ
+idsumPlusMinus false s t = cond (ltb ((s + t) % 4294967296) prime) ((s + t) % 4294967296) ((s + t) % 4294967296 - prime)
+idsumPlusMinus true s t = cond (ltb s t) ((s + prime + 4294967296 - t) % 4294967296) (s - t)
 
 -- a bucket whose idsum is below the prime, with a count so small that the sum and the difference of two such counts are within the
 -- limits: of up to a thousand million, where up to 1073741823 would do
-unfoldable pub quiet : ℤ → ℕ → Bool
-quiet c s = ltb s prime && leb (natAbs c) 1000000000
+unfoldable pub isSmall : ℤ → ℕ → Bool
+isSmall c s = ltb s prime && leb (natAbs c) 1000000000
 
 -- what n packets of flow f bring to an idsum: n * f mod p
 abbrev pub weight : ℕ → ℕ → ℕ

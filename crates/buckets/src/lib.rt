@@ -6,7 +6,7 @@ ghost use lib.Dec.{ltb, eqb};
 ghost use lib.ListN.{length};
 ghost use Rattle.params.specs.Lists.{least};
 ghost use Rattle.params.specs.Params.{prime};
-ghost use Rattle.buckets.specs.Buckets.{inLimits, damagedOf, plusMinus, wound as «wound-of», quiet as «quiet-of», weight as «weight-of», allZero};
+ghost use Rattle.buckets.specs.Buckets.{inLimits, damagedOf, plusMinus, idsumPlusMinus, isSmall, weight as «weight-of», allZero};
 use params::PRIME;
 
 // Whether a number lies within a count's limits.
@@ -28,8 +28,8 @@ pub fn sound(c: i32, s: u32) -> bool
 
 // Whether a bucket's idsum is below the prime and its count so small that the sum and the difference with another such count are within
 // the limits. Where this holds of all buckets at hand, none of them is damaged and none leaves its limits: one search in place of two.
-pub fn quiet(c: i32, s: u32) -> bool
-    ensures { λ r. ⌜ r ≡ «quiet-of» c s ⌝ }
+pub fn is_small(c: i32, s: u32) -> bool
+    ensures { λ r. ⌜ r ≡ isSmall c s ⌝ }
 {
     if PRIME <= s {
         return false;
@@ -65,7 +65,7 @@ pub fn first_damaged(counts: &[i32], idsums: &[u32]) -> usize
 }
 
 // The sum or the difference of two counts, at a width that holds it.
-pub fn moved(minus: bool, c: i32, e: i32) -> i64
+pub fn plus_minus(minus: bool, c: i32, e: i32) -> i64
     ensures { λ r. ⌜ r ≡ plusMinus minus c e ⌝ }
 {
     if minus {
@@ -77,8 +77,8 @@ pub fn moved(minus: bool, c: i32, e: i32) -> i64
 
 // The sum or the difference of two idsums. In every bucket that is whole they are below the prime, which is below 2^31, so that the sum is below
 // 2^32 and one comparison is enough. Other numbers are added modulo 2^32, and so is the prime to their difference.
-pub fn wound(minus: bool, s: u32, t: u32) -> u32
-    ensures { λ r. ⌜ r ≡ «wound-of» minus s t ⌝ }
+pub fn idsum_plus_minus(minus: bool, s: u32, t: u32) -> u32
+    ensures { λ r. ⌜ r ≡ idsumPlusMinus minus s t ⌝ }
 {
     if minus {
         if s < t {

@@ -9,7 +9,7 @@ use borrow.Author.Tests.{ltb-true, ltb-false, le-leb, lt-leb, ne-eqb, not-true}
 use lib.Dec.{ltb, leb, eqb}
 use lib.ListN.{length, getD, drop}
 use Rattle.params.specs.declared.params.Params.{Params}
-use Rattle.params.specs.declared.answers.Why.the-variants.{Form}
+use Rattle.params.specs.declared.answers.Refusal.the-variants.{Form}
 use Rattle.params.specs.declared.answers.Answer.{Answer}
 use Rattle.params.specs.declared.answers.Answer.the-variants.{Done, Refused}
 use Rattle.sketch.specs.Sketch.{Sketch}

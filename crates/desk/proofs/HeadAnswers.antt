@@ -6,12 +6,12 @@ use Prim.Native.Nat.{ℕ}
 use borrow.Author.Tests.{not-false}
 use types.Run.{miss}
 use Rattle.params.specs.declared.params.Params.{Params}
-use Rattle.params.specs.declared.answers.Why.the-variants.{Param, Mismatch, Form}
+use Rattle.params.specs.declared.answers.Refusal.the-variants.{Param, Mismatch, Form}
 use Rattle.params.specs.declared.answers.Answer.{Answer}
 use Rattle.params.specs.declared.answers.Answer.the-variants.{Done, Refused}
 use Rattle.params.specs.Answers.{first, kept}
 use Rattle.params.specs.Params.{goodParams, sameParams}
-use Rattle.params.proofs.Judging.{Refusal, first-refused, refuse-done}
+use Rattle.params.proofs.Judging.{Refuses, first-refused, refuse-done}
 use Rattle.files.specs.declared.heads.Headed.{Headed}
 use Rattle.files.specs.Records.{recordAt}
 use Rattle.files.specs.Heads.{paramsIn, isHead, headAnswer, noParams, headOf}
@@ -32,10 +32,10 @@ module _ (bs : List ℕ) where
       (done, ap (λ h. h .params) e ∙ rw done)
 
   -- the first head
-  pub first-refused-head : (h : Headed) → h ≡ headOf bs → Refusal (h .answer) → h ≡ beginOf bs
+  pub first-refused-head : (h : Headed) → h ≡ headOf bs → Refuses (h .answer) → h ≡ beginOf bs
   unfolding beginAnswer
   first-refused-head h e q =
-      let refused : Refusal (headAnswer bs) = rw (ap (λ (h : Headed). h .answer) e) at q in
+      let refused : Refuses (headAnswer bs) = rw (ap (λ (h : Headed). h .answer) e) at q in
       e ∙ ap (λ (a : Answer). record { answer = a; params = kept a noParams (paramsIn bs) }) (first-refused (headAnswer bs) (headAnswer bs) _ refl refused)
 
   pub first-too-large : headAnswer bs ≡ Done → fewEnough (paramsIn bs) ≡ false → _≡_ {A = Headed} (record { answer = Refused Param 0; params = noParams }) (beginOf bs)
@@ -52,7 +52,7 @@ module _ (bs : List ℕ) where
     unfolding secondAnswer
     second-bad g = rw g
 
-    pub second-refused : isHead (recordAt bs 0) ≡ true → Refusal (headAnswer bs) → Refused Param 0 ≡ secondAnswer P (paramsIn bs)
+    pub second-refused : isHead (recordAt bs 0) ≡ true → Refuses (headAnswer bs) → Refused Param 0 ≡ secondAnswer P (paramsIn bs)
     unfolding headAnswer
     second-refused whole h = at (goodParams (paramsIn bs)) refl
       where

@@ -9,7 +9,7 @@ use lib.Dec.{eqb, ltb}
 use lib.IntN.{pos}
 use lib.ListN.{length, getD, length-replicate, getD-replicate}
 use Rattle.params.specs.declared.params.Params.{Params}
-use Rattle.params.specs.declared.answers.Why.the-variants.{Damage, Form}
+use Rattle.params.specs.declared.answers.Refusal.the-variants.{Damage, Form}
 use Rattle.params.specs.declared.answers.Answer.the-variants.{Done}
 use Rattle.params.specs.Lists.{from}
 use Rattle.params.specs.Answers.{kept}
@@ -23,7 +23,7 @@ use Rattle.sketch.proofs.ManyPackets.{after-end}
 use Rattle.files.specs.Bytes.{word}
 use Rattle.files.specs.Records.{bodyLength, recordAt, isKind, placeOf}
 use Rattle.files.specs.Heads.{paramsIn, isHead, openingAnswer}
-use Rattle.files.specs.Turns.{toldAt, packetFrom, packetPlace, endAnswer}
+use Rattle.files.specs.Turns.{atOffset, packetFrom, packetPlace, endAnswer}
 use Rattle.files.proofs.EndStages.{ended}
 use Rattle.files.proofs.RecordTrips.{record-whole, not-kind}
 use Rattle.files.proofs.Turning.{records-are}
@@ -108,7 +108,7 @@ module _ (P : Params) (fs xs : List ℕ) (n : ℕ) (long : length fs ≡ 38 + (9
 
     module _ (S : Sketch) (done : AllTaken P xs S) where
       judged-done : (k : ℕ) → k < n → packetJudged P fs S k ≡ Done
-      unfolding packetJudged toldAt packetTold
+      unfolding packetJudged atOffset packetTold
       judged-done k l = rw (flow-same k l, packets-same k l, flows-same, numbers-same, done .each k (omega arith))
 
       records-done : packetsJudged P fs S ≡ Done

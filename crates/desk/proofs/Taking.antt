@@ -15,7 +15,7 @@ use Rattle.params.specs.Lists.{least}
 use Rattle.sketch.specs.Sketch.{Sketch}
 use Rattle.sketch.specs.Packets.{stepAnswer}
 use Rattle.params.proofs.Searches.{least-here, least-skip, none-found}
-use Rattle.params.proofs.Judging.{Refusal, kept-old}
+use Rattle.params.proofs.Judging.{Refuses, kept-old}
 use Rattle.params.proofs.Lowest.{least-lowest}
 use Rattle.files.specs.Records.{recordAt, isKind}
 use Rattle.files.specs.Turns.{packetFrom}
@@ -48,7 +48,7 @@ least-within (suc n) k t = at (t k) (least-within n (suc k) t)
     at true h = omega arith
     at false h = omega arith
 
-refusal-refuses : (r : Answer) → Refusal r → refuses r ≡ true
+refusal-refuses : (r : Answer) → Refuses r → refuses r ≡ true
 refusal-refuses Done h = absurd (omega (arith, kept-old {A = ℕ} Done 0 1 h))
 refusal-refuses (Refused w k) h = refl
 
@@ -128,7 +128,7 @@ module _ (P : Params) (bs : List ℕ) (S : Sketch) where
     made-so e = rw e (g .made)
 
     -- the next is refused
-    module _ (f k : ℕ) (there : There bs (packetFrom 0 n) f k) (r : Answer) (e : r ≡ stepAnswer P false f k T) (h : Refusal r) where
+    module _ (f k : ℕ) (there : There bs (packetFrom 0 n) f k) (r : Answer) (e : r ≡ stepAnswer P false f k T) (h : Refuses r) where
       told-next : packetTold P bs S n ≡ r
       unfolding packetTold
       told-next = sym (e ∙ rw (← there .flow, ← there .number, ← g .made))

@@ -6,8 +6,8 @@ use Prim.Native.Nat.{ℕ, _+_, _-_, _*_}
 use lib.Dec.{eqb, ltb, leb}
 use lib.ListN.{length, getD, take, drop}
 use Rattle.params.specs.declared.params.Params.{Params}
-use Rattle.params.specs.declared.answers.Why.{Why}
-use Rattle.params.specs.declared.answers.Why.the-variants.{Param, Mismatch, Form}
+use Rattle.params.specs.declared.answers.Refusal.{Refusal}
+use Rattle.params.specs.declared.answers.Refusal.the-variants.{Param, Mismatch, Form}
 use Rattle.params.specs.declared.answers.Answer.{Answer}
 use Rattle.params.specs.declared.answers.Answer.the-variants.{Done, Refused}
 use Rattle.params.specs.Lists.{least}
@@ -45,7 +45,7 @@ abbrev pub started : State
 started = record { stage = Packets; second = false; at = 38; records = 0 }
 
 -- refused for what stands next
-abbrev pub stopped : Why → State → State
+abbrev pub stopped : Refusal → State → State
 stopped w s = record { stage = Stopped w; second = s .second; at = s .at; records = s .records }
 
 -- packets of this stream, a head, or nothing more are due

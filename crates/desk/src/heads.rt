@@ -9,7 +9,7 @@ use files::heads::Headed;
 use files::heads::head;
 use params::Answer;
 use params::Params;
-use params::Why;
+use params::Refusal;
 
 // Whether parameters that keep the rules have few enough buckets for a desk.
 fn few_enough(p: Params) -> bool
@@ -20,12 +20,12 @@ fn few_enough(p: Params) -> bool
 }
 
 // What a head that is refused says: no parameters.
-fn refused(why: Why) -> Headed
-    ensures { λ r. ⌜ r ≡ record { answer = Answer.Refused why 0; params = noParams } ⌝ }
+fn refused(refusal: Refusal) -> Headed
+    ensures { λ r. ⌜ r ≡ record { answer = Answer.Refused refusal 0; params = noParams } ⌝ }
 {
     let none = [0u32; 4];
     Headed {
-        answer: Answer::Refused(why, 0),
+        answer: Answer::Refused(refusal, 0),
         params: Params {
             d: 0,
             m: 0,
@@ -46,7 +46,7 @@ pub fn begin(bytes: &[u8]) -> Headed
     };
     let p = h.params;
     if !few_enough(p) {
-        return refused(Why::Param);
+        return refused(Refusal::Param);
     }
     h
 }
@@ -59,14 +59,14 @@ pub(crate) fn judge_second(p: Params, bytes: &[u8]) -> Answer
     let h = head(bytes);
     let judged = h.answer;
     let Answer::Done = judged else {
-        return Answer::Refused(Why::Param, 0);
+        return Answer::Refused(Refusal::Param, 0);
     };
     let q = h.params;
     if !few_enough(q) {
-        return Answer::Refused(Why::Param, 0);
+        return Answer::Refused(Refusal::Param, 0);
     }
     if !p.same(q) {
-        return Answer::Refused(Why::Mismatch, 0);
+        return Answer::Refused(Refusal::Mismatch, 0);
     }
     Answer::Done
 }

@@ -15,7 +15,7 @@ use files::fields::packets_at;
 use files::records::is_kind;
 use params::Answer;
 use params::Params;
-use params::Why;
+use params::Refusal;
 use sketch::packets::put_in;
 
 // What stands where a record of a kind is due: it, not yet all of it, or something else.
@@ -62,7 +62,7 @@ fn stage_after(told: Answer) -> Stage
 {
     match told {
         Answer::Done => Stage::Packets,
-        Answer::Refused(why, _) => Stage::Refused(why),
+        Answer::Refused(refusal, _) => Stage::Refused(refusal),
     }
 }
 
@@ -132,10 +132,10 @@ fn take_end(s: State, bytes: &[u8]) -> State
 {
     let found = end_at(bytes, 0);
     let End::Of(number) = found else {
-        return stop(Why::Form, s);
+        return stop(Refusal::Form, s);
     };
     if number as usize != s.records {
-        return stop(Why::Form, s);
+        return stop(Refusal::Form, s);
     }
     State {
         stage: if s.second { Stage::Over } else { Stage::Head },
@@ -157,7 +157,7 @@ pub(crate) fn end(s: State, bytes: &[u8]) -> State
     let d = due_end(bytes);
     match d {
         Due::NotYet => s,
-        Due::Other => stop(Why::Form, s),
+        Due::Other => stop(Refusal::Form, s),
         Due::Here => take_end(s, bytes),
     }
 }
@@ -175,7 +175,7 @@ fn take_head(p: Params, s: State, bytes: &[u8]) -> State
             at: s.at + 38,
             records: 0,
         },
-        Answer::Refused(why, _) => stop(why, s),
+        Answer::Refused(refusal, _) => stop(refusal, s),
     }
 }
 
@@ -191,7 +191,7 @@ pub(crate) fn second_head(p: Params, s: State, bytes: &[u8]) -> State
     let d = due_of(1, bytes);
     match d {
         Due::NotYet => s,
-        Due::Other => stop(Why::Form, s),
+        Due::Other => stop(Refusal::Form, s),
         Due::Here => take_head(p, s, bytes),
     }
 }
@@ -205,7 +205,7 @@ pub(crate) fn over(s: State, bytes: &[u8]) -> State
         return s;
     };
     if 0 < bytes.len() {
-        return stop(Why::Form, s);
+        return stop(Refusal::Form, s);
     }
     s
 }

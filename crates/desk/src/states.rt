@@ -5,14 +5,14 @@ ghost use Prim.Native.Nat.{_+_};
 ghost use lib.Dec.{ltb};
 ghost use Rattle.desk.specs.Desk.{started, stopped, finishAnswer};
 use params::Answer;
-use params::Why;
+use params::Refusal;
 
 // What is due next: packets or the end of a stream, the second head, or nothing more; or why the input is refused.
 pub enum Stage {
     Packets,
     Head,
     Over,
-    Refused(Why),
+    Refused(Refusal),
 }
 
 // What is due, whether that is in the second stream, the offset of the next byte in the whole input, and how many records stood
@@ -43,11 +43,11 @@ pub fn start() -> State
 }
 
 // The input is refused for what stands next.
-pub(crate) fn stop(why: Why, s: State) -> State
-    ensures { λ r. ⌜ r ≡ stopped why s ⌝ }
+pub(crate) fn stop(refusal: Refusal, s: State) -> State
+    ensures { λ r. ⌜ r ≡ stopped refusal s ⌝ }
 {
     State {
-        stage: Stage::Refused(why),
+        stage: Stage::Refused(refusal),
         second: s.second,
         at: s.at,
         records: s.records,
@@ -71,8 +71,8 @@ pub fn finish(s: State) -> Answer
     let stage = s.stage;
     match stage {
         Stage::Over => Answer::Done,
-        Stage::Refused(why) => Answer::Refused(why, s.at),
-        Stage::Packets => Answer::Refused(Why::Form, s.at),
-        Stage::Head => Answer::Refused(Why::Form, s.at),
+        Stage::Refused(refusal) => Answer::Refused(refusal, s.at),
+        Stage::Packets => Answer::Refused(Refusal::Form, s.at),
+        Stage::Head => Answer::Refused(Refusal::Form, s.at),
     }
 }

@@ -38,7 +38,7 @@ pub(crate) fn e7(counts: &mut [i32], idsums: &mut [u32]) {
     packets::insert(k(), counts, idsums, 2147483646, 2147483646);
 }
 
-fn places(f: u32, name: &[u8]) {
+fn positions(f: u32, name: &[u8]) {
     show::text(b"flow ");
     show::text(name);
     show::text(b"\n");
@@ -49,12 +49,12 @@ fn places(f: u32, name: &[u8]) {
 }
 
 fn show_places() {
-    show::text(b"places\n");
-    places(2, b"2");
-    places(7, b"7");
-    places(11, b"11");
-    places(12, b"12");
-    places(20, b"20");
+    show::text(b"positions\n");
+    positions(2, b"2");
+    positions(7, b"7");
+    positions(11, b"11");
+    positions(12, b"12");
+    positions(20, b"20");
 }
 
 // An insertion's answer, and the sketch after it.

@@ -18,7 +18,7 @@ fn written(what: &[u8], told: Written) {
             show::number(n as u64);
             show::text(b" bytes\n");
         }
-        Written::Refused(why, index) => show::refused(why, index),
+        Written::Refused(refusal, index) => show::refused(refusal, index),
     }
 }
 

@@ -14,7 +14,7 @@ fn fresh(what: &[u8], p: Params) {
     show::answer(what, packets::fresh(p, &mut counts, &mut idsums));
 }
 
-fn sizes() {
+fn judge_dimensions() {
     show::text(b"sizes\n");
     fresh(b"d 0", calls::shaped(0, 5));
     fresh(b"d 1", calls::shaped(1, 5));
@@ -121,8 +121,8 @@ fn several() {
     insert_full(b"and idsum 2147483647 at 2 too", 2147483647, 2147483647);
 }
 
-fn places() {
-    show::text(b"places refused\n");
+fn positions() {
+    show::text(b"positions refused\n");
     show::spot(b"position in array 0", k().position(0, 7));
     show::spot(b"position in array 3", k().position(3, 7));
     show::spot(b"index in array 0", k().index(0, 7));
@@ -137,5 +137,5 @@ pub(crate) fn run() {
     lengths();
     limits();
     several();
-    places();
+    positions();
 }

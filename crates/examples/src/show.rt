@@ -1,7 +1,7 @@
 // How the outcomes are written: a line for each answer and for each bucket that is not all zero.
 use params::Answer;
-use params::Spot;
-use params::Why;
+use params::Located;
+use params::Refusal;
 
 pub(crate) fn text(words: &[u8]) {
     io::write_all(1, words);
@@ -20,9 +20,9 @@ pub(crate) fn signed(c: i64) {
     }
 }
 
-pub(crate) fn refused(why: Why, index: usize) {
+pub(crate) fn refused(refusal: Refusal, index: usize) {
     text(b"refused ");
-    number(why.number() as u64);
+    number(refusal.number() as u64);
     text(b" at ");
     number(index as u64);
     text(b"\n");
@@ -33,19 +33,19 @@ pub(crate) fn answer(what: &[u8], told: Answer) {
     text(b": ");
     match told {
         Answer::Done => text(b"done\n"),
-        Answer::Refused(why, index) => refused(why, index),
+        Answer::Refused(refusal, index) => refused(refusal, index),
     }
 }
 
-pub(crate) fn spot(what: &[u8], told: Spot) {
+pub(crate) fn stand(what: &[u8], told: Located) {
     text(what);
     text(b": ");
     match told {
-        Spot::At(place) => {
+        Located::At(place) => {
             number(place as u64);
             text(b"\n");
         }
-        Spot::Refused(why, index) => refused(why, index),
+        Located::Refused(refusal, index) => refused(refusal, index),
     }
 }
 

@@ -6,16 +6,16 @@ use params::Params;
 use sketch::packets;
 
 // The answer, and the first sketch after it.
-fn subtract(what: &[u8], counts: &mut [i32], idsums: &mut [u32], others: &[i32], weights: &[u32]) {
+fn subtract(what: &[u8], counts: &mut [i32], idsums: &mut [u32], other_counts: &[i32], other_idsums: &[u32]) {
     show::answer(
         what,
-        sums::subtract(k(), k(), counts, idsums, others, weights),
+        sums::subtract(k(), k(), counts, idsums, other_counts, other_idsums),
     );
     show::buckets(counts, idsums);
 }
 
-fn add(what: &[u8], counts: &mut [i32], idsums: &mut [u32], others: &[i32], weights: &[u32]) {
-    show::answer(what, sums::add(k(), k(), counts, idsums, others, weights));
+fn add(what: &[u8], counts: &mut [i32], idsums: &mut [u32], other_counts: &[i32], other_idsums: &[u32]) {
+    show::answer(what, sums::add(k(), k(), counts, idsums, other_counts, other_idsums));
     show::buckets(counts, idsums);
 }
 
@@ -23,23 +23,23 @@ fn add(what: &[u8], counts: &mut [i32], idsums: &mut [u32], others: &[i32], weig
 fn there_and_back() {
     let mut counts: [i32; 10] = [0; 10];
     let mut idsums: [u32; 10] = [0; 10];
-    let mut others: [i32; 10] = [0; 10];
-    let mut weights: [u32; 10] = [0; 10];
+    let mut other_counts: [i32; 10] = [0; 10];
+    let mut other_idsums: [u32; 10] = [0; 10];
     calls::e1(&mut counts, &mut idsums);
-    calls::seven(&mut others, &mut weights);
+    calls::seven(&mut other_counts, &mut other_idsums);
     subtract(
         b"E1 less 7 by 1",
         &mut counts,
         &mut idsums,
-        &others,
-        &weights,
+        &other_counts,
+        &other_idsums,
     );
     add(
         b"and 7 by 1 added",
         &mut counts,
         &mut idsums,
-        &others,
-        &weights,
+        &other_counts,
+        &other_idsums,
     );
 }
 
@@ -47,23 +47,23 @@ fn there_and_back() {
 fn at_the_limits() {
     let mut counts: [i32; 10] = [0; 10];
     let mut idsums: [u32; 10] = [0; 10];
-    let mut others: [i32; 10] = [0; 10];
-    let mut weights: [u32; 10] = [0; 10];
+    let mut other_counts: [i32; 10] = [0; 10];
+    let mut other_idsums: [u32; 10] = [0; 10];
     calls::e7(&mut counts, &mut idsums);
-    packets::insert(k(), &mut others, &mut weights, 1, 1);
+    packets::insert(k(), &mut other_counts, &mut other_idsums, 1, 1);
     add(
         b"E7 and 1 by 1",
         &mut counts,
         &mut idsums,
-        &others,
-        &weights,
+        &other_counts,
+        &other_idsums,
     );
     subtract(
         b"E7 less 1 by 1",
         &mut counts,
         &mut idsums,
-        &others,
-        &weights,
+        &other_counts,
+        &other_idsums,
     );
 }
 
@@ -71,16 +71,16 @@ fn at_the_limits() {
 fn damage() {
     let mut counts: [i32; 10] = [0; 10];
     let mut idsums: [u32; 10] = [0; 10];
-    let mut others: [i32; 10] = [0; 10];
-    let weights: [u32; 10] = [0; 10];
+    let mut other_counts: [i32; 10] = [0; 10];
+    let other_idsums: [u32; 10] = [0; 10];
     idsums[6] = 2147483647;
-    others[3] = -2147483647;
+    other_counts[3] = -2147483647;
     add(
         b"damage at 6 in the first, at 3 in the second",
         &mut counts,
         &mut idsums,
-        &others,
-        &weights,
+        &other_counts,
+        &other_idsums,
     );
 }
 
@@ -88,9 +88,9 @@ fn damage() {
 fn order(p: Params, q: Params, what: &[u8]) {
     let mut counts: [i32; 10] = [0; 10];
     let mut idsums: [u32; 10] = [0; 10];
-    let others: [i32; 9] = [0; 9];
-    let weights: [u32; 10] = [0; 10];
-    let r = sums::subtract(p, q, &mut counts, &mut idsums, &others, &weights);
+    let other_counts: [i32; 9] = [0; 9];
+    let other_idsums: [u32; 10] = [0; 10];
+    let r = sums::subtract(p, q, &mut counts, &mut idsums, &other_counts, &other_idsums);
     show::answer(what, r);
 }
 

@@ -49,7 +49,7 @@ fn end(figures: Figures) {
 
 fn told(peeled: Peeled, counts: &[i32], idsums: &[u32], flows: &[u32], numbers: &[i32]) {
     match peeled {
-        Peeled::Refused(why, index) => show::refused(why, index),
+        Peeled::Refused(refusal, index) => show::refused(refusal, index),
         Peeled::Ended(figures) => {
             losses(flows, numbers, figures.entries);
             show::left(counts, idsums);

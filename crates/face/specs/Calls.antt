@@ -6,7 +6,7 @@ use Prim.Native.Nat.{ℕ}
 use lib.IntN.{ℤ}
 use lib.ListN.{length}
 use Rattle.params.specs.declared.params.Params.{Params}
-use Rattle.params.specs.Params.{shapeAnswer}
+use Rattle.params.specs.Params.{lentAnswer}
 use Rattle.sketch.specs.Sketch.{Sketch, Freshened}
 use Rattle.sketch.specs.Packets.{moveAnswer, allAnswer, Inserted, AllInserted}
 use Rattle.sums.specs.Sums.{combineAnswer, Combined}
@@ -19,7 +19,7 @@ use Rattle.sketchfile.specs.Writing as sketches
 use Rattle.face.specs.Told.{Told, ToldLength, ToldFigures}
 
 abbrev pub FreshenedFor : Params → Sketch → ℕ → ℕ → Sketch → Type 0
-FreshenedFor P S r k S' = Told (shapeAnswer P (length (S .counts)) (length (S .idsums))) (λ x. Freshened P S x S') r k
+FreshenedFor P S r k S' = Told (lentAnswer P (length (S .counts)) (length (S .idsums))) (λ x. Freshened P S x S') r k
 
 abbrev pub InsertedFor : Params → ℕ → ℕ → Sketch → ℕ → ℕ → Sketch → Type 0
 InsertedFor P f n S r k S' = Told (moveAnswer P false f n S) (λ x. Inserted P f n S x S') r k

@@ -42,9 +42,9 @@ pub(crate) fn tell(answer: Answer, place: &mut usize) -> u32
             *place = 0;
             0
         }
-        Answer::Refused(why, index) => {
+        Answer::Refused(refusal, index) => {
             *place = index;
-            why.number()
+            refusal.number()
         }
     }
 }
@@ -59,10 +59,10 @@ pub(crate) fn tell_written(written: Written, length: &mut usize, place: &mut usi
             *place = 0;
             0
         }
-        Written::Refused(why, index) => {
+        Written::Refused(refusal, index) => {
             *length = 0;
             *place = index;
-            why.number()
+            refusal.number()
         }
     }
 }
@@ -98,10 +98,10 @@ pub(crate) fn tell_peeled(peeled: Peeled, figures: &mut [i64; 4], place: &mut us
             *place = 0;
             0
         }
-        Peeled::Refused(why, index) => {
+        Peeled::Refused(refusal, index) => {
             *figures = [0; 4];
             *place = index;
-            why.number()
+            refusal.number()
         }
     }
 }

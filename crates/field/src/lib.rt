@@ -2,8 +2,8 @@
 // number is its residue, so arguments need not be below p, and modulo 0 the only residue is 0. What holds of inverses and
 // flows holds where p is prime.
 ghost use mathlib.Core.Path.{_≡_};
-ghost use Prim.Native.Nat.{_+_, _*_};
-ghost use lib.IntN.{pos, negℤ, _-ℤ_};
+ghost use Prim.Native.Nat.{_*_};
+ghost use lib.IntN.{pos, negℤ};
 ghost use Rattle.field.specs.Residue.{residue};
 ghost use Rattle.field.specs.Flow.{inverse as «inverse-of», flow as «flow-of»};
 
@@ -20,23 +20,8 @@ fn rest(p: u32, n: u64) -> u32
     (n % p as u64) as u32
 }
 
-// Two numbers below p need no division: their sum is below p or it has p in it once.
-pub fn add(p: u32, a: u32, b: u32) -> u32
-    ensures { λ r. ⌜ r ≡ residue p (pos (a + b)) ⌝ }
-{
-    let sum = a as u64 + b as u64;
-    if sum < p as u64 {
-        return sum as u32;
-    }
-    let over = sum - p as u64;
-    if over < p as u64 {
-        return over as u32;
-    }
-    rest(p, sum)
-}
-
 // The residue of - n.
-pub fn opposite(p: u32, n: u32) -> u32
+fn opposite(p: u32, n: u32) -> u32
     ensures { λ r. ⌜ r ≡ residue p (negℤ (pos n)) ⌝ }
 {
     if n == 0 {
@@ -50,19 +35,6 @@ pub fn opposite(p: u32, n: u32) -> u32
         return 0;
     }
     p - r
-}
-
-pub fn subtract(p: u32, a: u32, b: u32) -> u32
-    ensures { λ r. ⌜ r ≡ residue p (pos a -ℤ pos b) ⌝ }
-{
-    if a < b {
-        return opposite(p, b - a);
-    }
-    let difference = a - b;
-    if difference < p {
-        return difference;
-    }
-    rest(p, difference as u64)
 }
 
 pub fn multiply(p: u32, a: u32, b: u32) -> u32
@@ -84,7 +56,7 @@ pub fn raise(p: u32, c: i32) -> u32
 
 // 1 / a, for a prime p; 0 where p divides a. With p = q * a + r, the numbers a * (p - q) and r leave one rest: so 1 / a is
 // (p - q) / r, and r is below a.
-pub fn inverse(p: u32, a: u32) -> u32
+fn inverse(p: u32, a: u32) -> u32
     ensures { λ r. ⌜ r ≡ «inverse-of» p a ⌝ }
 {
     let mut left = rest(p, a as u64);

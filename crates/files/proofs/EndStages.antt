@@ -5,7 +5,7 @@ use mathlib.Core.List.{List}
 use Prim.Native.Nat.{ℕ, _+_, _≤_, _<_}
 use borrow.Author.Tests.{eq-eqb, ne-eqb, le-leb, lt-leb, lt-ltb, le-ltb}
 use lib.ListN.{length}
-use Rattle.params.specs.declared.answers.Why.the-variants.{Form}
+use Rattle.params.specs.declared.answers.Refusal.the-variants.{Form}
 use Rattle.params.specs.declared.answers.Answer.the-variants.{Done, Refused}
 use Rattle.files.specs.Bytes.{word}
 use Rattle.files.specs.Records.{recordAt, isKind}

@@ -6,7 +6,7 @@ use Rattle.params.specs.declared.params.Params.{Params}
 use Rattle.params.specs.declared.answers.Answer.the-variants.{Done}
 use Rattle.params.specs.Lists.{below}
 use Rattle.params.specs.Answers.{kept}
-use Rattle.params.specs.Params.{pairAt, twins, goodSizes, goodParams}
+use Rattle.params.specs.Params.{pairAt, twins, goodDimensions, goodParams}
 use Rattle.files.specs.declared.records.Record.the-variants.{Whole, Unknown, Cut, Missing}
 use Rattle.files.specs.Bytes.{word}
 use Rattle.files.specs.Records.{bodyLength, recordAt, bodyOf}
@@ -39,7 +39,7 @@ unfolding recordAt bodyLength
 e11-records = refl
 
 pub e11-head : headOf e11 ≡ record { answer = Done; params = K }
-unfolding recordAt bodyLength word paramsIn headAnswer kept below pairAt twins goodSizes goodParams
+unfolding recordAt bodyLength word paramsIn headAnswer kept below pairAt twins goodDimensions goodParams
 e11-head = refl
 
 -- the body at offset 47: flow 12 by 2

@@ -5,13 +5,13 @@ use mathlib.Core.List.{List}
 use Prim.Native.Nat.{ℕ, _≤_}
 use native.Mathlib.Omega.{arith}
 use lib.ListN.{length}
-use Rattle.params.specs.declared.answers.Why.the-variants.{Param, Mismatch, Form}
+use Rattle.params.specs.declared.answers.Refusal.the-variants.{Param, Mismatch, Form}
 use Rattle.params.specs.declared.params.Params.{Params}
 use Rattle.params.specs.declared.answers.Answer.{Answer}
 use Rattle.params.specs.declared.answers.Answer.the-variants.{Done, Refused}
 use Rattle.params.specs.Answers.{refuseIf, first, kept}
 use Rattle.params.specs.Params.{goodParams, sameParams, lengthsAnswer}
-use Rattle.params.proofs.Judging.{Refusal, first-refused, first-passed}
+use Rattle.params.proofs.Judging.{Refuses, first-refused, first-passed}
 use Rattle.files.specs.declared.heads.Headed.{Headed}
 use Rattle.files.specs.declared.records.Record.the-variants.{Whole}
 use Rattle.files.specs.Records.{bodyLength, recordAt}
@@ -55,7 +55,7 @@ module _ (P : Params) (bs : List ℕ) (c s : ℕ) where
       go true false = refl
       go false g = refl
 
-  pub opening-headless : (r : Answer) → r ≡ headAnswer bs → Refusal r → r ≡ openingAnswer P bs c s
+  pub opening-headless : (r : Answer) → r ≡ headAnswer bs → Refuses r → r ≡ openingAnswer P bs c s
   opening-headless r e h = first-refused r (headAnswer bs) givenAnswer e h ∙ sym head-then-given
 
   module _ (headed : headAnswer bs ≡ Done) where

@@ -8,14 +8,14 @@ use borrow.Author.Tests.{ltb-true, eqb-true, eq-eqb, not-false}
 use lib.Dec.{eqb, ltb, leb}
 use lib.ListN.{getD, length, take, drop, length-append}
 use Rattle.params.specs.declared.params.Params.{Params}
-use Rattle.params.specs.declared.answers.Why.the-variants.{Param, Mismatch, Form}
+use Rattle.params.specs.declared.answers.Refusal.the-variants.{Param, Mismatch, Form}
 use Rattle.params.specs.declared.answers.Answer.the-variants.{Done}
 use Rattle.params.specs.Lists.{below}
-use Rattle.params.specs.Params.{prime, pairOk, pairAt, twins, goodSizes, goodParams, samePair, sameParams, lengthsAnswer}
+use Rattle.params.specs.Params.{prime, pairOk, pairAt, twins, goodDimensions, goodParams, samePair, sameParams, lengthsAnswer}
 use Rattle.params.proofs.Searches.{and-true, below-at}
 use Rattle.params.proofs.Judging.{refuse-done}
-use Rattle.params.proofs.Rules.{good-sized}
-use Rattle.params.proofs.SameParams.{sizes-same, pair-same}
+use Rattle.params.proofs.Rules.{good-dimensions}
+use Rattle.params.proofs.SameParams.{dimensions-same, pair-same}
 use Rattle.files.specs.Bytes.{word, wordBytes}
 use Rattle.files.specs.Records.{bodyLength, recordAt}
 use Rattle.files.specs.Heads.{paramsIn, isHead, openingAnswer}
@@ -37,7 +37,7 @@ pair-small false a b e =
 good-pair : (P : Params) (i : ℕ) → goodParams P ≡ true → i < 4 → (getD (P .a) i 0 < 4294967296) × (getD (P .b) i 0 < 4294967296)
 unfolding goodParams pairAt
 good-pair P i g l =
-    let h = and-true (goodSizes P) _ (and-true (goodSizes P && below 4 (pairAt (P .d) (P .a) (P .b))) _ g .0) .1 in
+    let h = and-true (goodDimensions P) _ (and-true (goodDimensions P && below 4 (pairAt (P .d) (P .a) (P .b))) _ g .0) .1 in
     pair-small (ltb i (P .d)) (getD (P .a) i 0) (getD (P .b) i 0) (below-at 4 i (pairAt (P .d) (P .a) (P .b)) h l)
 
 -- all that a head can say of parameters: their first four pairs
@@ -51,7 +51,7 @@ fourPairs P =
     }
 
 four-good : (P : Params) → goodParams (fourPairs P) ≡ goodParams P
-unfolding goodParams goodSizes below pairAt twins
+unfolding goodParams goodDimensions below pairAt twins
 four-good P = refl
 
 four-same : (P : Params) → sameParams P (fourPairs P) ≡ true
@@ -83,7 +83,7 @@ module _ (P : Params) (ys : List ℕ) where
   params-written : goodParams P ≡ true → paramsIn (headBytes P ++ ys) ≡ fourPairs P
   unfolding paramsIn headBytes word wordBytes
   params-written g =
-      let sizes = good-sized P g in
+      let sizes = good-dimensions P g in
       let p = good-pair P 0 g (omega arith) in
       let q = good-pair P 1 g (omega arith) in
       let r = good-pair P 2 g (omega arith) in
@@ -139,7 +139,7 @@ module _ (bs : List ℕ) (small : (k : ℕ) → getD bs k 0 < 256) where
   unfolding paramsIn headBytes bodyLength
   head-read P h e =
       let long : 38 ≤ length bs = kind-ends 1 bs 0 h in
-      let sizes = sizes-same P (paramsIn bs) e in
+      let sizes = dimensions-same P (paramsIn bs) e in
       let p = pair-same P (paramsIn bs) e 0 (omega arith) in
       let q = pair-same P (paramsIn bs) e 1 (omega arith) in
       let r = pair-same P (paramsIn bs) e 2 (omega arith) in

@@ -8,8 +8,8 @@ use borrow.Author.Tests.{ltb-true, eqb-true, eqb-false}
 use lib.Dec.{eqb, ltb, leb}
 use lib.ListN.{getD, length}
 use Rattle.params.specs.declared.params.Params.{Params}
-use Rattle.params.specs.declared.answers.Why.{Why}
-use Rattle.params.specs.declared.answers.Why.the-variants.{Param, Length, Flow, Count, Damage, Range, Mismatch, Form}
+use Rattle.params.specs.declared.answers.Refusal.{Refusal}
+use Rattle.params.specs.declared.answers.Refusal.the-variants.{Param, Length, Flow, Count, Damage, Range, Mismatch, Form}
 use Rattle.params.specs.declared.answers.Answer.{Answer}
 use Rattle.params.specs.declared.answers.Answer.the-variants.{Done, Refused}
 use Rattle.params.specs.Answers.{numberIn, indexIn, refuseIf, kept}
@@ -27,10 +27,10 @@ use Rattle.files.specs.Turns.{endAnswer}
 use Rattle.files.specs.Writing.{writtenOf, writtenNumber, writtenIndex, writtenLength}
 
 -- what is judged before the records, in this order: the head, the parameters in it and those that are given, whether they differ, and the lent lengths
-abbrev pub openingOrder : List Why
+abbrev pub openingOrder : List Refusal
 openingOrder = Form ∷ Param ∷ Mismatch ∷ Length ∷ []
 
-abbrev pub openingFault : Params → List ℕ → ℕ → ℕ → Why → Bool
+abbrev pub openingFault : Params → List ℕ → ℕ → ℕ → Refusal → Bool
 openingFault P bs c s Form = not (isHead (recordAt bs 0))
 openingFault P bs c s Param = not (goodParams (paramsIn bs) && goodParams P)
 openingFault P bs c s Mismatch = not (sameParams P (paramsIn bs))
@@ -41,7 +41,7 @@ openingFault P bs c s Damage = false
 openingFault P bs c s Range = false
 
 -- a refusal that tells 0
-pub refuse-start : (b : Bool) (w : Why) (next : Answer) → indexIn next ≡ 0 → indexIn (refuseIf b w 0 next) ≡ 0
+pub refuse-start : (b : Bool) (w : Refusal) (next : Answer) → indexIn next ≡ 0 → indexIn (refuseIf b w 0 next) ≡ 0
 refuse-start true w next e = refl
 refuse-start false w next e = e
 
@@ -101,7 +101,7 @@ pub data EndFault (bs : List ℕ) (at n k : ℕ) : Type 0 where
   wrong-count : isKind 4 (recordAt bs at) ≡ true → (word bs (at + 1) ≡ n → ⊥) → k ≡ at → EndFault bs at n k
   byte-after : isKind 4 (recordAt bs at) ≡ true → word bs (at + 1) ≡ n → at + 5 < length bs → k ≡ at + 5 → EndFault bs at n k
 
-pub end-fault : (bs : List ℕ) (at n : ℕ) (w : Why) (k : ℕ) → endAnswer bs at n ≡ Refused w k → (w ≡ Form) × EndFault bs at n k
+pub end-fault : (bs : List ℕ) (at n : ℕ) (w : Refusal) (k : ℕ) → endAnswer bs at n ≡ Refused w k → (w ≡ Form) × EndFault bs at n k
 unfolding endAnswer
 end-fault bs at n w k = go (isKind 4 (recordAt bs at)) (eqb (word bs (at + 1)) n) (ltb (at + 5) (length bs)) refl refl refl
   where
@@ -132,7 +132,7 @@ module _ (a : Answer) (n : ℕ) {r : Written} (e : r ≡ writtenOf a n) where
   written-length z = ap writtenLength (e ∙ ap (λ (x : Answer). writtenOf x n) (number-done a (sym written-number ∙ z)))
 
   -- where it tells a refusal, the output is as it was
-  pub refused-as-it-was : {w : Why} {k : ℕ} (old new : List ℕ) → r ≡ NotWritten w k → kept a old new ≡ old
+  pub refused-as-it-was : {w : Refusal} {k : ℕ} (old new : List ℕ) → r ≡ NotWritten w k → kept a old new ≡ old
   unfolding kept
   refused-as-it-was {w} {k} old new refused = told a e
     where

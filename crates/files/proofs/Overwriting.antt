@@ -11,7 +11,7 @@ use lib.ListN.{length, take, drop, set, length-append, length-drop, take-append-
 use lib.Seq.{sets, sets-eq, length-take-le, take-at, take-append-seam, drop-append-add, drop-drop}
 use Rattle.params.specs.declared.params.Params.{Params}
 use Rattle.params.specs.Params.{goodParams}
-use Rattle.params.specs.declared.answers.Why.{Why}
+use Rattle.params.specs.declared.answers.Refusal.{Refusal}
 use Rattle.params.specs.declared.answers.Answer.{Answer}
 use Rattle.params.specs.declared.answers.Answer.the-variants.{Done, Refused}
 use Rattle.params.specs.Answers.{kept}
@@ -116,13 +116,13 @@ module _ {r answer : Answer} (e : r ≡ answer) where
   pub told-bytes : (n m : ℕ) → r ≡ Done → n ≡ m → Bytes n ≡ writtenOf answer m
   told-bytes n m h l = rw (← e, h, l)
 
-  pub told-why : (w : Why) (k m : ℕ) → r ≡ Refused w k → NotWritten w k ≡ writtenOf answer m
+  pub told-why : (w : Refusal) (k m : ℕ) → r ≡ Refused w k → NotWritten w k ≡ writtenOf answer m
   told-why w k m h = rw (← e, h)
 
   pub held-new : (old new : List ℕ) → r ≡ Done → new ≡ kept answer old new
   held-new old new h = kept-new answer old new (sym e ∙ h)
 
-  pub held-old : (w : Why) (k : ℕ) (old new : List ℕ) → r ≡ Refused w k → old ≡ kept answer old new
+  pub held-old : (w : Refusal) (k : ℕ) (old new : List ℕ) → r ≡ Refused w k → old ≡ kept answer old new
   unfolding kept
   held-old w k old new h = rw (← e, h)
 

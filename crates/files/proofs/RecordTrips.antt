@@ -8,7 +8,7 @@ use borrow.Author.Tests.{lt-leb, le-ltb, ltb-false, eq-eqb, ne-eqb, eqb-true, no
 use lib.Dec.{eqb, ltb}
 use lib.ListN.{getD, length, take, drop, length-append, length-drop}
 use lib.Seq.{take-all, getD-at}
-use Rattle.params.specs.declared.answers.Why.the-variants.{Form}
+use Rattle.params.specs.declared.answers.Refusal.the-variants.{Form}
 use Rattle.params.specs.declared.answers.Answer.the-variants.{Done}
 use Rattle.params.proofs.Judging.{refuse-done}
 use Rattle.files.specs.Bytes.{word, wordBytes}

@@ -11,12 +11,12 @@ use borrow.Author.Count.{below-more}
 use borrow.Author.Tests.{ltb-true, ltb-false, not-false}
 use lib.Dec.{ltb}
 use lib.ListN.{length}
-use Rattle.params.specs.declared.answers.Why.{Why}
+use Rattle.params.specs.declared.answers.Refusal.{Refusal}
 use Rattle.params.specs.declared.answers.Answer.{Answer}
 use Rattle.params.specs.declared.answers.Answer.the-variants.{Done, Refused}
 use Rattle.params.specs.Lists.{least}
 use Rattle.params.proofs.Searches.{least-skip, scan-start, scan-next, scan-found, scan-end, none-found, nothing-found}
-use Rattle.params.proofs.Judging.{Refusal, first-refused, first-passed, first-done, first-either}
+use Rattle.params.proofs.Judging.{Refuses, first-refused, first-passed, first-done, first-either}
 use Rattle.params.proofs.Lowest.{least-lowest}
 use Rattle.files.specs.Records.{recordAt, isKind}
 use Rattle.files.specs.Turns.{inTurn, recordsOf}
@@ -31,12 +31,12 @@ in-turn-past (suc i) k n judge h =
     ∙ in-turn-past i (suc k) n judge (λ j l m. h j (omega arith) (omega arith))
     ∙ ap (λ (j : ℕ). inTurn j n judge) (suc-add k i ∙ sym (add-suc k i))
 
-in-turn-here : (k n : ℕ) (judge : ℕ → Answer) (r : Answer) → r ≡ judge k → Refusal r → r ≡ inTurn k (suc n) judge
+in-turn-here : (k n : ℕ) (judge : ℕ → Answer) (r : Answer) → r ≡ judge k → Refuses r → r ≡ inTurn k (suc n) judge
 unfolding inTurn
 in-turn-here k n judge r e h = first-refused r (judge k) (inTurn (suc k) n judge) e h
 
 -- the first that refuses decides
-pub in-turn-refused : (n i : ℕ) (judge : ℕ → Answer) (r : Answer) → i < n → ((j : ℕ) → j < i → judge j ≡ Done) → r ≡ judge i → Refusal r → r ≡ inTurn 0 n judge
+pub in-turn-refused : (n i : ℕ) (judge : ℕ → Answer) (r : Answer) → i < n → ((j : ℕ) → j < i → judge j ≡ Done) → r ≡ judge i → Refuses r → r ≡ inTurn 0 n judge
 in-turn-refused n i judge r l passed e h =
     in-turn-here i (n - suc i) judge r e h
     ∙ ap (λ (j : ℕ). inTurn j (suc (n - suc i)) judge) (sym (zero-add i))
@@ -70,7 +70,7 @@ pub record Earliest (n : ℕ) (judge : ℕ → Answer) (r : Answer) : Type 0 whe
 earliest-same : {n m : ℕ} {judge : ℕ → Answer} {r : Answer} → n ≡ m → Earliest n judge r → Earliest m judge r
 earliest-same e r = rw (← e) r
 
-earliest-from : (i n : ℕ) (judge : ℕ → Answer) (w : Why) (k : ℕ) → ((j : ℕ) → j < i → judge j ≡ Done) → inTurn i n judge ≡ Refused w k → Earliest (i + n) judge (Refused w k)
+earliest-from : (i n : ℕ) (judge : ℕ → Answer) (w : Refusal) (k : ℕ) → ((j : ℕ) → j < i → judge j ≡ Done) → inTurn i n judge ≡ Refused w k → Earliest (i + n) judge (Refused w k)
 unfolding inTurn
 earliest-from i zero judge w k passed e = absurd (let z : _≡_ {A = ℕ} 0 1 = cc in omega arith)
 earliest-from i (suc n) judge w k passed e =
@@ -79,7 +79,7 @@ earliest-from i (suc n) judge w k passed e =
     (λ h. earliest-same (omega arith) (earliest-from (suc i) n judge w k (λ j l. below-more (λ j. judge j ≡ Done) i passed (h .0) j (omega arith)) (h .1)))
     (first-either (judge i) (inTurn (suc i) n judge) w k e)
 
-pub in-turn-earliest : (n : ℕ) (judge : ℕ → Answer) (w : Why) (k : ℕ) → inTurn 0 n judge ≡ Refused w k → Earliest n judge (Refused w k)
+pub in-turn-earliest : (n : ℕ) (judge : ℕ → Answer) (w : Refusal) (k : ℕ) → inTurn 0 n judge ≡ Refused w k → Earliest n judge (Refused w k)
 in-turn-earliest n judge w k e = earliest-same (zero-add n) (earliest-from 0 n judge w k (λ j l. absurd (omega arith)) e)
 
 -- a search finds nothing before what it finds

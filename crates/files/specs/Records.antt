@@ -5,7 +5,7 @@ use mathlib.Core.List.{List, []}
 use Prim.Native.Nat.{ℕ, _+_, _-_}
 use lib.Dec.{eqb, leb}
 use lib.ListN.{getD, length, take, drop}
-use Rattle.params.specs.declared.answers.Why.the-variants.{Form}
+use Rattle.params.specs.declared.answers.Refusal.the-variants.{Form}
 use Rattle.params.specs.Answers.{numberOf}
 use Rattle.files.specs.declared.records.Record.{Record}
 use Rattle.files.specs.declared.records.Record.the-variants.{Whole, Cut, Unknown, Missing}

@@ -4,7 +4,7 @@ use mathlib.Core.List.{List}
 use Prim.Native.Nat.{ℕ, zero, suc, _+_, _*_}
 use lib.Dec.{eqb, ltb}
 use lib.ListN.{length}
-use Rattle.params.specs.declared.answers.Why.the-variants.{Form}
+use Rattle.params.specs.declared.answers.Refusal.the-variants.{Form}
 use Rattle.params.specs.declared.answers.Answer.{Answer}
 use Rattle.params.specs.declared.answers.Answer.the-variants.{Done, Refused}
 use Rattle.params.specs.Lists.{least}
@@ -13,9 +13,9 @@ use Rattle.files.specs.Bytes.{word}
 use Rattle.files.specs.Records.{recordAt, isKind, placeOf}
 
 -- a refusal with an offset in place of its index
-unfoldable pub toldAt : ℕ → Answer → Answer
-toldAt at Done = Done
-toldAt at (Refused w k) = Refused w at
+unfoldable pub atOffset : ℕ → Answer → Answer
+atOffset at Done = Done
+atOffset at (Refused w k) = Refused w at
 
 -- the answers for records k, k + 1, .., n of them: the first that refuses decides
 unfoldable pub inTurn : ℕ → ℕ → (ℕ → Answer) → Answer

@@ -4,23 +4,23 @@ ghost use Rattle.files.specs.Turns.{endAnswer};
 use crate::records::is_kind;
 use crate::records::word;
 use params::Answer;
-use params::Why;
+use params::Refusal;
 
 // A whole end that says how many records there were, and no byte after it.
 pub fn end(bytes: &[u8], at: usize, n: usize) -> Answer
     ensures { λ r. ⌜ r ≡ endAnswer (now (bytes .entry)) at n ⌝ }
 {
     if bytes.len() <= at {
-        return Answer::Refused(Why::Form, bytes.len());
+        return Answer::Refused(Refusal::Form, bytes.len());
     }
     if !is_kind(bytes, at, 4) {
-        return Answer::Refused(Why::Form, at);
+        return Answer::Refused(Refusal::Form, at);
     }
     if word(bytes, at + 1) as usize != n {
-        return Answer::Refused(Why::Form, at);
+        return Answer::Refused(Refusal::Form, at);
     }
     if at + 5 < bytes.len() {
-        return Answer::Refused(Why::Form, at + 5);
+        return Answer::Refused(Refusal::Form, at + 5);
     }
     Answer::Done
 }

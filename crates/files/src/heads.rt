@@ -8,7 +8,7 @@ use crate::records::record_at;
 use crate::records::word;
 use params::Answer;
 use params::Params;
-use params::Why;
+use params::Refusal;
 
 // What a head says, or why it says nothing: the parameters are all 0 then.
 pub struct Headed {
@@ -42,12 +42,12 @@ fn params(bytes: &[u8]) -> Params
     }
 }
 
-fn refused(why: Why) -> Headed
-    ensures { λ r. ⌜ r ≡ record { answer = Answer.Refused why 0; params = noParams } ⌝ }
+fn refused(refusal: Refusal) -> Headed
+    ensures { λ r. ⌜ r ≡ record { answer = Answer.Refused refusal 0; params = noParams } ⌝ }
 {
     let none = [0u32; 4];
     Headed {
-        answer: Answer::Refused(why, 0),
+        answer: Answer::Refused(refusal, 0),
         params: Params {
             d: 0,
             m: 0,
@@ -63,14 +63,14 @@ pub fn head(bytes: &[u8]) -> Headed
 {
     let found = record_at(bytes, 0);
     let Record::Whole(kind, _) = found else {
-        return refused(Why::Form);
+        return refused(Refusal::Form);
     };
     if kind != 1 {
-        return refused(Why::Form);
+        return refused(Refusal::Form);
     }
     let p = params(bytes);
     if !p.check() {
-        return refused(Why::Param);
+        return refused(Refusal::Param);
     }
     Headed {
         answer: Answer::Done,
@@ -88,11 +88,11 @@ pub fn opening(p: Params, bytes: &[u8], counts: usize, idsums: usize) -> Answer
         return judged;
     };
     if !p.check() {
-        return Answer::Refused(Why::Param, 0);
+        return Answer::Refused(Refusal::Param, 0);
     }
     let q = h.params;
     if !p.same(q) {
-        return Answer::Refused(Why::Mismatch, 0);
+        return Answer::Refused(Refusal::Mismatch, 0);
     }
-    p.shape(counts, idsums)
+    p.judge_lent(counts, idsums)
 }

@@ -10,12 +10,12 @@ ghost use Rattle.files.specs.Bytes.{wordBytes, countWord, over};
 ghost use Rattle.files.specs.Layout.{headBytes, packetBytes, bucketBytes, endBytes};
 ghost use Rattle.files.specs.Writing.{written};
 use params::Params;
-use params::Why;
+use params::Refusal;
 
 // How many bytes were written, or why none were.
 pub enum Written {
     Bytes(usize),
-    Refused(Why, usize),
+    Refused(Refusal, usize),
 }
 
 // A count as 32 bits, in two's complement.

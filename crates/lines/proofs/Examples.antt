@@ -2,7 +2,7 @@
 use mathlib.Core.Path.{_≡_, refl}
 use mathlib.Core.List.{[], _∷_}
 use lib.IntN.{pos, negsuc}
-use Rattle.params.specs.declared.answers.Why.the-variants.{Form}
+use Rattle.params.specs.declared.answers.Refusal.the-variants.{Form}
 use Rattle.walk.specs.declared.Ending.the-variants.{Clean, NoInverse}
 use Rattle.lines.specs.Decimal.{digits, decimal, signedDecimal}
 use Rattle.lines.specs.Lines.{lossLine, leftLine, endLine, refusedLine}

@@ -6,7 +6,7 @@ use Prim.Native.Nat.{ℕ}
 use lib.IntN.{ℤ}
 use lib.Dec.{leb}
 use lib.ListN.{length}
-use Rattle.params.specs.declared.answers.Why.{Why}
+use Rattle.params.specs.declared.answers.Refusal.{Refusal}
 use Rattle.params.specs.Answers.{numberOf}
 use Rattle.walk.specs.declared.Ending.{Ending}
 use Rattle.walk.specs.Endings.{endingWord}
@@ -54,7 +54,7 @@ unfoldable pub endLine : Ending → ℕ → ℤ → List ℕ
 endLine e p n = end ++ (endingWord e ++ (pops ++ (decimal p ++ (net ++ (signedDecimal n ++ newline)))))
 
 -- refused NUMBER at BYTE
-unfoldable pub refusedLine : Why → ℕ → List ℕ
+unfoldable pub refusedLine : Refusal → ℕ → List ℕ
 refusedLine w k = refused ++ (decimal (numberOf w) ++ (at ++ (decimal k ++ newline)))
 
 -- a text written at the start of the output, or nothing, and 0 told

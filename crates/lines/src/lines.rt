@@ -5,7 +5,7 @@ use crate::text::put;
 use crate::text::put_ending;
 use crate::text::put_named;
 use crate::text::put_named_signed;
-use params::Why;
+use params::Refusal;
 use walk::Ending;
 
 // loss FLOW COUNT
@@ -48,13 +48,13 @@ pub fn end(out: &mut [u8], ending: Ending, pops: u32, net: i64) -> usize
 }
 
 // refused NUMBER at BYTE
-pub fn refused(out: &mut [u8], why: Why, byte: usize) -> usize
-    ensures { λ r. ⌜ Lined (lineFits (now (out .entry))) (refusedLine why byte) (now (out .entry)) r (now (out .exit)) ⌝ }
+pub fn refused(out: &mut [u8], refusal: Refusal, byte: usize) -> usize
+    ensures { λ r. ⌜ Lined (lineFits (now (out .entry))) (refusedLine refusal byte) (now (out .entry)) r (now (out .exit)) ⌝ }
 {
     if out.len() < 64 {
         return 0;
     }
-    let told = why.number() as u64;
+    let told = refusal.number() as u64;
     let mut at = put_named(out, 0, b"refused ", told);
     at = put_named(out, at, b" at ", byte as u64);
     put(out, at, b"\n")

@@ -10,32 +10,32 @@ use borrow.Author.Tests.{ltb-true, leb-true}
 use lib.Dec.{eqb, ltb, leb}
 use lib.ListN.{length, take, drop}
 use Rattle.params.specs.declared.params.Params.{Params}
-use Rattle.params.specs.declared.answers.Why.{Why}
-use Rattle.params.specs.declared.answers.Why.the-variants.{Param, Length, Flow, Count, Damage, Range, Mismatch, Form}
+use Rattle.params.specs.declared.answers.Refusal.{Refusal}
+use Rattle.params.specs.declared.answers.Refusal.the-variants.{Param, Length, Flow, Count, Damage, Range, Mismatch, Form}
 use Rattle.params.specs.declared.answers.Answer.{Answer}
 use Rattle.params.specs.declared.answers.Answer.the-variants.{Done, Refused}
-use Rattle.params.specs.declared.answers.Spot.{Spot}
+use Rattle.params.specs.declared.answers.Located.{Located}
 use Rattle.params.specs.Lists.{below, least}
-use Rattle.params.specs.Answers.{numberOf, numberIn, indexIn, refuseIf, refuseAt, first, spotOf, spotNumber, spotIndex, spotPlace}
-use Rattle.params.specs.Params.{isFlow, size, goodParams, lengthsAnswer, shapeAnswer}
-use Rattle.params.specs.Places.{standAnswer}
+use Rattle.params.specs.Answers.{numberOf, numberIn, indexIn, refuseIf, refuseAt, first, locatedOf, locatedNumber, locatedIndex, locatedAt}
+use Rattle.params.specs.Params.{isFlow, size, goodParams, lengthsAnswer, lentAnswer}
+use Rattle.params.specs.Positions.{positionAnswer}
 use Rattle.params.proofs.Searches.{and-true, all-below, below-fails, none-found}
 use Rattle.params.proofs.Lowest.{least-lowest}
 
 -- the order in which faults are judged: that of their numbers, save that Mismatch comes after Param
-abbrev pub order : List Why
+abbrev pub order : List Refusal
 order = Param ∷ Mismatch ∷ Length ∷ Flow ∷ Count ∷ Damage ∷ Range ∷ Form ∷ []
 
 -- the number of the first that applies, 0 where none does
-abbrev pub firstOf : List Why → (Why → Bool) → ℕ
+abbrev pub firstOf : List Refusal → (Refusal → Bool) → ℕ
 firstOf [] applies = 0
 firstOf (w ∷ ws) applies = cond (applies w) (numberOf w) (firstOf ws applies)
 
 -- where no parameters differ that is the lowest number: `rising` has them as the table does
-abbrev rising : List Why
+abbrev rising : List Refusal
 rising = Param ∷ Length ∷ Flow ∷ Count ∷ Damage ∷ Range ∷ Mismatch ∷ Form ∷ []
 
-abbrev noneAbove : ℕ → List Why → Bool
+abbrev noneAbove : ℕ → List Refusal → Bool
 noneAbove n [] = true
 noneAbove n (w ∷ ws) = leb (numberOf w) n && noneAbove n ws
 
@@ -43,13 +43,13 @@ at-most : (b : Bool) (n k m : ℕ) → n ≤ m → k ≤ m → cond b n k ≤ m
 at-most true n k m h l = h
 at-most false n k m h l = l
 
-before : (us vs : List Why) (applies : Why → Bool) (n : ℕ) → noneAbove n us ≡ true → firstOf vs applies ≤ n → firstOf (us ++ vs) applies ≤ n
+before : (us vs : List Refusal) (applies : Refusal → Bool) (n : ℕ) → noneAbove n us ≡ true → firstOf vs applies ≤ n → firstOf (us ++ vs) applies ≤ n
 before [] vs applies n e h = h
 before (u ∷ us) vs applies n e h =
     let q = and-true (leb (numberOf u) n) (noneAbove n us) e in
     at-most (applies u) (numberOf u) (firstOf (us ++ vs) applies) n (leb-true (numberOf u) n (q .0)) (before us vs applies n (q .1) h)
 
-rising-lowest : (applies : Why → Bool) (w : Why) → applies w ≡ true → firstOf rising applies ≤ numberOf w
+rising-lowest : (applies : Refusal → Bool) (w : Refusal) → applies w ≡ true → firstOf rising applies ≤ numberOf w
 rising-lowest applies Param h = rw h (omega arith)
 rising-lowest applies Length h = before (take 1 rising) (drop 1 rising) applies 2 refl (rw h (omega arith))
 rising-lowest applies Flow h = before (take 2 rising) (drop 2 rising) applies 3 refl (rw h (omega arith))
@@ -59,7 +59,7 @@ rising-lowest applies Range h = before (take 5 rising) (drop 5 rising) applies 6
 rising-lowest applies Mismatch h = before (take 6 rising) (drop 6 rising) applies 7 refl (rw h (omega arith))
 rising-lowest applies Form h = before (take 7 rising) (drop 7 rising) applies 8 refl (rw h (omega arith))
 
-pub lowest-first : (applies : Why → Bool) → applies Mismatch ≡ false → (w : Why) → applies w ≡ true → firstOf order applies ≤ numberOf w
+pub lowest-first : (applies : Refusal → Bool) → applies Mismatch ≡ false → (w : Refusal) → applies w ≡ true → firstOf order applies ≤ numberOf w
 lowest-first applies e w h = rw e (rw e at (rising-lowest applies w h))
 
 -- the test holds at some number below n
@@ -74,16 +74,16 @@ found-some n t false e =
     sym (ap not (all-below n (λ k. not (t k)) (λ k l. ap not (none-found n t e k l))))
 
 -- the number of an answer, fault by fault
-pub refuse-number : (b : Bool) (w : Why) (k : ℕ) (next : Answer) → numberIn (refuseIf b w k next) ≡ cond b (numberOf w) (numberIn next)
+pub refuse-number : (b : Bool) (w : Refusal) (k : ℕ) (next : Answer) → numberIn (refuseIf b w k next) ≡ cond b (numberOf w) (numberIn next)
 refuse-number true w k next = refl
 refuse-number false w k next = refl
 
-pub refuse-at-number : (n : ℕ) (t : ℕ → Bool) (w : Why) (next : Answer) → numberIn (refuseAt n t w next) ≡ cond (some n t) (numberOf w) (numberIn next)
+pub refuse-at-number : (n : ℕ) (t : ℕ → Bool) (w : Refusal) (next : Answer) → numberIn (refuseAt n t w next) ≡ cond (some n t) (numberOf w) (numberIn next)
 unfolding refuseAt
 refuse-at-number n t w next =
     refuse-number (ltb (least 0 n t) n) w (least 0 n t) next ∙ ap (λ (b : Bool). cond b (numberOf w) (numberIn next)) (found-some n t _ refl)
 
-pub first-refuse : (b : Bool) (w : Why) (k : ℕ) (r next : Answer) → first (refuseIf b w k r) next ≡ refuseIf b w k (first r next)
+pub first-refuse : (b : Bool) (w : Refusal) (k : ℕ) (r next : Answer) → first (refuseIf b w k r) next ≡ refuseIf b w k (first r next)
 unfolding first
 first-refuse true w k r next = refl
 first-refuse false w k r next = refl
@@ -98,7 +98,7 @@ cond-within true t n k h = rw (h refl)
 cond-within false t n k h = refl
 
 -- where no more than the parameters, a length and a flow are judged
-abbrev pub early : (param length flow : Bool) → Why → Bool
+abbrev pub early : (param length flow : Bool) → Refusal → Bool
 early p l f Param = p
 early p l f Length = l
 early p l f Flow = f
@@ -108,27 +108,27 @@ early p l f Range = false
 early p l f Mismatch = false
 early p l f Form = false
 
-abbrev pub shapeFault : Params → ℕ → ℕ → Why → Bool
-shapeFault P c s = early (not (goodParams P)) (not (eqb c (size P) && eqb s (size P))) false
+abbrev pub lentFault : Params → ℕ → ℕ → Refusal → Bool
+lentFault P c s = early (not (goodParams P)) (not (eqb c (size P) && eqb s (size P))) false
 
-abbrev pub standFault : Params → ℕ → ℕ → Why → Bool
+abbrev pub standFault : Params → ℕ → ℕ → Refusal → Bool
 standFault P i f = early (not (goodParams P && (leb 1 i && leb i (P .d)))) false (not (isFlow P f))
 
-pub shape-number : (P : Params) (c s : ℕ) → numberIn (shapeAnswer P c s) ≡ firstOf order (shapeFault P c s)
-unfolding shapeAnswer lengthsAnswer
-shape-number P c s = simp refuse-number
+pub lent-number : (P : Params) (c s : ℕ) → numberIn (lentAnswer P c s) ≡ firstOf order (lentFault P c s)
+unfolding lentAnswer lengthsAnswer
+lent-number P c s = simp refuse-number
 
 -- a position or an index, k, is told, or 0 with the number of the first fault; the index at fault is always 0
-pub record SpotTold (P : Params) (i f k : ℕ) (r : Spot) : Type 0 where
-  pub number : spotNumber r ≡ firstOf order (standFault P i f)
-  pub index : spotIndex r ≡ 0
-  pub place : spotPlace r ≡ cond (eqb (spotNumber r) 0) k 0
+pub record LocatedTold (P : Params) (i f k : ℕ) (r : Located) : Type 0 where
+  pub number : locatedNumber r ≡ firstOf order (standFault P i f)
+  pub index : locatedIndex r ≡ 0
+  pub place : locatedAt r ≡ cond (eqb (locatedNumber r) 0) k 0
 
-pub spot-told : (P : Params) (i f k : ℕ) → SpotTold P i f k (spotOf (standAnswer P i f) k)
-unfolding standAnswer
-spot-told P i f k = by-tests (not (goodParams P && (leb 1 i && leb i (P .d)))) (not (isFlow P f)) refl refl
+pub located-told : (P : Params) (i f k : ℕ) → LocatedTold P i f k (locatedOf (positionAnswer P i f) k)
+unfolding positionAnswer
+located-told P i f k = by-tests (not (goodParams P && (leb 1 i && leb i (P .d)))) (not (isFlow P f)) refl refl
   where
-    by-tests : (s t : Bool) → s ≡ not (goodParams P && (leb 1 i && leb i (P .d))) → t ≡ not (isFlow P f) → SpotTold P i f k (spotOf (refuseIf s Param 0 (refuseIf t Flow 0 Done)) k)
+    by-tests : (s t : Bool) → s ≡ not (goodParams P && (leb 1 i && leb i (P .d))) → t ≡ not (isFlow P f) → LocatedTold P i f k (locatedOf (refuseIf s Param 0 (refuseIf t Flow 0 Done)) k)
     by-tests true t e h = record { number = rw (← e); index = refl; place = refl }
     by-tests false true e h = record { number = rw (← e, ← h); index = refl; place = refl }
     by-tests false false e h = record { number = rw (← e, ← h); index = refl; place = refl }
@@ -140,7 +140,7 @@ pub record IndexZero (r : Answer) : Type 0 where
 pub done-index : IndexZero Done
 done-index = record { zero-else = λ d r. refl }
 
-pub refuse-index : (b : Bool) (w : Why) (next : Answer) → IndexZero next → IndexZero (refuseIf b w 0 next)
+pub refuse-index : (b : Bool) (w : Refusal) (next : Answer) → IndexZero next → IndexZero (refuseIf b w 0 next)
 refuse-index true w next h = record { zero-else = λ d r. refl }
 refuse-index false w next h = h
 
@@ -149,7 +149,7 @@ unfolding first
 first-index Done next h k = k
 first-index (Refused w j) next h k = h
 
-bucket-index : (b : Bool) (w : Why) (k : ℕ) (next : Answer) → (numberOf w ≡ 5) ⊎ (numberOf w ≡ 6) → IndexZero next → IndexZero (refuseIf b w k next)
+bucket-index : (b : Bool) (w : Refusal) (k : ℕ) (next : Answer) → (numberOf w ≡ 5) ⊎ (numberOf w ≡ 6) → IndexZero next → IndexZero (refuseIf b w k next)
 bucket-index true w k next e h = record { zero-else = λ d r. absurd (⊎-elim d r e) }
 bucket-index false w k next e h = h
 
@@ -162,6 +162,6 @@ pub lengths-index : (P : Params) (c s : ℕ) → IndexZero (lengthsAnswer P c s)
 unfolding lengthsAnswer
 lengths-index P c s = refuse-index (not (eqb c (size P) && eqb s (size P))) Length Done done-index
 
-pub shape-index : (P : Params) (c s : ℕ) → IndexZero (shapeAnswer P c s)
-unfolding shapeAnswer
-shape-index P c s = refuse-index (not (goodParams P)) Param _ (lengths-index P c s)
+pub lent-index : (P : Params) (c s : ℕ) → IndexZero (lentAnswer P c s)
+unfolding lentAnswer
+lent-index P c s = refuse-index (not (goodParams P)) Param _ (lengths-index P c s)

@@ -9,8 +9,8 @@ use borrow.Author.Tests.{lt-ltb, le-ltb}
 use types.Run.{OneOf, miss}
 use denote.Enum.Declared.{tagOf}
 use lib.Dec.{ltb}
-use Rattle.params.specs.declared.answers.Why.{Why}
-use Rattle.params.specs.declared.answers.Why.the-variants.{Param, Length, Flow, Count, Damage, Range, Mismatch, Form}
+use Rattle.params.specs.declared.answers.Refusal.{Refusal}
+use Rattle.params.specs.declared.answers.Refusal.the-variants.{Param, Length, Flow, Count, Damage, Range, Mismatch, Form}
 use Rattle.params.specs.declared.answers.Answer.{Answer}
 use Rattle.params.specs.declared.answers.Answer.the-variants.{Done, Refused}
 use Rattle.params.specs.Lists.{least}
@@ -19,19 +19,19 @@ use Rattle.params.proofs.answers.Answer.{the-type}
 use Rattle.params.proofs.Searches.{none-found, nothing-found}
 
 -- an answer other than Done, as a `let .. else` has it
-abbrev pub Refusal : Answer → Type 0
-Refusal r = OneOf (1 ∷ []) (tagOf the-type r)
+abbrev pub Refuses : Answer → Type 0
+Refuses r = OneOf (1 ∷ []) (tagOf the-type r)
 
-done-not : Refusal Done → ⊥
+done-not : Refuses Done → ⊥
 done-not h = miss (1 ∷ []) 0 tt h
 
 -- the first of two answers: a refusal, or the second
-refused-first : (r next : Answer) → Refusal r → r ≡ first r next
+refused-first : (r next : Answer) → Refuses r → r ≡ first r next
 unfolding first
 refused-first Done next h = absurd (done-not h)
 refused-first (Refused w k) next h = refl
 
-pub first-refused : (r judged next : Answer) → r ≡ judged → Refusal r → r ≡ first judged next
+pub first-refused : (r judged next : Answer) → r ≡ judged → Refuses r → r ≡ first judged next
 first-refused r judged next e h = refused-first r next h ∙ ap (λ (x : Answer). first x next) e
 
 pub first-passed : (r next : Answer) → r ≡ Done → first r next ≡ next
@@ -44,7 +44,7 @@ first-done Done next e = (refl, e)
 first-done (Refused w k) next e = (e, cc)
 
 -- a refusal keeps what was there
-pub kept-old : {A : Type 0} (r : Answer) (old new : A) → Refusal r → old ≡ kept r old new
+pub kept-old : {A : Type 0} (r : Answer) (old new : A) → Refuses r → old ≡ kept r old new
 unfolding kept
 kept-old Done old new h = absurd (done-not h)
 kept-old (Refused w k) old new h = refl
@@ -54,31 +54,31 @@ unfolding kept
 kept-new r old new e = rw e
 
 -- a test that did not refuse
-pub refuse-done : (b : Bool) (w : Why) (k : ℕ) (next : Answer) → refuseIf b w k next ≡ Done → (b ≡ false) × (next ≡ Done)
+pub refuse-done : (b : Bool) (w : Refusal) (k : ℕ) (next : Answer) → refuseIf b w k next ≡ Done → (b ≡ false) × (next ≡ Done)
 refuse-done true w k next e = (cc, cc)
 refuse-done false w k next e = (refl, e)
 
 -- a search for the lowest index at fault, by what it found
-pub refuse-found : (n k : ℕ) (t : ℕ → Bool) (w : Why) (next : Answer) → k ≡ least 0 n t → k < n → Refused w k ≡ refuseAt n t w next
+pub refuse-found : (n k : ℕ) (t : ℕ → Bool) (w : Refusal) (next : Answer) → k ≡ least 0 n t → k < n → Refused w k ≡ refuseAt n t w next
 unfolding refuseAt
 refuse-found n k t w next e h = rw (← e, lt-ltb k n h)
 
-pub refuse-past : (n k : ℕ) (t : ℕ → Bool) (w : Why) (next : Answer) → k ≡ least 0 n t → n ≤ k → next ≡ refuseAt n t w next
+pub refuse-past : (n k : ℕ) (t : ℕ → Bool) (w : Refusal) (next : Answer) → k ≡ least 0 n t → n ≤ k → next ≡ refuseAt n t w next
 unfolding refuseAt
 refuse-past n k t w next e h = rw (← e, le-ltb k n h)
 
-pub refuse-at-done : (n : ℕ) (t : ℕ → Bool) (w : Why) (next : Answer) → refuseAt n t w next ≡ Done → ((k : ℕ) → k < n → t k ≡ false) × (next ≡ Done)
+pub refuse-at-done : (n : ℕ) (t : ℕ → Bool) (w : Refusal) (next : Answer) → refuseAt n t w next ≡ Done → ((k : ℕ) → k < n → t k ≡ false) × (next ≡ Done)
 unfolding refuseAt
 refuse-at-done n t w next e =
     let h = refuse-done (ltb (least 0 n t) n) w (least 0 n t) next e in
     (none-found n t (h .0), h .1)
 
 -- where no number passes the test nothing is refused
-pub refuse-none : (n : ℕ) (t : ℕ → Bool) (w : Why) (next : Answer) → ((k : ℕ) → k < n → t k ≡ false) → refuseAt n t w next ≡ next
+pub refuse-none : (n : ℕ) (t : ℕ → Bool) (w : Refusal) (next : Answer) → ((k : ℕ) → k < n → t k ≡ false) → refuseAt n t w next ≡ next
 refuse-none n t w next none = sym (refuse-past n n t w next (sym (nothing-found n t none)) (omega arith))
 
 -- where a refusal comes from
-pub first-either : (r next : Answer) (w : Why) (k : ℕ) → first r next ≡ Refused w k → (r ≡ Refused w k) ⊎ ((r ≡ Done) × (next ≡ Refused w k))
+pub first-either : (r next : Answer) (w : Refusal) (k : ℕ) → first r next ≡ Refused w k → (r ≡ Refused w k) ⊎ ((r ≡ Done) × (next ≡ Refused w k))
 unfolding first
 first-either Done next w k e = inr (refl, e)
 first-either (Refused v j) next w k e = inl e

@@ -7,7 +7,7 @@ use native.Mathlib.Decide.{ℕ-discrete}
 use native.Mathlib.Omega.{arith}
 use borrow.Author.Tests.{ltb-true}
 use lib.Dec.{ltb}
-use Rattle.params.specs.declared.answers.Why.{Why}
+use Rattle.params.specs.declared.answers.Refusal.{Refusal}
 use Rattle.params.specs.declared.answers.Answer.{Answer}
 use Rattle.params.specs.declared.answers.Answer.the-variants.{Refused}
 use Rattle.params.specs.Lists.{least}
@@ -42,14 +42,14 @@ least-lowest n t h =
     let r = least-found n 0 t (omega arith) in record { inside = h; here = r .0; none-lower = λ j l. r .1 j (omega arith) l }
 
 -- a search that may have refused: it did, with the lowest number, or what is judged next did
-at-step : (n : ℕ) (t : ℕ → Bool) (w v : Why) (k : ℕ) (next : Answer) (b : Bool) → ltb (least 0 n t) n ≡ b → refuseIf b w (least 0 n t) next ≡ Refused v k
+at-step : (n : ℕ) (t : ℕ → Bool) (w v : Refusal) (k : ℕ) (next : Answer) (b : Bool) → ltb (least 0 n t) n ≡ b → refuseIf b w (least 0 n t) next ≡ Refused v k
     → ((w ≡ v) × Lowest n t k) ⊎ (((j : ℕ) → j < n → t j ≡ false) × (next ≡ Refused v k))
 at-step n t w v k next true e q =
     let found : least 0 n t ≡ k = cc in inl (cc, rw found at (least-lowest n t (ltb-true (least 0 n t) n e)))
 at-step n t w v k next false e q =
     inr (none-found n t e, q)
 
-pub refuse-at : (n : ℕ) (t : ℕ → Bool) (w v : Why) (k : ℕ) (next : Answer) → refuseAt n t w next ≡ Refused v k
+pub refuse-at : (n : ℕ) (t : ℕ → Bool) (w v : Refusal) (k : ℕ) (next : Answer) → refuseAt n t w next ≡ Refused v k
     → ((w ≡ v) × Lowest n t k) ⊎ (((j : ℕ) → j < n → t j ≡ false) × (next ≡ Refused v k))
 unfolding refuseAt
 refuse-at n t w v k next e = at-step n t w v k next (ltb (least 0 n t) n) refl e

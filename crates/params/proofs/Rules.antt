@@ -8,23 +8,23 @@ use borrow.Author.Tests.{le-leb, leb-true, lt-ltb, eq-eqb, eqb-true, not-false}
 use lib.Dec.{eqb, ltb, leb}
 use lib.ListN.{length}
 use Rattle.params.specs.declared.params.Params.{Params}
-use Rattle.params.specs.declared.answers.Why.{Why}
-use Rattle.params.specs.declared.answers.Why.the-variants.{Param, Length}
+use Rattle.params.specs.declared.answers.Refusal.{Refusal}
+use Rattle.params.specs.declared.answers.Refusal.the-variants.{Param, Length}
 use Rattle.params.specs.declared.answers.Answer.{Answer}
 use Rattle.params.specs.declared.answers.Answer.the-variants.{Done, Refused}
-use Rattle.params.specs.declared.answers.Spot.the-variants.{At, Refused as NoSpot}
-use Rattle.params.specs.Answers.{refuseIf, spotOf}
+use Rattle.params.specs.declared.answers.Located.the-variants.{At, Refused as NotLocated}
+use Rattle.params.specs.Answers.{refuseIf, locatedOf}
 use Rattle.params.specs.Lists.{below, touched}
-use Rattle.params.specs.Params.{size, Sized, goodSizes, goodParams, samePair, sameParams, lengthsAnswer, sizesAnswer, shapeAnswer}
-use Rattle.params.specs.Places.{stand, standAnswer, placesIn, Placed}
+use Rattle.params.specs.Params.{size, Dimensions, goodDimensions, goodParams, samePair, sameParams, lengthsAnswer, dimensionsAnswer, lentAnswer}
+use Rattle.params.specs.Positions.{stand, positionAnswer, positionsIn, Positioned}
 use Rattle.params.proofs.Searches.{and-true, below-fails}
 use Rattle.params.proofs.Changes.{length-touched, getD-touched, touched-none, upTo}
 use Rattle.params.proofs.Judging.{refuse-done}
 use Rattle.params.proofs.Sizes.{stretch-within, small}
 
-pub sized : (P : Params) → goodSizes P ≡ true → Sized P
-unfolding goodSizes
-sized P e =
+pub dimensions : (P : Params) → goodDimensions P ≡ true → Dimensions P
+unfolding goodDimensions
+dimensions P e =
     let h = and-true (leb 2 (P .d) && leb (P .d) 4 && leb 1 (P .m)) _ e in
     let k = and-true (leb 2 (P .d) && leb (P .d) 4) _ (h .0) in
     let l = and-true (leb 2 (P .d)) _ (k .0) in
@@ -35,15 +35,15 @@ sized P e =
       m-high = leb-true _ 16384 (h .1);
     }
 
-pub sized-small : {P : Params} → Sized P → size P ≤ 65536
-sized-small {P} h = small (P .d) (P .m) (h .d-high) (h .m-high)
+pub dimensions-small : {P : Params} → Dimensions P → size P ≤ 65536
+dimensions-small {P} h = small (P .d) (P .m) (h .d-high) (h .m-high)
 
-pub good-sizes : (P : Params) → goodParams P ≡ true → goodSizes P ≡ true
+pub good-has-dimensions : (P : Params) → goodParams P ≡ true → goodDimensions P ≡ true
 unfolding goodParams
-good-sizes P e = and-true (goodSizes P) _ (and-true _ _ e .0) .0
+good-has-dimensions P e = and-true (goodDimensions P) _ (and-true _ _ e .0) .0
 
-pub good-sized : (P : Params) → goodParams P ≡ true → Sized P
-good-sized P e = sized P (good-sizes P e)
+pub good-dimensions : (P : Params) → goodParams P ≡ true → Dimensions P
+good-dimensions P e = dimensions P (good-has-dimensions P e)
 
 -- of four tests, where three hold, the last is left
 pub last-of-four : (t : ℕ → Bool) → t 0 ≡ true → t 1 ≡ true → t 2 ≡ true → t 3 ≡ below 4 t
@@ -61,12 +61,12 @@ unfolding below
 last-apart t e e₁ h h₁ k k₁ l l₁ m m₁ n = simp (sym e ∙ e₁, sym h ∙ h₁, sym k ∙ k₁, sym l ∙ l₁, sym m ∙ m₁) (ap not n)
 
 -- of the sizes' tests the last is left
-pub last-size : (P : Params) → 2 ≤ P .d → P .d ≤ 4 → 1 ≤ P .m → leb (P .m) 16384 ≡ goodSizes P
-unfolding goodSizes
+pub last-size : (P : Params) → 2 ≤ P .d → P .d ≤ 4 → 1 ≤ P .m → leb (P .m) 16384 ≡ goodDimensions P
+unfolding goodDimensions
 last-size P h k l = simp (le-leb 2 _ h, le-leb _ 4 k, le-leb 1 _ l)
 
-pub sizes-good : {P : Params} → Sized P → goodSizes P ≡ true
-sizes-good {P} z = sym (last-size P (z .d-low) (z .d-high) (z .m-low)) ∙ le-leb _ _ (z .m-high)
+pub dimensions-good : {P : Params} → Dimensions P → goodDimensions P ≡ true
+dimensions-good {P} z = sym (last-size P (z .d-low) (z .d-high) (z .m-low)) ∙ le-leb _ _ (z .m-high)
 
 -- where the sizes are the same, the pairs decide
 pub pairs-decide : (P Q : Params) → P .d ≡ Q .d → P .m ≡ Q .m → below 4 (samePair P Q) ≡ sameParams P Q
@@ -75,7 +75,7 @@ pairs-decide P Q h k = simp (eq-eqb _ _ h, eq-eqb _ _ k)
 
 -- array i, counted from 1, is one of those that the parameters give, and lies within the sketch, which is small
 pub record Asked (P : Params) (i : ℕ) : Type 0 where
-  pub sized : Sized P
+  pub dimensions : Dimensions P
   pub low : 1 ≤ i
   pub high : i ≤ P .d
   pub end : (i - 1) * P .m + P .m ≤ size P
@@ -96,58 +96,58 @@ module _ (P : Params) where
       let k = lengths-done c s (h .1) in
       (not-false b (h .0), k .0, k .1)
 
-  pub sizes-done : (c s : ℕ) → sizesAnswer P c s ≡ Done → Sized P × (c ≡ size P) × (s ≡ size P)
-  unfolding sizesAnswer
-  sizes-done c s e = let h = rule-done (goodSizes P) c s e in (sized P (h .0), h .1, h .2)
+  pub dimensions-done : (c s : ℕ) → dimensionsAnswer P c s ≡ Done → Dimensions P × (c ≡ size P) × (s ≡ size P)
+  unfolding dimensionsAnswer
+  dimensions-done c s e = let h = rule-done (goodDimensions P) c s e in (dimensions P (h .0), h .1, h .2)
 
-  pub shape-done : (c s : ℕ) → shapeAnswer P c s ≡ Done → Sized P × (c ≡ size P) × (s ≡ size P)
-  unfolding shapeAnswer
-  shape-done c s e = let h = rule-done (goodParams P) c s e in (good-sized P (h .0), h .1, h .2)
+  pub lent-done : (c s : ℕ) → lentAnswer P c s ≡ Done → Dimensions P × (c ≡ size P) × (s ≡ size P)
+  unfolding lentAnswer
+  lent-done c s e = let h = rule-done (goodParams P) c s e in (good-dimensions P (h .0), h .1, h .2)
 
   pub asked : (i : ℕ) → not (goodParams P && (leb 1 i && leb i (P .d))) ≡ false → Asked P i
   asked i e =
       let k = and-true (goodParams P) _ (not-false _ e) in
       let l = and-true (leb 1 i) _ (k .1) in
-      let s = good-sized P (k .0) in
+      let s = good-dimensions P (k .0) in
       let low : 1 ≤ i = leb-true _ _ (l .0) in
       let high : i ≤ P .d = leb-true _ _ (l .1) in
       record {
-        sized = s;
+        dimensions = s;
         low = low;
         high = high;
         end = stretch-within (P .d) (P .m) (i - 1) (omega arith);
-        short = sized-small s;
+        short = dimensions-small s;
       }
 
-  pub asked-done : (i f : ℕ) → standAnswer P i f ≡ Done → Asked P i
-  unfolding standAnswer
+  pub asked-done : (i f : ℕ) → positionAnswer P i f ≡ Done → Asked P i
+  unfolding positionAnswer
   asked-done i f e = asked i (refuse-done (not (goodParams P && (leb 1 i && leb i (P .d)))) Param 0 _ e .0)
 
 -- what a caller is told of a place
-pub spot-at : (r answer : Answer) (k j : ℕ) → r ≡ answer → r ≡ Done → k ≡ j → At k ≡ spotOf answer j
-spot-at r answer k j e h q = rw (← e, h, q)
+pub located-at : (r answer : Answer) (k j : ℕ) → r ≡ answer → r ≡ Done → k ≡ j → At k ≡ locatedOf answer j
+located-at r answer k j e h q = rw (← e, h, q)
 
-pub no-spot : (r answer : Answer) (w : Why) (i j : ℕ) → r ≡ answer → r ≡ Refused w i → NoSpot w i ≡ spotOf answer j
-no-spot r answer w i j e h = rw (← e, h)
+pub not-located : (r answer : Answer) (w : Refusal) (i j : ℕ) → r ≡ answer → r ≡ Refused w i → NotLocated w i ≡ locatedOf answer j
+not-located r answer w i j e h = rw (← e, h)
 
 module _ (P : Params) (f : ℕ) (ks : List ℕ) where
   -- a flow's places in a list that is as long as there can be arrays
-  pub places-found : Sized P → length ks ≡ 4 → Placed P f (placesIn P f ks)
-  unfolding placesIn
-  places-found z e =
+  pub positions-found : Dimensions P → length ks ≡ 4 → Positioned P f (positionsIn P f ks)
+  unfolding positionsIn
+  positions-found z e =
       record {
-        at = λ i l. rw (getD-touched (λ j. goodSizes P && ltb j (P .d)) (λ j k. stand P j f) ks i 0 (omega (arith, z .d-high)), sizes-good z, lt-ltb i (P .d) l);
+        at = λ i l. rw (getD-touched (λ j. goodDimensions P && ltb j (P .d)) (λ j k. stand P j f) ks i 0 (omega (arith, z .d-high)), dimensions-good z, lt-ltb i (P .d) l);
       }
 
-  pub places-long : length (placesIn P f ks) ≡ length ks
-  unfolding placesIn
-  places-long = length-touched _ _ ks
+  pub positions-long : length (positionsIn P f ks) ≡ length ks
+  unfolding positionsIn
+  positions-long = length-touched _ _ ks
 
   -- nothing is written where the sizes break a rule, and d places where they keep it
-  pub no-places : goodSizes P ≡ false → ks ≡ placesIn P f ks
-  unfolding placesIn
-  no-places e = rw e (sym (touched-none (λ j k. stand P j f) ks 0))
+  pub no-positions : goodDimensions P ≡ false → ks ≡ positionsIn P f ks
+  unfolding positionsIn
+  no-positions e = rw e (sym (touched-none (λ j k. stand P j f) ks 0))
 
-  pub all-places : {ys : List ℕ} (n : ℕ) → goodSizes P ≡ true → P .d ≡ n → ys ≡ touched (upTo n) (λ j k. stand P j f) ks → ys ≡ placesIn P f ks
-  unfolding placesIn
-  all-places n e h q = q ∙ ap₂ (λ (b : Bool) (m : ℕ). touched (λ j. b && ltb j m) (λ j k. stand P j f) ks) (sym e) (sym h)
+  pub all-positions : {ys : List ℕ} (n : ℕ) → goodDimensions P ≡ true → P .d ≡ n → ys ≡ touched (upTo n) (λ j k. stand P j f) ks → ys ≡ positionsIn P f ks
+  unfolding positionsIn
+  all-positions n e h q = q ∙ ap₂ (λ (b : Bool) (m : ℕ). touched (λ j. b && ltb j m) (λ j k. stand P j f) ks) (sym e) (sym h)

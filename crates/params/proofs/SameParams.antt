@@ -9,9 +9,9 @@ use lib.ListN.{getD}
 use Rattle.params.specs.declared.params.Params.{Params}
 use Rattle.params.specs.Lists.{below}
 use Rattle.params.specs.Params.{size, goodParams, samePair, sameParams}
-use Rattle.params.specs.Places.{stand, standsIn, stands}
+use Rattle.params.specs.Positions.{stand, standsIn, stands}
 use Rattle.params.proofs.Searches.{and-true, below-at, all-below}
-use Rattle.params.proofs.Rules.{good-sized, pairs-decide}
+use Rattle.params.proofs.Rules.{good-dimensions, pairs-decide}
 
 -- parameters are the same as themselves
 pub same-itself : (P : Params) → sameParams P P ≡ true
@@ -22,14 +22,14 @@ same-itself P =
 
 -- two sets of parameters that the test finds the same
 module _ (P Q : Params) (same : sameParams P Q ≡ true) where
-  pub sizes-same : (P .d ≡ Q .d) × (P .m ≡ Q .m)
+  pub dimensions-same : (P .d ≡ Q .d) × (P .m ≡ Q .m)
   unfolding sameParams
-  sizes-same =
+  dimensions-same =
       let e = and-true (eqb (P .d) (Q .d)) (eqb (P .m) (Q .m)) (and-true (eqb (P .d) (Q .d) && eqb (P .m) (Q .m)) (below 4 (samePair P Q)) same .0) in
       (eqb-true (P .d) (Q .d) (e .0), eqb-true (P .m) (Q .m) (e .1))
 
   pub size-same : size P ≡ size Q
-  size-same = ap₂ _*_ (sizes-same .0) (sizes-same .1)
+  size-same = ap₂ _*_ (dimensions-same .0) (dimensions-same .1)
 
   pub pair-same : (i : ℕ) → i < 4 → (getD (P .a) i 0 ≡ getD (Q .a) i 0) × (getD (P .b) i 0 ≡ getD (Q .b) i 0)
   unfolding sameParams samePair
@@ -40,12 +40,12 @@ module _ (P Q : Params) (same : sameParams P Q ≡ true) where
 
   pub stand-same : (i f : ℕ) → i < 4 → stand P i f ≡ stand Q i f
   unfolding stand
-  stand-same i f l = let e = pair-same i l in rw (e .0, e .1, sizes-same .1)
+  stand-same i f l = let e = pair-same i l in rw (e .0, e .1, dimensions-same .1)
 
   -- a bucket is in an array, which is one of the first four, or in none
   stands-at : goodParams P ≡ true → (f k : ℕ) (b : Bool) → ltb (k / P .m) (P .d) ≡ b
       → (b && eqb (stand P (k / P .m) f) (k % P .m)) ≡ (b && eqb (stand Q (k / P .m) f) (k % P .m))
-  stands-at g f k true e = ap (λ (j : ℕ). eqb j (k % P .m)) (stand-same (k / P .m) f (omega (arith, ltb-true (k / P .m) (P .d) e, good-sized P g)))
+  stands-at g f k true e = ap (λ (j : ℕ). eqb j (k % P .m)) (stand-same (k / P .m) f (omega (arith, ltb-true (k / P .m) (P .d) e, good-dimensions P g)))
   stands-at g f k false e = refl
 
   pub stands-same : goodParams P ≡ true → stands P ≡ stands Q
@@ -53,4 +53,4 @@ module _ (P Q : Params) (same : sameParams P Q ≡ true) where
   stands-same g =
       fun-ext (λ f. fun-ext (λ k.
       stands-at g f k (ltb (k / P .m) (P .d)) refl
-      ∙ ap₂ (λ (d m : ℕ). ltb (k / m) d && eqb (stand Q (k / m) f) (k % m)) (sizes-same .0) (sizes-same .1)))
+      ∙ ap₂ (λ (d m : ℕ). ltb (k / m) d && eqb (stand Q (k / m) f) (k % m)) (dimensions-same .0) (dimensions-same .1)))

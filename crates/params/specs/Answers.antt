@@ -2,16 +2,16 @@
 use mathlib.Core.Bool.{Bool, true, false}
 use Prim.Native.Nat.{ℕ}
 use lib.Dec.{ltb}
-use Rattle.params.specs.declared.answers.Why.{Why}
-use Rattle.params.specs.declared.answers.Why.the-variants.{Param, Length, Flow, Count, Damage, Range, Mismatch, Form}
+use Rattle.params.specs.declared.answers.Refusal.{Refusal}
+use Rattle.params.specs.declared.answers.Refusal.the-variants.{Param, Length, Flow, Count, Damage, Range, Mismatch, Form}
 use Rattle.params.specs.declared.answers.Answer.{Answer}
 use Rattle.params.specs.declared.answers.Answer.the-variants.{Done, Refused}
-use Rattle.params.specs.declared.answers.Spot.{Spot}
-use Rattle.params.specs.declared.answers.Spot.the-variants.{At, Refused as NoSpot}
+use Rattle.params.specs.declared.answers.Located.{Located}
+use Rattle.params.specs.declared.answers.Located.the-variants.{At, Refused as NotLocated}
 use Rattle.params.specs.Lists.{least}
 
 -- the table of refusals
-abbrev pub numberOf : Why → ℕ
+abbrev pub numberOf : Refusal → ℕ
 numberOf Param = 1
 numberOf Length = 2
 numberOf Flow = 3
@@ -31,12 +31,12 @@ indexIn Done = 0
 indexIn (Refused w k) = k
 
 -- a refusal where the test holds, else what is judged next
-abbrev pub refuseIf : Bool → Why → ℕ → Answer → Answer
+abbrev pub refuseIf : Bool → Refusal → ℕ → Answer → Answer
 refuseIf true w k next = Refused w k
 refuseIf false w k next = next
 
 -- a refusal where the test holds at a number below n, with the lowest such number
-unfoldable pub refuseAt : ℕ → (ℕ → Bool) → Why → Answer → Answer
+unfoldable pub refuseAt : ℕ → (ℕ → Bool) → Refusal → Answer → Answer
 refuseAt n t w next = refuseIf (ltb (least 0 n t) n) w (least 0 n t) next
 
 -- the first of two answers that refuses
@@ -50,19 +50,19 @@ kept Done old new = new
 kept (Refused w k) old new = old
 
 -- a place, or why there is none
-abbrev pub spotOf : Answer → ℕ → Spot
-spotOf Done k = At k
-spotOf (Refused w j) k = NoSpot w j
+abbrev pub locatedOf : Answer → ℕ → Located
+locatedOf Done k = At k
+locatedOf (Refused w j) k = NotLocated w j
 
 -- the number, the index and the place that a caller is told, each 0 where there is none
-abbrev pub spotNumber : Spot → ℕ
-spotNumber (At k) = 0
-spotNumber (NoSpot w j) = numberOf w
+abbrev pub locatedNumber : Located → ℕ
+locatedNumber (At k) = 0
+locatedNumber (NotLocated w j) = numberOf w
 
-abbrev pub spotIndex : Spot → ℕ
-spotIndex (At k) = 0
-spotIndex (NoSpot w j) = j
+abbrev pub locatedIndex : Located → ℕ
+locatedIndex (At k) = 0
+locatedIndex (NotLocated w j) = j
 
-abbrev pub spotPlace : Spot → ℕ
-spotPlace (At k) = k
-spotPlace (NoSpot w j) = 0
+abbrev pub locatedAt : Located → ℕ
+locatedAt (At k) = k
+locatedAt (NotLocated w j) = 0

@@ -2,4 +2,4 @@
 pub mod Lists
 pub mod Answers
 pub mod Params
-pub mod Places
+pub mod Positions

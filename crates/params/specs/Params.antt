@@ -5,7 +5,7 @@ use Prim.Native.Nat.{ℕ, _*_, _≤_}
 use lib.Dec.{eqb, ltb, leb}
 use lib.ListN.{getD}
 use Rattle.params.specs.declared.params.Params.{Params}
-use Rattle.params.specs.declared.answers.Why.the-variants.{Param, Length}
+use Rattle.params.specs.declared.answers.Refusal.the-variants.{Param, Length}
 use Rattle.params.specs.declared.answers.Answer.{Answer}
 use Rattle.params.specs.declared.answers.Answer.the-variants.{Done}
 use Rattle.params.specs.Lists.{below}
@@ -40,17 +40,17 @@ unfoldable pub twins : ℕ → List ℕ → List ℕ → ℕ → ℕ → Bool
 twins d a b i j = ltb i d && (eqb (getD a i 0) (getD a j 0) && eqb (getD b i 0) (getD b j 0))
 
 -- 2 to 4 arrays, of 1 to 16384 buckets
-unfoldable pub goodSizes : Params → Bool
-goodSizes P = leb 2 (P .d) && leb (P .d) 4 && leb 1 (P .m) && leb (P .m) 16384
+unfoldable pub goodDimensions : Params → Bool
+goodDimensions P = leb 2 (P .d) && leb (P .d) 4 && leb 1 (P .m) && leb (P .m) 16384
 
 unfoldable pub goodParams : Params → Bool
 goodParams P =
-    goodSizes P
+    goodDimensions P
     && below 4 (pairAt (P .d) (P .a) (P .b))
     && below 4 (λ i. below i (λ j. not (twins (P .d) (P .a) (P .b) i j)))
 
 -- what `goodSizes` says of the numbers
-pub record Sized (P : Params) : Type 0 where
+pub record Dimensions (P : Params) : Type 0 where
   pub d-low : 2 ≤ P .d
   pub d-high : P .d ≤ 4
   pub m-low : 1 ≤ P .m
@@ -68,8 +68,8 @@ unfoldable pub lengthsAnswer : Params → ℕ → ℕ → Answer
 lengthsAnswer P c s = refuseIf (not (eqb c (size P) && eqb s (size P))) Length 0 Done
 
 -- the sizes, or all of the parameters, then the lengths
-unfoldable pub sizesAnswer : Params → ℕ → ℕ → Answer
-sizesAnswer P c s = refuseIf (not (goodSizes P)) Param 0 (lengthsAnswer P c s)
+unfoldable pub dimensionsAnswer : Params → ℕ → ℕ → Answer
+dimensionsAnswer P c s = refuseIf (not (goodDimensions P)) Param 0 (lengthsAnswer P c s)
 
-unfoldable pub shapeAnswer : Params → ℕ → ℕ → Answer
-shapeAnswer P c s = refuseIf (not (goodParams P)) Param 0 (lengthsAnswer P c s)
+unfoldable pub lentAnswer : Params → ℕ → ℕ → Answer
+lentAnswer P c s = refuseIf (not (goodParams P)) Param 0 (lengthsAnswer P c s)

@@ -2,7 +2,7 @@
 ghost use mathlib.Core.Path.{_≡_};
 ghost use Rattle.params.specs.Answers.{numberOf};
 
-pub enum Why {
+pub enum Refusal {
     Param,
     Length,
     Flow,
@@ -13,20 +13,20 @@ pub enum Why {
     Form,
 }
 
-impl Why {
+impl Refusal {
     // The refusal's number, for callers that are told numbers alone.
     pub fn number(self) -> u32
         ensures { λ r. ⌜ r ≡ numberOf self ⌝ }
     {
         match self {
-            Why::Param => 1,
-            Why::Length => 2,
-            Why::Flow => 3,
-            Why::Count => 4,
-            Why::Damage => 5,
-            Why::Range => 6,
-            Why::Mismatch => 7,
-            Why::Form => 8,
+            Refusal::Param => 1,
+            Refusal::Length => 2,
+            Refusal::Flow => 3,
+            Refusal::Count => 4,
+            Refusal::Damage => 5,
+            Refusal::Range => 6,
+            Refusal::Mismatch => 7,
+            Refusal::Form => 8,
         }
     }
 }
@@ -34,11 +34,11 @@ impl Why {
 // The index is that of the lowest bucket at fault for Damage and Range, and 0 for the others.
 pub enum Answer {
     Done,
-    Refused(Why, usize),
+    Refused(Refusal, usize),
 }
 
 // A position or an index.
-pub enum Spot {
+pub enum Located {
     At(usize),
-    Refused(Why, usize),
+    Refused(Refusal, usize),
 }

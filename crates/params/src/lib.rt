@@ -5,7 +5,7 @@ pub mod answers; // what a caller is told
 pub mod params; // the parameters, and where a flow stands
 
 pub use answers::Answer;
-pub use answers::Spot;
-pub use answers::Why;
+pub use answers::Located;
+pub use answers::Refusal;
 pub use params::PRIME;
 pub use params::Params;

@@ -4,14 +4,14 @@ ghost use mathlib.Core.Bool.{_&&_, not, cond};
 ghost use Prim.Native.Nat.{_+_, _-_, _*_, _%_, _<_, _≤_};
 ghost use lib.Dec.{eqb, leb};
 ghost use Rattle.params.specs.Lists.{below};
-ghost use Rattle.params.specs.Params.{prime, size as «size-of», Sized, pairOk, pairAt, twins, goodSizes, goodParams, sameParams};
-ghost use Rattle.params.specs.Places.{stand as «stand-of», stands as «stands-of», position as «position-of», index as «index-of», placesIn};
-ghost use Rattle.params.specs.Answers.{spotOf};
-ghost use Rattle.params.specs.Params.{lengthsAnswer, sizesAnswer, shapeAnswer};
-ghost use Rattle.params.specs.Places.{standAnswer};
+ghost use Rattle.params.specs.Params.{prime, size as «size-of», Dimensions, pairOk, pairAt, twins, goodDimensions, goodParams, sameParams};
+ghost use Rattle.params.specs.Positions.{stand as «stand-of», stands as «stands-of», position as «position-of», index as «index-of», positionsIn};
+ghost use Rattle.params.specs.Answers.{locatedOf};
+ghost use Rattle.params.specs.Params.{lengthsAnswer, dimensionsAnswer, lentAnswer};
+ghost use Rattle.params.specs.Positions.{positionAnswer};
 use crate::answers::Answer;
-use crate::answers::Spot;
-use crate::answers::Why;
+use crate::answers::Located;
+use crate::answers::Refusal;
 
 // The prime of every sketch.
 pub const PRIME: u32 = field::P31;
@@ -108,8 +108,8 @@ fn place(a: u32, b: u32, m: usize, f: u32) -> usize
 
 impl Params {
     // Whether the sizes keep the rules: what the code needs so that every index is one.
-    fn sized(self) -> bool
-        ensures { λ r. ⌜ r ≡ goodSizes self ⌝ }
+    fn good_dimensions(self) -> bool
+        ensures { λ r. ⌜ r ≡ goodDimensions self ⌝ }
     {
         if self.d < 2 {
             return false;
@@ -127,7 +127,7 @@ impl Params {
     pub fn check(self) -> bool
         ensures { λ r. ⌜ r ≡ goodParams self ⌝ }
     {
-        if !self.sized() {
+        if !self.good_dimensions() {
             return false;
         }
         let d = self.d;
@@ -177,83 +177,83 @@ impl Params {
 
     // The two slices of a sketch have its size.
     fn lengths(self, counts: usize, idsums: usize) -> Answer
-        requires { ⌜ Sized self ⌝ }
+        requires { ⌜ Dimensions self ⌝ }
         ensures { λ r. ⌜ r ≡ lengthsAnswer self counts idsums ⌝ }
     {
         let size = self.d * self.m;
         if counts != size {
-            return Answer::Refused(Why::Length, 0);
+            return Answer::Refused(Refusal::Length, 0);
         }
         if idsums != size {
-            return Answer::Refused(Why::Length, 0);
+            return Answer::Refused(Refusal::Length, 0);
         }
         Answer::Done
     }
 
     // The sizes keep the rules, and the two slices have them.
-    pub fn sizes(self, counts: usize, idsums: usize) -> Answer
-        ensures { λ r. ⌜ r ≡ sizesAnswer self counts idsums ⌝ }
+    pub fn judge_dimensions(self, counts: usize, idsums: usize) -> Answer
+        ensures { λ r. ⌜ r ≡ dimensionsAnswer self counts idsums ⌝ }
     {
-        if !self.sized() {
-            return Answer::Refused(Why::Param, 0);
+        if !self.good_dimensions() {
+            return Answer::Refused(Refusal::Param, 0);
         }
         self.lengths(counts, idsums)
     }
 
     // The parameters keep the rules, and the two slices have their sizes.
-    pub fn shape(self, counts: usize, idsums: usize) -> Answer
-        ensures { λ r. ⌜ r ≡ shapeAnswer self counts idsums ⌝ }
+    pub fn judge_lent(self, counts: usize, idsums: usize) -> Answer
+        ensures { λ r. ⌜ r ≡ lentAnswer self counts idsums ⌝ }
     {
         if !self.check() {
-            return Answer::Refused(Why::Param, 0);
+            return Answer::Refused(Refusal::Param, 0);
         }
         self.lengths(counts, idsums)
     }
 
     // The parameters, the array and the flow are right.
     fn asked(self, i: usize, f: u32) -> Answer
-        ensures { λ r. ⌜ r ≡ standAnswer self i f ⌝ }
+        ensures { λ r. ⌜ r ≡ positionAnswer self i f ⌝ }
     {
         if !self.check() {
-            return Answer::Refused(Why::Param, 0);
+            return Answer::Refused(Refusal::Param, 0);
         }
         if i < 1 {
-            return Answer::Refused(Why::Param, 0);
+            return Answer::Refused(Refusal::Param, 0);
         }
         if self.d < i {
-            return Answer::Refused(Why::Param, 0);
+            return Answer::Refused(Refusal::Param, 0);
         }
         if PRIME <= f {
-            return Answer::Refused(Why::Flow, 0);
+            return Answer::Refused(Refusal::Flow, 0);
         }
         Answer::Done
     }
 
     // The position of a flow in array i; arrays count from 1.
-    pub fn position(self, i: usize, f: u32) -> Spot
-        ensures { λ r. ⌜ r ≡ spotOf (standAnswer self i f) («position-of» self i f) ⌝ }
+    pub fn position(self, i: usize, f: u32) -> Located
+        ensures { λ r. ⌜ r ≡ locatedOf (positionAnswer self i f) («position-of» self i f) ⌝ }
     {
         let asked = self.asked(i, f);
         match asked {
-            Answer::Done => Spot::At(self.spot(i - 1, f)),
-            Answer::Refused(why, index) => Spot::Refused(why, index),
+            Answer::Done => Located::At(self.stand(i - 1, f)),
+            Answer::Refused(refusal, index) => Located::Refused(refusal, index),
         }
     }
 
     // The index of the flow's bucket there.
-    pub fn index(self, i: usize, f: u32) -> Spot
-        ensures { λ r. ⌜ r ≡ spotOf (standAnswer self i f) («index-of» self i f) ⌝ }
+    pub fn index(self, i: usize, f: u32) -> Located
+        ensures { λ r. ⌜ r ≡ locatedOf (positionAnswer self i f) («index-of» self i f) ⌝ }
     {
         let asked = self.asked(i, f);
         match asked {
-            Answer::Done => Spot::At((i - 1) * self.m + self.spot(i - 1, f)),
-            Answer::Refused(why, index) => Spot::Refused(why, index),
+            Answer::Done => Located::At((i - 1) * self.m + self.stand(i - 1, f)),
+            Answer::Refused(refusal, index) => Located::Refused(refusal, index),
         }
     }
 
     // Where a flow stands in the array that i others stand before: here, for the code's own use, arrays count from 0.
-    fn spot(self, i: usize, f: u32) -> usize
-        requires { ⌜ Sized self × (i < self .d) ⌝ }
+    fn stand(self, i: usize, f: u32) -> usize
+        requires { ⌜ Dimensions self × (i < self .d) ⌝ }
         ensures { λ r. ⌜ (r ≡ «stand-of» self i f) × (r < self .m) ⌝ }
     {
         let a = self.a;
@@ -261,29 +261,12 @@ impl Params {
         place(a[i], b[i], self.m, f)
     }
 
-    // The position of a flow in array i, told without a refusal: 0 where the sizes break a rule or there is no such array. Any
-    // number is taken as a flow, and the pairs are not judged.
-    pub fn stand(self, i: usize, f: u32) -> usize
-        ensures { λ r. ⌜ r ≡ cond (goodSizes self && (leb 1 i && leb i (self .d))) («position-of» self i f) 0 ⌝ }
-    {
-        if !self.sized() {
-            return 0;
-        }
-        if i < 1 {
-            return 0;
-        }
-        if self.d < i {
-            return 0;
-        }
-        self.spot(i - 1, f)
-    }
-
     // Whether a flow stands in bucket k; in no bucket where the sizes break a rule. Written out, as the checks are: with an index that
     // is not a constant, both arrays of pairs would be copied at every call.
     pub fn stands(self, f: u32, k: usize) -> bool
-        ensures { λ r. ⌜ r ≡ (goodSizes self && «stands-of» self f k) ⌝ }
+        ensures { λ r. ⌜ r ≡ (goodDimensions self && «stands-of» self f k) ⌝ }
     {
-        if !self.sized() {
+        if !self.good_dimensions() {
             return false;
         }
         let d = self.d;
@@ -313,10 +296,10 @@ impl Params {
 
     // A flow's place in each array, found once for all that a caller does with them. Where the sizes break a rule nothing is written.
     // Written out, as the checks are.
-    pub fn places(self, f: u32, ks: &mut [usize; 4])
-        ensures { λ r. ⌜ now (ks .exit) ≡ placesIn self f (now (ks .entry)) ⌝ }
+    pub fn positions(self, f: u32, ks: &mut [usize; 4])
+        ensures { λ r. ⌜ now (ks .exit) ≡ positionsIn self f (now (ks .entry)) ⌝ }
     {
-        if !self.sized() {
+        if !self.good_dimensions() {
             return;
         }
         let d = self.d;

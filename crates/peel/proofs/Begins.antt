@@ -7,7 +7,7 @@ use native.Mathlib.Omega.{arith}
 use lib.IntN.{ℤ}
 use Rattle.params.specs.declared.params.Params.{Params}
 use Rattle.params.specs.Lists.{from}
-use Rattle.params.specs.Params.{Sized}
+use Rattle.params.specs.Params.{Dimensions}
 use Rattle.sketch.specs.Sketch.{sketch}
 use Rattle.walk.specs.Walk.{State, firstQueue}
 use Rattle.peel.specs.Ring.{ring}
@@ -15,7 +15,7 @@ use Rattle.peel.specs.Table.{tableOf}
 use Rattle.peel.specs.Rep.{stateOf}
 
 -- there is a bucket
-pub size-some : {P : Params} → Sized P → 0 < P .d * P .m
+pub size-some : {P : Params} → Dimensions P → 0 < P .d * P .m
 size-some {P} s = omega (arith, mul-le-mul {n₁ = 2} {m₁ = 1} {n₂ = P .d} {m₂ = P .m} (s .d-low) (s .m-low))
 
 -- with an empty table, and every bucket with a count waiting, the slices stand for the first state

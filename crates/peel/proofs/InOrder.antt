@@ -9,13 +9,13 @@ use lib.Dec.{eqb, ltb, leb}
 use lib.IntN.{ℤ}
 use lib.ListN.{length}
 use Rattle.params.specs.declared.params.Params.{Params}
-use Rattle.params.specs.declared.answers.Why.{Why}
-use Rattle.params.specs.declared.answers.Why.the-variants.{Param, Length, Flow, Count, Damage, Range, Mismatch, Form}
+use Rattle.params.specs.declared.answers.Refusal.{Refusal}
+use Rattle.params.specs.declared.answers.Refusal.the-variants.{Param, Length, Flow, Count, Damage, Range, Mismatch, Form}
 use Rattle.params.specs.declared.answers.Answer.{Answer}
 use Rattle.params.specs.declared.answers.Answer.the-variants.{Done, Refused}
 use Rattle.params.specs.Lists.{least}
 use Rattle.params.specs.Answers.{numberOf, numberIn, indexIn, refuseIf, refuseAt, first}
-use Rattle.params.specs.Params.{size, goodParams, lengthsAnswer, shapeAnswer}
+use Rattle.params.specs.Params.{size, goodParams, lengthsAnswer, lentAnswer}
 use Rattle.sketch.specs.Sketch.{Sketch, damagedAt}
 use Rattle.params.proofs.InOrder.{order, firstOf, lowest-first, some, refuse-number, refuse-at-number, first-refuse, cond-either}
 use Rattle.sketch.proofs.InOrder.{wrongLength}
@@ -25,7 +25,7 @@ use Rattle.peel.specs.Peel.{peelAnswer, peeledNumber, peeledIndex, Peels
 use Rattle.peel.proofs.Promised.{number-is, index-is}
 
 -- which faults apply: flows, numbers, queue and marks are the lengths of what is lent beside the sketch
-abbrev pub peelFault : Params → Sketch → ℕ → ℕ → ℕ → ℕ → Why → Bool
+abbrev pub peelFault : Params → Sketch → ℕ → ℕ → ℕ → ℕ → Refusal → Bool
 peelFault P S flows numbers queue marks Param = not (goodParams P)
 peelFault P S flows numbers queue marks Length =
     wrongLength P S || not (eqb queue (size P) && eqb marks (size P) && eqb flows numbers && leb flows 65536)
@@ -45,7 +45,7 @@ module _ {n : ℕ} {t : ℕ → Bool} where
   done-index : Index n t Done
   done-index = record { lowest = λ e. absurd (omega arith); zero-else = λ d. refl }
 
-  refuse-index : (b : Bool) (w : Why) (next : Answer) → (numberOf w ≡ 5 → ⊥) → Index n t next → Index n t (refuseIf b w 0 next)
+  refuse-index : (b : Bool) (w : Refusal) (next : Answer) → (numberOf w ≡ 5 → ⊥) → Index n t next → Index n t (refuseIf b w 0 next)
   refuse-index true w next d h = record { lowest = λ e. absurd (d e); zero-else = λ d. refl }
   refuse-index false w next d h = h
 
@@ -60,11 +60,11 @@ module _ {n : ℕ} {t : ℕ → Bool} where
 
 module _ (P : Params) (S : Sketch) (flows numbers queue marks : ℕ) where
   judged-number : numberIn (peelAnswer P S flows numbers queue marks) ≡ firstOf order (peelFault P S flows numbers queue marks)
-  unfolding peelAnswer shapeAnswer lengthsAnswer first
+  unfolding peelAnswer lentAnswer lengthsAnswer first
   judged-number = simp (first-refuse, refuse-number, refuse-at-number, cond-either)
 
   judged-index : Index (size P) (damagedAt S) (peelAnswer P S flows numbers queue marks)
-  unfolding peelAnswer shapeAnswer lengthsAnswer refuseAt
+  unfolding peelAnswer lentAnswer lengthsAnswer refuseAt
   judged-index =
       first-index _ _
       (refuse-index (not (goodParams P)) Param _ (λ e. omega arith) (refuse-index (wrongLength P S) Length Done (λ e. omega arith) done-index))
@@ -73,7 +73,7 @@ module _ (P : Params) (S : Sketch) (flows numbers queue marks : ℕ) where
 -- h is what the contract of `peel` gives
 module _ {P : Params} {a : ℕ} {S : Sketch} {fs : List ℕ} {ns : List ℤ} {q ms : List ℕ} {r : Peeled} {S' : Sketch} {fs' : List ℕ} {ns' : List ℤ} {q' ms' : List ℕ}
     (h : Peels P a S fs ns q ms r S' fs' ns' q' ms') where
-  abbrev pub fault : Why → Bool
+  abbrev pub fault : Refusal → Bool
   fault = peelFault P S (length fs) (length ns) (length q) (length ms)
 
   -- the number of the first fault that applies, 0 where none does
@@ -81,7 +81,7 @@ module _ {P : Params} {a : ℕ} {S : Sketch} {fs : List ℕ} {ns : List ℤ} {q 
   peel-number = number-is h ∙ judged-number P S (length fs) (length ns) (length q) (length ms)
 
   -- so no fault that applies has a lower number
-  pub peel-least-number : (w : Why) → fault w ≡ true → peeledNumber r ≤ numberOf w
+  pub peel-least-number : (w : Refusal) → fault w ≡ true → peeledNumber r ≤ numberOf w
   peel-least-number w e = rw peel-number (lowest-first fault refl w e)
 
   -- with the number of Damage the index is that of the lowest damaged bucket

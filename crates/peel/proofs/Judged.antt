@@ -10,16 +10,16 @@ use lib.IntN.{ℤ, pos}
 use lib.Dec.{eqb, ltb, leb}
 use lib.ListN.{length, getD, List·getD-eq-default}
 use Rattle.params.specs.declared.params.Params.{Params}
-use Rattle.params.specs.declared.answers.Why.the-variants.{Length, Damage}
+use Rattle.params.specs.declared.answers.Refusal.the-variants.{Length, Damage}
 use Rattle.params.specs.declared.answers.Answer.{Answer}
 use Rattle.params.specs.declared.answers.Answer.the-variants.{Done, Refused}
 use Rattle.params.specs.Lists.{least}
 use Rattle.params.specs.Answers.{refuseAt}
-use Rattle.params.specs.Params.{prime, size, Sized, shapeAnswer}
+use Rattle.params.specs.Params.{prime, size, Dimensions, lentAnswer}
 use Rattle.buckets.specs.Buckets.{inLimits}
 use Rattle.sketch.specs.Sketch.{Sketch, sketch, damagedAt}
-use Rattle.params.proofs.Judging.{Refusal, first-refused, first-passed, first-done, refuse-done, refuse-at-done, refuse-found, refuse-past}
-use Rattle.params.proofs.Rules.{shape-done}
+use Rattle.params.proofs.Judging.{Refuses, first-refused, first-passed, first-done, refuse-done, refuse-at-done, refuse-found, refuse-past}
+use Rattle.params.proofs.Rules.{lent-done}
 use Rattle.params.proofs.Searches.{and-true}
 use Rattle.walk.proofs.Promises.{Whole}
 use Rattle.peel.specs.Rep.{Sound}
@@ -60,11 +60,11 @@ module _ (P : Params) (flows numbers queue marks : ℕ) where
 
   -- the stages: the sketch's shape, the other lengths, the buckets
   module _ (S : Sketch) where
-    pub ill-shaped : (r : Answer) → r ≡ shapeAnswer P (length (S .counts)) (length (S .idsums)) → Refusal r → r ≡ peelAnswer P S flows numbers queue marks
+    pub ill-shaped : (r : Answer) → r ≡ lentAnswer P (length (S .counts)) (length (S .idsums)) → Refuses r → r ≡ peelAnswer P S flows numbers queue marks
     unfolding peelAnswer
     ill-shaped r e h = first-refused r _ _ e h
 
-    module _ (shaped : shapeAnswer P (length (S .counts)) (length (S .idsums)) ≡ Done) where
+    module _ (shaped : lentAnswer P (length (S .counts)) (length (S .idsums)) ≡ Done) where
       pub ill-lent : (Lent P flows numbers queue marks → ⊥) → Refused Length 0 ≡ peelAnswer P S flows numbers queue marks
       unfolding peelAnswer
       ill-lent h = sym (first-passed _ _ shaped ∙ rw (not-lent h))
@@ -75,10 +75,10 @@ module _ (P : Params) (flows numbers queue marks : ℕ) where
 
       module _ (x : ℕ) (l : Lent P flows numbers queue marks) (e : x ≡ cond (eqb (length (S .counts)) (length (S .idsums))) (least 0 (length (S .counts)) (damagedAt S)) 0) where
         long : length (S .counts) ≡ P .d * P .m
-        long = shape-done P _ _ shaped .1
+        long = lent-done P _ _ shaped .1
 
         lowest : x ≡ least 0 (size P) (damagedAt S)
-        lowest = e ∙ rw (eq-eqb _ _ (long ∙ sym (shape-done P _ _ shaped .2)), long)
+        lowest = e ∙ rw (eq-eqb _ _ (long ∙ sym (lent-done P _ _ shaped .2)), long)
 
         pub one-damaged : x < length (S .counts) → Refused Damage x ≡ peelAnswer P S flows numbers queue marks
         one-damaged h = well-lent _ l (refuse-found (size P) x (damagedAt S) Damage Done lowest (omega (arith, long)))
@@ -101,11 +101,11 @@ module _ (n : ℕ) (cs : List ℤ) (ss : List ℕ) (long : length cs ≡ n) (lon
   idsum-within (no h) = rw (List·getD-eq-default ss 0 {n = k} (omega arith)) (omega arith)
 
 -- where nothing is refused
-passed : (P : Params) (S : Sketch) (flows numbers queue marks : ℕ) → peelAnswer P S flows numbers queue marks ≡ Done → Sized P × Whole P S × Lent P flows numbers queue marks
+passed : (P : Params) (S : Sketch) (flows numbers queue marks : ℕ) → peelAnswer P S flows numbers queue marks ≡ Done → Dimensions P × Whole P S × Lent P flows numbers queue marks
 unfolding peelAnswer
 passed P S flows numbers queue marks e =
-    let h = first-done (shapeAnswer P (length (S .counts)) (length (S .idsums))) _ e in
-    let k = shape-done P (length (S .counts)) (length (S .idsums)) (h .0) in
+    let h = first-done (lentAnswer P (length (S .counts)) (length (S .idsums))) _ e in
+    let k = lent-done P (length (S .counts)) (length (S .idsums)) (h .0) in
     let t = refuse-done (not (lent P flows numbers queue marks)) Length 0 _ (h .1) in (
       k .0,
       record { counts-long = k .1; idsums-long = k .2; undamaged = refuse-at-done (size P) (damagedAt S) Damage Done (t .1) .0 },
@@ -122,7 +122,7 @@ judged-sound P cs ss fs ns q ms e =
     let w = h .1 in
     let l = h .2 in
     record {
-      sized = h .0;
+      dimensions = h .0;
       sane = record {
         long = w .counts-long;
         long-ids = w .idsums-long;

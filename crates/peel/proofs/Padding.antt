@@ -20,8 +20,8 @@ module _ {A : Type 0} (z : A) where
   all-zeros (x ∷ l) h = ap₂ {B = List A} _∷_ (h 0) (all-zeros l (λ k. h (suc k)))
 
   -- the first n places, and z from there on
-  first-places : (l : List A) (n : ℕ) → n ≤ length l → take n l ≡ from 0 n (λ i. getD l i z)
-  first-places l n u =
+  first-positions : (l : List A) (n : ℕ) → n ≤ length l → take n l ≡ from 0 n (λ i. getD l i z)
+  first-positions l n u =
       ext-getD z _ _ (length-take-le n l u ∙ sym (length-from 0 n _))
       (λ i h. let b : i < n = rw (length-take-le n l u) at h in getD-take n l i z b ∙ sym (getD-from 0 n _ i z b ∙ ap (λ (j : ℕ). getD l j z) (omega arith)))
 
@@ -29,7 +29,7 @@ module _ {A : Type 0} (z : A) where
   unfolding padded
   zeros-padded l n u h =
       sym (take-append-drop n l)
-      ∙ ap₂ {B = List A} _++_ (first-places l n u)
+      ∙ ap₂ {B = List A} _++_ (first-positions l n u)
       (all-zeros (drop n l) (λ k. getD-drop n l k z ∙ h (n + k) (omega arith))
       ∙ ap (λ (k : ℕ). replicate k z) (length-drop n l ∙ ap (λ (k : ℕ). length l - k) (sym (length-from 0 n (λ i. getD l i z)))))
 

@@ -6,7 +6,7 @@ use native.Mathlib.Omega.{arith}
 use lib.IntN.{ℤ, pos}
 use lib.ListN.{length, replicate}
 use Rattle.params.specs.declared.params.Params.{Params}
-use Rattle.params.specs.declared.answers.Why.{Why}
+use Rattle.params.specs.declared.answers.Refusal.{Refusal}
 use Rattle.params.specs.declared.answers.Answer.{Answer}
 use Rattle.params.specs.declared.answers.Answer.the-variants.{Done, Refused}
 use Rattle.params.specs.Answers.{kept}
@@ -33,7 +33,7 @@ module _ (P : Params) (allowance : ℕ) (S : Sketch) (fs : List ℕ) (ns : List 
   abbrev listedNumbers : List ℤ
   listedNumbers = padded (length ns) (pos 0) (numbersOf (close (walked P allowance S fs ns q ms .table)))
 
-  pub not-peeled : (w : Why) (k : ℕ) → Refused w k ≡ judged P allowance S fs ns q ms → Peels P allowance S fs ns q ms (NotPeeled w k) S fs ns q ms
+  pub not-peeled : (w : Refusal) (k : ℕ) → Refused w k ≡ judged P allowance S fs ns q ms → Peels P allowance S fs ns q ms (NotPeeled w k) S fs ns q ms
   unfolding kept
   not-peeled w k e =
       record {

@@ -8,8 +8,8 @@ use native.Mathlib.Omega.{arith}
 use lib.IntN.{ℤ, pos}
 use lib.ListN.{length, getD, replicate}
 use Rattle.params.specs.declared.params.Params.{Params}
-use Rattle.params.specs.declared.answers.Why.{Why}
-use Rattle.params.specs.declared.answers.Why.the-variants.{Param, Length, Flow, Count, Damage, Range as OutOfRange, Mismatch, Form}
+use Rattle.params.specs.declared.answers.Refusal.{Refusal}
+use Rattle.params.specs.declared.answers.Refusal.the-variants.{Param, Length, Flow, Count, Damage, Range as OutOfRange, Mismatch, Form}
 use Rattle.params.specs.declared.answers.Answer.{Answer}
 use Rattle.params.specs.declared.answers.Answer.the-variants.{Done, Refused}
 use Rattle.params.specs.Answers.{numberOf, numberIn, indexIn, kept}
@@ -31,7 +31,7 @@ use Rattle.peel.proofs.Padding.{padded-past, flows-many, numbers-many, 
 use Rattle.peel.proofs.Judged.{judged-whole}
 
 -- a refusal has a number
-number-some : (w : Why) → numberOf w ≡ 0 → ⊥
+number-some : (w : Refusal) → numberOf w ≡ 0 → ⊥
 number-some Param e = omega arith
 number-some Length e = omega arith
 number-some Flow e = omega arith

@@ -7,7 +7,7 @@ use lib.IntN.{ℤ, pos, _+ℤ_, _-ℤ_}
 use lib.ListN.{getD}
 use Rattle.params.specs.declared.params.Params.{Params}
 use Rattle.params.specs.Lists.{below}
-use Rattle.params.specs.Places.{stand, Placed}
+use Rattle.params.specs.Positions.{stand, Positioned}
 use Rattle.buckets.specs.Buckets.{inLimits}
 use Rattle.sketch.specs.Sketch.{countIn}
 use Rattle.params.proofs.Searches.{all-below, below-fails}
@@ -18,7 +18,7 @@ use Rattle.walk.specs.Purity.{ruleOf}
 abbrev pub fitsAt : ℕ → List ℕ → List ℤ → ℤ → ℕ → Bool
 fitsAt m ks cs c i = inLimits (getD cs (i * m + getD ks i 0) (pos 0) -ℤ c)
 
-module _ (P : Params) (f : ℕ) (c : ℤ) (st : State) (ks : List ℕ) (p : Placed P f ks) where
+module _ (P : Params) (f : ℕ) (c : ℤ) (st : State) (ks : List ℕ) (p : Positioned P f ks) where
   same-bucket : (i : ℕ) (t : Bool) → i < P .d → fitsAt (P .m) ks (st .held .counts) c i ≡ t → inLimits (countIn (st .held) (i * P .m + stand P i f) -ℤ c) ≡ t
   same-bucket i t h e = rw (p .at i h) at e
 

@@ -15,7 +15,7 @@ use Rattle.field.proofs.Residues.{residue-below}
 use Rattle.params.specs.declared.params.Params.{Params}
 use Rattle.params.specs.Lists.{touched}
 use Rattle.params.specs.Params.{prime}
-use Rattle.params.specs.Places.{standsIn, Placed}
+use Rattle.params.specs.Positions.{standsIn, Positioned}
 use Rattle.buckets.specs.Buckets.{inLimits}
 use Rattle.sketch.specs.Sketch.{Sketch, sketch, changedIn}
 use Rattle.params.proofs.Searches.{and-true}
@@ -61,6 +61,6 @@ module _ (d m : ℕ) (ks : List ℕ) (c : ℤ) (s : ℕ) (cs : List ℤ) (ss : L
 
 -- they are the flow's
 pub applied-less : {P : Params} {f : ℕ} {ks : List ℕ} {c : ℤ} {s : ℕ} {cs : List ℤ} {ss : List ℕ} {cs' : List ℤ} {ss' : List ℕ} {left : ℕ}
-    → Placed P f ks → Applied (P .d) (P .m) ks c s cs ss cs' ss' left → sketch cs' ss' ≡ less (ruleOf P) f c s (sketch cs ss)
+    → Positioned P f ks → Applied (P .d) (P .m) ks c s cs ss cs' ss' left → sketch cs' ss' ≡ less (ruleOf P) f c s (sketch cs ss)
 unfolding less changedIn
 applied-less {P} {f} {ks} {c} {s} {cs} {ss} p a = a .after ∙ ap (λ (on : ℕ → Bool). changedIn on true c s (sketch cs ss)) (placed p)

@@ -6,7 +6,7 @@ use Prim.Native.Nat.{ℕ, _+_, _*_, _≤_, _<_}
 use native.Mathlib.Omega.{arith}
 use lib.ListN.{length, getD, set}
 use Rattle.params.specs.Lists.{touched}
-use Rattle.params.specs.Places.{standsIn}
+use Rattle.params.specs.Positions.{standsIn}
 use Rattle.params.proofs.Changes.{untouched, touch-next}
 use Rattle.params.proofs.Standing.{standing-past}
 use Rattle.sketch.proofs.Standing.{standing-next}

@@ -11,15 +11,15 @@ use lib.IntN.{ℤ, pos, _+ℤ_, +ℤ-idl}
 use lib.ListN.{length, getD}
 use Rattle.params.specs.declared.params.Params.{Params}
 use Rattle.params.specs.Lists.{from}
-use Rattle.params.specs.Params.{prime, Sized}
-use Rattle.params.specs.Places.{stand, stands, Placed}
+use Rattle.params.specs.Params.{prime, Dimensions}
+use Rattle.params.specs.Positions.{stand, stands, Positioned}
 use Rattle.buckets.specs.Buckets.{inLimits}
 use Rattle.sketch.specs.Sketch.{Sketch, Entry, sketch}
 use Rattle.walk.specs.declared.Ending.{Ending}
 use Rattle.walk.specs.declared.Ending.the-variants.{Clean, Stuck, Spent, NoInverse, Range, Full}
 use Rattle.walk.specs.declared.Found.the-variants.{Undefined, Impure, Pure}
 use Rattle.walk.specs.Walk.{State, Outcome, out, stops, goes, nothingLeft, requeue, entryOf, taken, popped, run}
-use Rattle.params.proofs.Rules.{sizes-good}
+use Rattle.params.proofs.Rules.{dimensions-good}
 use Rattle.walk.specs.Purity.{testIn, pureTest, sizedTest, ruleOf}
 use Rattle.peel.specs.Ring.{slot, ring, Popped, Requeued}
 use Rattle.peel.specs.Chains.{Chains, Chained, Relinked}
@@ -35,9 +35,9 @@ use Rattle.peel.proofs.RangeLoop.{fitsAt, leaves-count, entry-decides}
 use Rattle.peel.proofs.Taken.{applied-sane, applied-less}
 
 -- where the sizes keep their rules, the code's test is the definition's
-pub sized-test : {P : Params} (k : ℕ) (c : ℤ) (s : ℕ) → Sized P → sizedTest P k c s ≡ pureTest P k c s
+pub sized-test : {P : Params} (k : ℕ) (c : ℤ) (s : ℕ) → Dimensions P → sizedTest P k c s ≡ pureTest P k c s
 sized-test {P} k c s h =
-    let good = sizes-good h in
+    let good = dimensions-good h in
     ap (λ b. testIn prime (λ f k. b && stands P f k) k c s) good
 
 -- the ring's list where none waits, and where some do
@@ -117,7 +117,7 @@ module _ {P : Params} {slots allowance : ℕ} {goal : Outcome} {cs : List ℤ} {
           → Inv P slots allowance goal cs ss fs ns q ms' (slot (P .d * P .m) head 1) (waiting - 1) left entries (pops + 1)
       impure e = record {
         holds = record {
-          sized = v .holds .sized;
+          dimensions = v .holds .dimensions;
           sane = v .holds .sane;
           slots = v .holds .slots;
           ringed = p .ringed;
@@ -131,9 +131,9 @@ module _ {P : Params} {slots allowance : ℕ} {goal : Outcome} {cs : List ℤ} {
       }
 
       -- the take of flow f, whose places are ks
-      module _ {f : ℕ} (e : pureTest P k (getD cs k (pos 0)) (getD ss k 0) ≡ Pure f) {ks : List ℕ} (at-ks : Placed P f ks) where
+      module _ {f : ℕ} (e : pureTest P k (getD cs k (pos 0)) (getD ss k 0) ≡ Pure f) {ks : List ℕ} (at-ks : Positioned P f ks) where
         first-place : getD ks 0 0 ≡ stand P 0 f
-        first-place = at-ks .at 0 (omega (arith, v .holds .sized .d-low))
+        first-place = at-ks .at 0 (omega (arith, v .holds .dimensions .d-low))
 
         -- by its place in array 1, f can be looked up
         pub chained : Chained (P .d * P .m) fs q ms' entries f (getD ks 0 0)
@@ -179,7 +179,7 @@ module _ {P : Params} {slots allowance : ℕ} {goal : Outcome} {cs : List ℤ} {
             unfolding taken
             took {cs'} {ss'} a lf ln c {q₁} lq l r = record {
               holds = record {
-                sized = v .holds .sized;
+                dimensions = v .holds .dimensions;
                 sane = applied-sane (P .d) (P .m) ks _ _ cs ss (v .holds .sane) fits a;
                 slots = omega (arith, v .holds .slots);
                 ringed = r .ringed;

@@ -8,7 +8,7 @@ use lib.Dec.{eqb}
 use lib.ListN.{getD, length, set}
 use Rattle.field.specs.Residue.{residue}
 use Rattle.params.specs.Params.{prime}
-use Rattle.params.specs.Places.{standsIn}
+use Rattle.params.specs.Positions.{standsIn}
 use Rattle.sketch.specs.Sketch.{sketch, changedIn}
 use Rattle.buckets.specs.Buckets.{isZero, inLimits}
 

@@ -7,11 +7,11 @@ use lib.IntN.{ℤ, pos}
 use lib.Dec.{eqb, leb}
 use lib.ListN.{length, replicate}
 use Rattle.params.specs.declared.params.Params.{Params}
-use Rattle.params.specs.declared.answers.Why.the-variants.{Length, Damage}
+use Rattle.params.specs.declared.answers.Refusal.the-variants.{Length, Damage}
 use Rattle.params.specs.declared.answers.Answer.{Answer}
 use Rattle.params.specs.declared.answers.Answer.the-variants.{Done, Refused}
 use Rattle.params.specs.Answers.{numberOf, refuseIf, refuseAt, first, kept}
-use Rattle.params.specs.Params.{size, shapeAnswer}
+use Rattle.params.specs.Params.{size, lentAnswer}
 use Rattle.sketch.specs.Sketch.{Sketch, Entry, damagedAt}
 use Rattle.walk.specs.Endings.{endingNumber}
 use Rattle.walk.specs.Walk.{Outcome, walk, close, net}
@@ -23,7 +23,7 @@ use Rattle.peel.specs.declared.peeling.Peeled.the-variants.{Ended, Refus
 -- the parameters, the lengths of all that is lent (flows and numbers are the table's two slices), and damage anywhere
 unfoldable pub peelAnswer : Params → Sketch → ℕ → ℕ → ℕ → ℕ → Answer
 peelAnswer P S flows numbers queue marks =
-    first (shapeAnswer P (length (S .counts)) (length (S .idsums)))
+    first (lentAnswer P (length (S .counts)) (length (S .idsums)))
     (refuseIf (not (eqb queue (size P) && eqb marks (size P) && eqb flows numbers && leb flows 65536)) Length 0
     (refuseAt (size P) (damagedAt S) Damage
     Done))

@@ -5,8 +5,8 @@ use Prim.Native.Nat.{ℕ, _*_, _≤_}
 use lib.IntN.{ℤ, pos}
 use lib.ListN.{getD, length}
 use Rattle.params.specs.declared.params.Params.{Params}
-use Rattle.params.specs.Params.{Sized}
-use Rattle.params.specs.Places.{stand}
+use Rattle.params.specs.Params.{Dimensions}
+use Rattle.params.specs.Positions.{stand}
 use Rattle.sketch.specs.Sketch.{sketch}
 use Rattle.walk.specs.Walk.{State, Outcome, close, net as netOf}
 use Rattle.peel.specs.declared.walking.Walked.{Walked}
@@ -25,7 +25,7 @@ outcomeOf r cs ss fs ns =
 
 -- what the walk works on
 pub record Holds (P : Params) (cs : List ℤ) (ss fs : List ℕ) (ns : List ℤ) (q ms : List ℕ) (head waiting left entries : ℕ) : Type 0 where
-  pub sized : Sized P
+  pub dimensions : Dimensions P
   pub sane : Sane (P .d * P .m) cs ss
   pub slots : length ns ≡ length fs
   pub ringed : Ring (P .d * P .m) q ms head waiting
@@ -40,7 +40,7 @@ pub record Walks (o : Outcome) (slots : ℕ) (r : Walked) (cs : List ℤ) (ss fs
 
 -- what peeling works on once nothing is refused, and what it leaves
 pub record Sound (P : Params) (cs : List ℤ) (ss fs : List ℕ) (ns : List ℤ) (q ms : List ℕ) : Type 0 where
-  pub sized : Sized P
+  pub dimensions : Dimensions P
   pub sane : Sane (P .d * P .m) cs ss
   pub slots : length ns ≡ length fs
   pub few-slots : length fs ≤ 65536

@@ -12,7 +12,7 @@ use crate::walking::walk_whole;
 use buckets::first_damaged;
 use params::Answer;
 use params::Params;
-use params::Why;
+use params::Refusal;
 use walk::Ending;
 
 // What a walk found: its ending, the entries left in the table, the sum of their counts, and the pops made.
@@ -25,7 +25,7 @@ pub struct Figures {
 
 pub enum Peeled {
     Ended(Figures),
-    Refused(Why, usize),
+    Refused(Refusal, usize),
 }
 
 // The answer, which alters nothing.
@@ -40,25 +40,25 @@ fn judge(
 ) -> Answer
     ensures { λ r. ⌜ r ≡ peelAnswer p (sketch (now (counts .entry)) (now (idsums .entry))) flows numbers queue marks ⌝ }
 {
-    let r = p.shape(counts.len(), idsums.len());
+    let r = p.judge_lent(counts.len(), idsums.len());
     let Answer::Done = r else {
         return r;
     };
     if queue != counts.len() {
-        return Answer::Refused(Why::Length, 0);
+        return Answer::Refused(Refusal::Length, 0);
     }
     if marks != counts.len() {
-        return Answer::Refused(Why::Length, 0);
+        return Answer::Refused(Refusal::Length, 0);
     }
     if flows != numbers {
-        return Answer::Refused(Why::Length, 0);
+        return Answer::Refused(Refusal::Length, 0);
     }
     if 65536 < flows {
-        return Answer::Refused(Why::Length, 0);
+        return Answer::Refused(Refusal::Length, 0);
     }
     let x = first_damaged(counts, idsums);
     if x < counts.len() {
-        return Answer::Refused(Why::Damage, x);
+        return Answer::Refused(Refusal::Damage, x);
     }
     Answer::Done
 }
@@ -116,7 +116,7 @@ pub fn peel(
         marks.len(),
     );
     match judged {
-        Answer::Refused(why, index) => Peeled::Refused(why, index),
+        Answer::Refused(refusal, index) => Peeled::Refused(refusal, index),
         Answer::Done => Peeled::Ended(unravel(
             p,
             counts,

@@ -3,7 +3,7 @@
 ghost use mathlib.Core.Path.{_≡_};
 ghost use Prim.Native.Nat.{_+_, _*_, _<_, _≤_};
 ghost use lib.ListN.{length};
-ghost use Rattle.params.specs.Places.{Reached};
+ghost use Rattle.params.specs.Positions.{WithinArrays};
 ghost use Rattle.peel.specs.Ring.{slot, Ring, Popped, Joined, Requeued, Started, Cleared};
 
 // The place i steps after head in a ring of n.
@@ -49,7 +49,7 @@ pub(crate) fn requeue(
     head: usize,
     first: usize,
 ) -> usize
-    requires { ⌜ Reached d m (now ks) (length (now counts)) (length (now counts)) × Ring (d * m) (now queue) (now marks) head first ⌝ }
+    requires { ⌜ WithinArrays d m (now ks) (length (now counts)) (length (now counts)) × Ring (d * m) (now queue) (now marks) head first ⌝ }
     ensures { λ r. ⌜ Requeued d m (now (ks .entry)) (now (counts .entry)) (now (queue .entry)) (now (marks .entry)) head first (now (queue .exit)) (now (marks .exit)) r ⌝ }
 {
     let mut waiting = first;

@@ -5,18 +5,18 @@ ghost use Prim.Native.Nat.{ℕ, _+_, _*_, _<_};
 ghost use lib.IntN.{pos, _-ℤ_};
 ghost use lib.ListN.{length, getD};
 ghost use Rattle.params.specs.Params.{prime};
-ghost use Rattle.params.specs.Places.{Reached};
+ghost use Rattle.params.specs.Positions.{WithinArrays};
 ghost use Rattle.buckets.specs.Buckets.{inLimits, plusMinus};
 ghost use Rattle.peel.specs.Dirt.{some, dirty, Takes, Took, Applied};
-use buckets::moved;
+use buckets::plus_minus;
 use buckets::within;
-use buckets::wound;
+use buckets::idsum_plus_minus;
 
 // x more c, or x less c, keeps within the limits.
 pub(crate) fn fits(minus: bool, x: i32, c: i32) -> bool
     ensures { λ r. ⌜ r ≡ inLimits (plusMinus minus x c) ⌝ }
 {
-    within(moved(minus, x, c))
+    within(plus_minus(minus, x, c))
 }
 
 // 1 where a bucket is not all zero.
@@ -53,7 +53,7 @@ fn take_one(counts: &mut [i32], idsums: &mut [u32], j: usize, c: i32, s: u32, di
     let x = counts[j];
     let y = idsums[j];
     let v = x - c;
-    let w = wound(true, y, s);
+    let w = idsum_plus_minus(true, y, s);
     counts[j] = v;
     idsums[j] = w;
     dirt + some_left(v, w) - some_left(x, y)
@@ -70,7 +70,7 @@ pub(crate) fn apply(
     s: u32,
     dirt: usize,
 ) -> usize
-    requires { ⌜ Reached d m (now ks) (length (now counts)) (length (now idsums)) × (dirt ≡ dirty (now counts) (now idsums)) ⌝ }
+    requires { ⌜ WithinArrays d m (now ks) (length (now counts)) (length (now idsums)) × (dirt ≡ dirty (now counts) (now idsums)) ⌝ }
     requires { ⌜ ((i : ℕ) → i < d → inLimits (getD (now counts) (i * m + getD (now ks) i 0) (pos 0) -ℤ c) ≡ true) ⌝ }
     requires { ⌜ ((i : ℕ) → i < d → getD (now idsums) (i * m + getD (now ks) i 0) 0 < prime) × (s < prime) ⌝ }
     ensures { λ r. ⌜ Applied d m (now (ks .entry)) c s (now (counts .entry)) (now (idsums .entry)) (now (counts .exit)) (now (idsums .exit)) r ⌝ }

@@ -74,7 +74,7 @@ fn walk(
             }
             Found::Impure => {}
             Found::Pure(f) => {
-                p.places(f, &mut ks);
+                p.positions(f, &mut ks);
                 let mut i = 0;
                 while i < d {
                     let j = i * m + ks[i];

@@ -23,7 +23,7 @@ fn main() {
     let told = headed.answer;
     let p = headed.params;
     match told {
-        Answer::Refused(why, at) => output::refusal(why, at),
+        Answer::Refused(refusal, at) => output::refusal(refusal, at),
         Answer::Done => two_sketches(p, &mut buf, got),
     }
 }
@@ -62,7 +62,7 @@ fn compare(
     let s = input::read(p, up_counts, up_idsums, down_counts, down_idsums, buf, got);
     let told = finish(s);
     match told {
-        Answer::Refused(why, at) => output::refusal(why, at),
+        Answer::Refused(refusal, at) => output::refusal(refusal, at),
         Answer::Done => a_table(p, up_counts, up_idsums, down_counts, down_idsums),
     }
 }
@@ -121,7 +121,7 @@ fn print(
     );
     match settled {
         // no input leads here: the sketches hold no damage, and their difference does not leave the range
-        Peeled::Refused(why, _) => output::refusal(why, 0),
+        Peeled::Refused(refusal, _) => output::refusal(refusal, 0),
         Peeled::Ended(figures) => output::report(flows, numbers, up_counts, up_idsums, figures),
     }
 }

@@ -1,15 +1,15 @@
 // The output: all lines in one buffer, written out at once.
 use crate::MOST;
-use params::Why;
+use params::Refusal;
 use peel::peeling::Figures;
 
 // Room for a line of 64 bytes for each entry, each bucket and the end; no line is longer.
 const ROOM: usize = 64 * (2 * MOST + 1);
 
 // The one line of a refusal.
-pub(crate) fn refusal(why: Why, at: usize) {
+pub(crate) fn refusal(refusal: Refusal, at: usize) {
     let mut out = [0u8; 64];
-    let n = lines::lines::refused(&mut out, why, at);
+    let n = lines::lines::refused(&mut out, refusal, at);
     write_front(&out, n);
 }
 

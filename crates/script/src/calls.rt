@@ -16,8 +16,8 @@ pub(crate) fn call(
     given: &[u8],
     counts: &mut [i32],
     idsums: &mut [u32],
-    others: &[i32],
-    weights: &[u32],
+    other_counts: &[i32],
+    other_idsums: &[u32],
     packet_flows: &[u32],
     packet_numbers: &[u32],
 ) -> Answer {
@@ -31,9 +31,9 @@ pub(crate) fn call(
         return packets::insert_all(p, counts, idsums, packet_flows, packet_numbers);
     }
     if name == commands::ADD {
-        return sums::add(p, q, counts, idsums, others, weights);
+        return sums::add(p, q, counts, idsums, other_counts, other_idsums);
     }
-    sums::subtract(p, q, counts, idsums, others, weights)
+    sums::subtract(p, q, counts, idsums, other_counts, other_idsums)
 }
 
 pub(crate) fn peel(

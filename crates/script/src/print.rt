@@ -3,8 +3,8 @@ use crate::commands;
 use crate::commands::Next;
 use files::writing::Written;
 use params::Answer;
-use params::Spot;
-use params::Why;
+use params::Located;
+use params::Refusal;
 use peel::peeling::Peeled;
 
 pub(crate) fn text(words: &[u8]) {
@@ -52,26 +52,26 @@ pub(crate) fn done() {
     text(b"done\n");
 }
 
-fn refused(why: Why, index: usize) {
+fn refused(refusal: Refusal, index: usize) {
     let mut out = [0u8; 64];
-    let n = lines::lines::refused(&mut out, why, index);
+    let n = lines::lines::refused(&mut out, refusal, index);
     line(&out, n);
 }
 
 pub(crate) fn answer(told: Answer) {
     match told {
         Answer::Done => done(),
-        Answer::Refused(why, index) => refused(why, index),
+        Answer::Refused(refusal, index) => refused(refusal, index),
     }
 }
 
-pub(crate) fn spot(told: Spot) {
+pub(crate) fn stand(told: Located) {
     match told {
-        Spot::At(place) => {
+        Located::At(place) => {
             number(place);
             text(b"\n");
         }
-        Spot::Refused(why, index) => refused(why, index),
+        Located::Refused(refusal, index) => refused(refusal, index),
     }
 }
 
@@ -83,8 +83,8 @@ pub(crate) fn written(told: Written, before: usize) -> usize {
             text(b" bytes\n");
             n
         }
-        Written::Refused(why, index) => {
-            refused(why, index);
+        Written::Refused(refusal, index) => {
+            refused(refusal, index);
             before
         }
     }
@@ -101,7 +101,7 @@ pub(crate) fn peeled(told: Peeled) {
             let n = lines::lines::end(&mut out, ending, figures.pops, figures.net);
             line(&out, n);
         }
-        Peeled::Refused(why, index) => refused(why, index),
+        Peeled::Refused(refusal, index) => refused(refusal, index),
     }
 }
 

@@ -14,7 +14,7 @@ use Rattle.field.proofs.Parts.{int, up, down, up-down-add, up-neg, down-neg, ab
 use Rattle.field.proofs.Residues.{residue-below}
 use Rattle.params.specs.declared.params.Params.{Params}
 use Rattle.params.specs.declared.answers.Answer.the-variants.{Done}
-use Rattle.params.specs.declared.answers.Why.the-variants.{Damage, Range}
+use Rattle.params.specs.declared.answers.Refusal.the-variants.{Damage, Range}
 use Rattle.params.specs.Lists.{mapFrom}
 use Rattle.params.specs.Answers.{first}
 use Rattle.params.specs.Params.{prime, size, goodParams, lengthsAnswer}
@@ -25,7 +25,7 @@ use Rattle.buckets.specs.Buckets.{inLimits}
 use Rattle.sketch.specs.Sketch.{Sketch, countIn, idsumIn, damagedAt}
 use Rattle.buckets.proofs.Idsums.{prime-pos}
 use Rattle.buckets.proofs.Limits.{limits-size, whole, whole-back}
-use Rattle.sums.specs.Sums.{shapesAnswer, eitherDamaged, leaves, bucketsAnswer, combineAnswer, combined}
+use Rattle.sums.specs.Sums.{bothLentAnswer, eitherDamaged, leaves, bucketsAnswer, combineAnswer, combined}
 use Rattle.sums.proofs.TwoSketches.{combine-done}
 use Rattle.walk.proofs.Promises.{Whole}
 
@@ -64,9 +64,9 @@ unfolding leaves
 never-range S T k h j l m = ap not (less-within (countIn S k) (countIn T k) h j l m)
 
 -- with the right lengths nothing is wrong with the shapes
-shapes-good : (P : Params) (c s e t : ℕ) → goodParams P ≡ true → c ≡ size P → s ≡ size P → e ≡ size P → t ≡ size P → shapesAnswer P P c s e t ≡ Done
-unfolding shapesAnswer lengthsAnswer first
-shapes-good P c s e t good h k l m =
+both-lent-good : (P : Params) (c s e t : ℕ) → goodParams P ≡ true → c ≡ size P → s ≡ size P → e ≡ size P → t ≡ size P → bothLentAnswer P P c s e t ≡ Done
+unfolding bothLentAnswer lengthsAnswer first
+both-lent-good P c s e t good h k l m =
     rw (good, same-itself P, eq-eqb c (size P) h, eq-eqb s (size P) k, eq-eqb e (size P) l, eq-eqb t (size P) m)
 
 -- so with good parameters, of whole sketches in which no count is below 0, nothing is refused
@@ -74,7 +74,7 @@ module _ (P : Params) (S T : Sketch) (good : goodParams P ≡ true) (v : Whole P
   pub never-refused : ((k : ℕ) → pos 0 ≤ℤ countIn S k) → ((k : ℕ) → pos 0 ≤ℤ countIn T k) → combineAnswer true P P S T ≡ Done
   unfolding combineAnswer bucketsAnswer eitherDamaged
   never-refused h j =
-      first-passed _ _ (shapes-good P _ _ _ _ good (v .counts-long) (v .idsums-long) (w .counts-long) (w .idsums-long))
+      first-passed _ _ (both-lent-good P _ _ _ _ good (v .counts-long) (v .idsums-long) (w .counts-long) (w .idsums-long))
       ∙ refuse-none (length (S .counts)) (eitherDamaged S T) Damage _ (λ k l. rw (undamaged v k l, undamaged w k l))
       ∙ refuse-none (length (S .counts)) (leaves true (S .counts) (T .counts)) Range Done
       (λ k l. never-range S T k (h k) (j k) (whole _ (idsumIn S k) (undamaged v k l) .0) (whole _ (idsumIn T k) (undamaged w k l) .0))

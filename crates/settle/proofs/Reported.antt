@@ -25,7 +25,7 @@ use Rattle.lines.specs.Lines.{lossLine, endLine}
 use Rattle.lines.specs.Reports.{lossLines, leftLines, entryLines, reportText, walkText, reportFits}
 use Rattle.lines.proofs.Reporting.{losses-first, losses-none}
 use Rattle.params.proofs.Judging.{kept-new}
-use Rattle.params.proofs.Rules.{good-sized, sized-small}
+use Rattle.params.proofs.Rules.{good-dimensions, dimensions-small}
 use Rattle.streamfile.specs.Streams.{StreamRead}
 use Rattle.streamfile.proofs.FreshStreams.{fresh-grown}
 use Rattle.desk.specs.declared.states.Fed.{Fed}
@@ -92,7 +92,7 @@ module _ {P : Params} {input text : List ℕ} (r : Reported P input text) where
   difference = combined true (r .up) (r .down)
 
   small : size P ≤ 65536
-  small = sized-small (good-sized P (fresh-grown (streams .first-read) .good))
+  small = dimensions-small (good-dimensions P (fresh-grown (streams .first-read) .good))
 
   abbrev told : Answer
   told = settleJudged P (r .up) (r .down) (r .flows) (r .numbers) (r .queue) (r .marks)

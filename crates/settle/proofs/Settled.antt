@@ -8,63 +8,63 @@ use lib.IntN.{ℤ}
 use lib.Dec.{eqb, leb}
 use lib.ListN.{length}
 use Rattle.params.specs.declared.params.Params.{Params}
-use Rattle.params.specs.declared.answers.Why.{Why}
-use Rattle.params.specs.declared.answers.Why.the-variants.{Length, Damage}
+use Rattle.params.specs.declared.answers.Refusal.{Refusal}
+use Rattle.params.specs.declared.answers.Refusal.the-variants.{Length, Damage}
 use Rattle.params.specs.declared.answers.Answer.{Answer}
 use Rattle.params.specs.declared.answers.Answer.the-variants.{Done, Refused}
 use Rattle.params.specs.Answers.{kept}
-use Rattle.params.specs.Params.{size, Sized, shapeAnswer}
-use Rattle.params.proofs.Judging.{Refusal, first-refused, first-passed, first-done, kept-new, refuse-none}
-use Rattle.params.proofs.Rules.{sized-small, shape-done}
+use Rattle.params.specs.Params.{size, Dimensions, lentAnswer}
+use Rattle.params.proofs.Judging.{Refuses, first-refused, first-passed, first-done, kept-new, refuse-none}
+use Rattle.params.proofs.Rules.{dimensions-small, lent-done}
 use Rattle.sketch.specs.Sketch.{Sketch, damagedAt}
 use Rattle.sums.specs.Sums.{combineAnswer, combined}
 use Rattle.walk.specs.Walk.{Outcome}
 use Rattle.peel.specs.declared.peeling.Peeled.{Peeled}
 use Rattle.peel.specs.declared.peeling.Peeled.the-variants.{Refused as NotPeeled}
 use Rattle.peel.specs.Peel.{peelAnswer, peeledOf, Peels}
-use Rattle.settle.specs.Settling.{lentAnswer, settleAnswer, settleJudged, settleWalked, Settles}
+use Rattle.settle.specs.Settling.{walkLentAnswer, settleAnswer, settleJudged, settleWalked, Settles}
 use Rattle.settle.proofs.Differences.{combined-long, combined-undamaged}
 
 module _ (P : Params) (c s flows numbers queue marks : ℕ) where
   abbrev answer : Answer
-  answer = lentAnswer P c s flows numbers queue marks
+  answer = walkLentAnswer P c s flows numbers queue marks
 
   abbrev fitting : Bool
   fitting = eqb queue (size P) && eqb marks (size P) && eqb flows numbers && leb flows 65536
 
   -- the stages of the lengths: the shape of the first sketch, then all that is lent beside it
-  pub ill-shaped : (r : Answer) → r ≡ shapeAnswer P c s → Refusal r → r ≡ answer
-  unfolding lentAnswer
+  pub ill-shaped : (r : Answer) → r ≡ lentAnswer P c s → Refuses r → r ≡ answer
+  unfolding walkLentAnswer
   ill-shaped r e h = first-refused r _ _ e h
 
-  module _ (shaped : shapeAnswer P c s ≡ Done) where
+  module _ (shaped : lentAnswer P c s ≡ Done) where
     pub ill-lent : fitting ≡ false → Refused Length 0 ≡ answer
-    unfolding lentAnswer
+    unfolding walkLentAnswer
     ill-lent e = sym (first-passed _ _ shaped ∙ rw e)
 
     pub well-lent : fitting ≡ true → Done ≡ answer
-    unfolding lentAnswer
+    unfolding walkLentAnswer
     well-lent e = sym (first-passed _ _ shaped ∙ rw e)
 
-  lent-shaped : answer ≡ Done → Sized P × (c ≡ size P) × (s ≡ size P)
-  unfolding lentAnswer
-  lent-shaped e = shape-done P c s (first-done (shapeAnswer P c s) _ e .0)
+  lent-shaped : answer ≡ Done → Dimensions P × (c ≡ size P) × (s ≡ size P)
+  unfolding walkLentAnswer
+  lent-shaped e = lent-done P c s (first-done (lentAnswer P c s) _ e .0)
 
 -- a sketch that is undamaged is refused for its lengths alone
 undamaged-peels : (P : Params) (D : Sketch) (flows numbers queue marks : ℕ) → ((k : ℕ) → k < size P → damagedAt D k ≡ false)
-    → peelAnswer P D flows numbers queue marks ≡ lentAnswer P (length (D .counts)) (length (D .idsums)) flows numbers queue marks
-unfolding peelAnswer lentAnswer
+    → peelAnswer P D flows numbers queue marks ≡ walkLentAnswer P (length (D .counts)) (length (D .idsums)) flows numbers queue marks
+unfolding peelAnswer walkLentAnswer
 undamaged-peels P D flows numbers queue marks none = rw (refuse-none (size P) (damagedAt D) Damage Done none)
 
 module _ (P : Params) (S T : Sketch) (flows numbers queue marks : ℕ) where
   abbrev lengths : Answer
-  lengths = lentAnswer P (length (S .counts)) (length (S .idsums)) flows numbers queue marks
+  lengths = walkLentAnswer P (length (S .counts)) (length (S .idsums)) flows numbers queue marks
 
   abbrev settling : Answer
   settling = settleAnswer P S T flows numbers queue marks
 
   -- the stages of settling: the lengths, then the difference
-  pub not-lent : (r : Answer) → r ≡ lengths → Refusal r → r ≡ settling
+  pub not-lent : (r : Answer) → r ≡ lengths → Refuses r → r ≡ settling
   unfolding settleAnswer
   not-lent r e h = first-refused r _ _ e h
 
@@ -79,17 +79,17 @@ module _ (P : Params) (S T : Sketch) (flows numbers queue marks : ℕ) where
     both = first-done _ _ done
 
     pub settled-small : size P ≤ 65536
-    settled-small = sized-small (lent-shaped P _ _ flows numbers queue marks (both .0) .0)
+    settled-small = dimensions-small (lent-shaped P _ _ flows numbers queue marks (both .0) .0)
 
     settled-peels : peelAnswer P (combined true S T) flows numbers queue marks ≡ Done
     settled-peels =
         let long = lent-shaped P _ _ flows numbers queue marks (both .0) .1 in
         undamaged-peels P (combined true S T) flows numbers queue marks (λ k l. combined-undamaged true S T P P (both .1) k (omega (arith, long)))
-        ∙ ap₂ (λ (c s : ℕ). lentAnswer P c s flows numbers queue marks) (combined-long true S T .0) (combined-long true S T .1)
+        ∙ ap₂ (λ (c s : ℕ). walkLentAnswer P c s flows numbers queue marks) (combined-long true S T .0) (combined-long true S T .1)
         ∙ both .0
 
 -- what two answers keep: the old value where one is a refusal, the same new one where both are Done
-kept-refused : {A : Type 0} {w : Why} {k : ℕ} (r : Answer) (old new : A) → Refused w k ≡ r → old ≡ kept r old new
+kept-refused : {A : Type 0} {w : Refusal} {k : ℕ} (r : Answer) (old new : A) → Refused w k ≡ r → old ≡ kept r old new
 unfolding kept
 kept-refused r old new e = rw (← e)
 
@@ -105,7 +105,7 @@ module _ (P : Params) (S T : Sketch) (fs : List ℕ) (ns : List ℤ) (q ms : Lis
 
   -- r is the answer of the difference, and D what it left of S
   module _ (r : Answer) (D : Sketch) (e : r ≡ told) (l : D ≡ kept r S (combined true S T)) where
-    pub not-settled : (w : Why) (k : ℕ) → r ≡ Refused w k → Settles P S T fs ns q ms (NotPeeled w k) D fs ns q ms
+    pub not-settled : (w : Refusal) (k : ℕ) → r ≡ Refused w k → Settles P S T fs ns q ms (NotPeeled w k) D fs ns q ms
     not-settled w k h =
         let refused : Refused w k ≡ told = sym h ∙ e in
         record {

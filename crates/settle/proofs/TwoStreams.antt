@@ -9,7 +9,7 @@ use lib.IntN.{ℤ, pos, _-ℤ_}
 use lib.ListN.{length, length-replicate}
 use Rattle.params.specs.declared.params.Params.{Params}
 use Rattle.params.specs.declared.answers.Answer.the-variants.{Done}
-use Rattle.params.specs.Params.{size, goodParams, lengthsAnswer, shapeAnswer}
+use Rattle.params.specs.Params.{size, goodParams, lengthsAnswer, lentAnswer}
 use Rattle.params.specs.Answers.{kept}
 use Rattle.sketch.specs.Sketch.{Sketch, Entry, zeros, Freshened}
 use Rattle.sketch.specs.Packets.{entriesOf}
@@ -28,9 +28,9 @@ grown-whole : {P : Params} {S : Sketch} → Grown P S → Whole P S
 grown-whole g = record { counts-long = g .counts-long; idsums-long = g .idsums-long; undamaged = g .undamaged }
 
 -- nothing is wrong with the shape of a sketch of the right lengths, nor with what is lent beside it
-shape-good : (P : Params) (c s : ℕ) → goodParams P ≡ true → c ≡ size P → s ≡ size P → shapeAnswer P c s ≡ Done
-unfolding shapeAnswer lengthsAnswer
-shape-good P c s good h k = rw (good, eq-eqb c (size P) h, eq-eqb s (size P) k)
+lent-good : (P : Params) (c s : ℕ) → goodParams P ≡ true → c ≡ size P → s ≡ size P → lentAnswer P c s ≡ Done
+unfolding lentAnswer lengthsAnswer
+lent-good P c s good h k = rw (good, eq-eqb c (size P) h, eq-eqb s (size P) k)
 
 lent-fits : (N flows numbers queue marks : ℕ) → flows ≡ numbers → flows ≤ 65536 → queue ≡ N → marks ≡ N
     → (eqb queue N && eqb marks N && eqb flows numbers && leb flows 65536) ≡ true
@@ -50,7 +50,7 @@ module _ {P : Params} {a b : List ℕ} {S T : Sketch} (up : StreamRead P a (zero
       → settleAnswer P S T flows numbers queue marks ≡ Done
   streams-settle flows numbers queue marks e l h k =
       let s = fresh-grown up in
-      let shaped = shape-good P (length (S .counts)) (length (S .idsums)) (s .good) (s .counts-long) (s .idsums-long) in
+      let shaped = lent-good P (length (S .counts)) (length (S .idsums)) (s .good) (s .counts-long) (s .idsums-long) in
       let lent = well-lent P (length (S .counts)) (length (S .idsums)) flows numbers queue marks shaped (lent-fits (size P) flows numbers queue marks e l h k) in
       sym (lent-first P S T flows numbers queue marks Done (sym lent) (sym streams-subtract))
 
@@ -66,7 +66,7 @@ fresh-history : {P : Params} {bs : List ℕ} {S : Sketch} → StreamRead P bs (z
 unfolding kept zeros
 fresh-history {P} r =
     let good = fresh-grown r .good in
-    let fresh : Freshened P (zeros P) Done (zeros P) = record { answer = sym (shape-good P _ _ good (length-replicate (size P) (pos 0)) (length-replicate {A = ℕ} (size P) 0)); after = refl } in
+    let fresh : Freshened P (zeros P) Done (zeros P) = record { answer = sym (lent-good P _ _ good (length-replicate (size P) (pos 0)) (length-replicate {A = ℕ} (size P) 0)); after = refl } in
     reading-on (freshly {S = zeros P} fresh) r
 
 -- the difference is settled by the parameters and by how many packets of each flow were lost

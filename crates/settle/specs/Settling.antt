@@ -7,11 +7,11 @@ use lib.IntN.{ℤ, pos}
 use lib.Dec.{eqb, leb}
 use lib.ListN.{length, replicate}
 use Rattle.params.specs.declared.params.Params.{Params}
-use Rattle.params.specs.declared.answers.Why.the-variants.{Length}
+use Rattle.params.specs.declared.answers.Refusal.the-variants.{Length}
 use Rattle.params.specs.declared.answers.Answer.{Answer}
 use Rattle.params.specs.declared.answers.Answer.the-variants.{Done}
 use Rattle.params.specs.Answers.{refuseIf, first, kept}
-use Rattle.params.specs.Params.{size, shapeAnswer}
+use Rattle.params.specs.Params.{size, lentAnswer}
 use Rattle.sketch.specs.Sketch.{Sketch}
 use Rattle.sums.specs.Sums.{combineAnswer, combined}
 use Rattle.walk.specs.Walk.{Outcome, walk, close}
@@ -20,16 +20,16 @@ use Rattle.peel.specs.declared.peeling.Peeled.{Peeled}
 use Rattle.peel.specs.Peel.{peeledOf, flowsOf, numbersOf, padded}
 
 -- the parameters and the lengths of all that is lent: c and s are those of the first sketch's counts and idsums
-unfoldable pub lentAnswer : Params → ℕ → ℕ → ℕ → ℕ → ℕ → ℕ → Answer
-lentAnswer P c s flows numbers queue marks =
-    first (shapeAnswer P c s)
+unfoldable pub walkLentAnswer : Params → ℕ → ℕ → ℕ → ℕ → ℕ → ℕ → Answer
+walkLentAnswer P c s flows numbers queue marks =
+    first (lentAnswer P c s)
     (refuseIf (not (eqb queue (size P) && eqb marks (size P) && eqb flows numbers && leb flows 65536)) Length 0
     Done)
 
 -- then what the difference answers
 unfoldable pub settleAnswer : Params → Sketch → Sketch → ℕ → ℕ → ℕ → ℕ → Answer
 settleAnswer P S T flows numbers queue marks =
-    first (lentAnswer P (length (S .counts)) (length (S .idsums)) flows numbers queue marks)
+    first (walkLentAnswer P (length (S .counts)) (length (S .idsums)) flows numbers queue marks)
     (combineAnswer true P P S T)
 
 -- S and T are the two sketches, fs, ns, q and ms the table's slices, the queue and the marks before; with a tick, after. The walk

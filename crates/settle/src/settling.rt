@@ -4,10 +4,10 @@ ghost use mathlib.Core.Bool.{true};
 ghost use Rattle.params.specs.Answers.{kept};
 ghost use Rattle.sketch.specs.Sketch.{sketch};
 ghost use Rattle.sums.specs.Sums.{combined};
-ghost use Rattle.settle.specs.Settling.{lentAnswer, settleAnswer, Settles};
+ghost use Rattle.settle.specs.Settling.{walkLentAnswer, settleAnswer, Settles};
 use params::Answer;
 use params::Params;
-use params::Why;
+use params::Refusal;
 use peel::peeling::Peeled;
 use peel::peeling::peel;
 use sums::subtract;
@@ -22,23 +22,23 @@ fn lent(
     queue: usize,
     marks: usize,
 ) -> Answer
-    ensures { λ r. ⌜ r ≡ lentAnswer p counts idsums flows numbers queue marks ⌝ }
+    ensures { λ r. ⌜ r ≡ walkLentAnswer p counts idsums flows numbers queue marks ⌝ }
 {
-    let r = p.shape(counts, idsums);
+    let r = p.judge_lent(counts, idsums);
     let Answer::Done = r else {
         return r;
     };
     if queue != counts {
-        return Answer::Refused(Why::Length, 0);
+        return Answer::Refused(Refusal::Length, 0);
     }
     if marks != counts {
-        return Answer::Refused(Why::Length, 0);
+        return Answer::Refused(Refusal::Length, 0);
     }
     if flows != numbers {
-        return Answer::Refused(Why::Length, 0);
+        return Answer::Refused(Refusal::Length, 0);
     }
     if 65536 < flows {
-        return Answer::Refused(Why::Length, 0);
+        return Answer::Refused(Refusal::Length, 0);
     }
     Answer::Done
 }
@@ -100,7 +100,7 @@ pub fn settle(
         marks.len(),
     );
     match judged {
-        Answer::Refused(why, index) => Peeled::Refused(why, index),
+        Answer::Refused(refusal, index) => Peeled::Refused(refusal, index),
         Answer::Done => peel(
             p,
             up_counts,

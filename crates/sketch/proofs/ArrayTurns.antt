@@ -7,7 +7,7 @@ use native.Mathlib.Omega.{arith}
 use lib.ListN.{length, getD, set, take, drop}
 use borrow.Rule.Slice.PartMut.{putMid}
 use Rattle.params.specs.Lists.{touched}
-use Rattle.params.specs.Places.{standsIn}
+use Rattle.params.specs.Positions.{standsIn}
 use Rattle.params.proofs.Changes.{length-touched, touched-none}
 use Rattle.params.proofs.Standing.{standing-past}
 use Rattle.sketch.proofs.LentParts.{part-long, part-old, part-next}

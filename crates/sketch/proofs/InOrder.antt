@@ -7,24 +7,24 @@ use lib.Dec.{eqb, ltb, leb}
 use lib.IntN.{pos}
 use lib.ListN.{length}
 use Rattle.params.specs.declared.params.Params.{Params}
-use Rattle.params.specs.declared.answers.Why.{Why}
-use Rattle.params.specs.declared.answers.Why.the-variants.{Param, Length, Flow, Count, Damage, Range, Mismatch, Form}
+use Rattle.params.specs.declared.answers.Refusal.{Refusal}
+use Rattle.params.specs.declared.answers.Refusal.the-variants.{Param, Length, Flow, Count, Damage, Range, Mismatch, Form}
 use Rattle.params.specs.declared.answers.Answer.the-variants.{Done}
 use Rattle.params.specs.Answers.{numberOf, numberIn, first}
-use Rattle.params.specs.Params.{prime, isFlow, size, goodSizes, goodParams, lengthsAnswer, sizesAnswer}
-use Rattle.params.specs.Places.{stands}
+use Rattle.params.specs.Params.{prime, isFlow, size, goodDimensions, goodParams, lengthsAnswer, dimensionsAnswer}
+use Rattle.params.specs.Positions.{stands}
 use Rattle.sketch.specs.Arrays.{arrayAnswer}
-use Rattle.sketch.specs.Sketch.{Sketch, damagedIn, leavesIn, standingAnswer}
+use Rattle.sketch.specs.Sketch.{Sketch, damagedIn, leavesIn, flowBucketsAnswer}
 use Rattle.sketch.specs.Packets.{packetAnswer, entryAnswer, stepAnswer, moveAnswer, packetsAnswer, allAnswer, changed}
-use Rattle.params.proofs.Rules.{good-sizes}
-use Rattle.params.proofs.InOrder.{order, firstOf, lowest-first, some, refuse-number, refuse-at-number, first-refuse, cond-within, early, IndexZero, done-index, refuse-index, first-index, buckets-index, lengths-index, shape-index}
+use Rattle.params.proofs.Rules.{good-has-dimensions}
+use Rattle.params.proofs.InOrder.{order, firstOf, lowest-first, some, refuse-number, refuse-at-number, first-refuse, cond-within, early, IndexZero, done-index, refuse-index, first-index, buckets-index, lengths-index, lent-index}
 
 -- a slice of the sketch has a length other than stated
 abbrev pub wrongLength : Params → Sketch → Bool
 wrongLength P S = not (eqb (length (S .counts)) (size P) && eqb (length (S .idsums)) (size P))
 
 -- inserting n packets of flow f, or withdrawing them where `minus` holds: which faults apply
-abbrev pub moveFault : Params → Bool → ℕ → ℕ → Sketch → Why → Bool
+abbrev pub moveFault : Params → Bool → ℕ → ℕ → Sketch → Refusal → Bool
 moveFault P minus f n S Param = not (goodParams P)
 moveFault P minus f n S Length = wrongLength P S
 moveFault P minus f n S Flow = not (isFlow P f)
@@ -35,16 +35,16 @@ moveFault P minus f n S Mismatch = false
 moveFault P minus f n S Form = false
 
 pub move-number : (P : Params) (minus : Bool) (f n : ℕ) (S : Sketch) → numberIn (moveAnswer P minus f n S) ≡ firstOf order (moveFault P minus f n S)
-unfolding moveAnswer stepAnswer entryAnswer sizesAnswer lengthsAnswer packetAnswer standingAnswer first
+unfolding moveAnswer stepAnswer entryAnswer dimensionsAnswer lengthsAnswer packetAnswer flowBucketsAnswer first
 move-number P minus f n S =
-    simp (first-refuse, refuse-number, refuse-at-number) (cond-within (goodParams P) (goodSizes P) 1 _ (good-sizes P))
+    simp (first-refuse, refuse-number, refuse-at-number) (cond-within (goodParams P) (goodDimensions P) 1 _ (good-has-dimensions P))
 
 -- so no fault that applies has a lower number
-pub move-lowest : (P : Params) (minus : Bool) (f n : ℕ) (S : Sketch) (w : Why) → moveFault P minus f n S w ≡ true → numberIn (moveAnswer P minus f n S) ≤ numberOf w
+pub move-lowest : (P : Params) (minus : Bool) (f n : ℕ) (S : Sketch) (w : Refusal) → moveFault P minus f n S w ≡ true → numberIn (moveAnswer P minus f n S) ≤ numberOf w
 move-lowest P minus f n S w h = rw (move-number P minus f n S) (lowest-first (moveFault P minus f n S) refl w h)
 
 -- an array's own stretch
-abbrev pub arrayFault : Params → ℕ → ℕ → Why → Bool
+abbrev pub arrayFault : Params → ℕ → ℕ → Refusal → Bool
 arrayFault P i n = early (not (goodParams P && (leb 1 i && leb i (P .d)))) (not (eqb n (size P))) false
 
 pub array-number : (P : Params) (i n : ℕ) → numberIn (arrayAnswer P i n) ≡ firstOf order (arrayFault P i n)
@@ -57,10 +57,10 @@ array-index P i n =
     refuse-index (not (goodParams P && (leb 1 i && leb i (P .d)))) Param _ (refuse-index (not (eqb n (size P))) Length Done done-index)
 
 step-index : (P : Params) (minus : Bool) (f n : ℕ) (S : Sketch) → IndexZero (stepAnswer P minus f n S)
-unfolding stepAnswer entryAnswer sizesAnswer packetAnswer standingAnswer
+unfolding stepAnswer entryAnswer dimensionsAnswer packetAnswer flowBucketsAnswer
 step-index P minus f n S =
     first-index _ _
-    (first-index _ _ (refuse-index (not (goodSizes P)) Param _ (lengths-index P _ _))
+    (first-index _ _ (refuse-index (not (goodDimensions P)) Param _ (lengths-index P _ _))
     (refuse-index (not (isFlow P f)) Flow _ (refuse-index (not (leb 1 n && ltb n prime)) Count Done done-index)))
     (buckets-index _ _ _)
 
@@ -77,4 +77,4 @@ packets-index P (f ∷ fs) (n ∷ ns) S = first-index _ _ (step-index P false f 
 pub all-index : (P : Params) (fs ns : List ℕ) (S : Sketch) → IndexZero (allAnswer P fs ns S)
 unfolding allAnswer
 all-index P fs ns S =
-    first-index _ _ (shape-index P _ _) (refuse-index (not (eqb (length fs) (length ns))) Length _ (packets-index P fs ns S))
+    first-index _ _ (lent-index P _ _) (refuse-index (not (eqb (length fs) (length ns))) Length _ (packets-index P fs ns S))

@@ -8,15 +8,15 @@ use lib.Dec.{eqb, ltb, leb}
 use lib.IntN.{pos}
 use lib.ListN.{length}
 use Rattle.params.specs.declared.params.Params.{Params}
-use Rattle.params.specs.declared.answers.Why.{Why}
-use Rattle.params.specs.declared.answers.Why.the-variants.{Param, Length, Flow, Count, Damage, Range, Mismatch, Form}
+use Rattle.params.specs.declared.answers.Refusal.{Refusal}
+use Rattle.params.specs.declared.answers.Refusal.the-variants.{Param, Length, Flow, Count, Damage, Range, Mismatch, Form}
 use Rattle.params.specs.declared.answers.Answer.{Answer}
 use Rattle.params.specs.declared.answers.Answer.the-variants.{Done, Refused}
 use Rattle.params.specs.Answers.{refuseIf, refuseAt, first}
-use Rattle.params.specs.Params.{prime, size, goodSizes, goodParams, lengthsAnswer, sizesAnswer}
-use Rattle.params.specs.Places.{stands}
+use Rattle.params.specs.Params.{prime, size, goodDimensions, goodParams, lengthsAnswer, dimensionsAnswer}
+use Rattle.params.specs.Positions.{stands}
 use Rattle.buckets.specs.Buckets.{inLimits, damaged, plusMinus}
-use Rattle.sketch.specs.Sketch.{Sketch, countIn, idsumIn, damagedIn, leavesIn, standingAnswer}
+use Rattle.sketch.specs.Sketch.{Sketch, countIn, idsumIn, damagedIn, leavesIn, flowBucketsAnswer}
 use Rattle.sketch.specs.Packets.{packetAnswer, entryAnswer, stepAnswer, moveAnswer}
 use Rattle.params.proofs.Searches.{and-true, and-rest}
 use Rattle.params.proofs.Lowest.{Lowest, refuse-at}
@@ -37,7 +37,7 @@ range-lowest n t u k e =
     (refuse-at n t Damage Range k (refuseAt n u Range Done) e)
 
 -- what is judged before the buckets refuses neither for Damage nor for Range
-abbrev pub ofBucket : Why → Bool
+abbrev pub ofBucket : Refusal → Bool
 ofBucket Damage = true
 ofBucket Range = true
 ofBucket Param = false
@@ -51,7 +51,7 @@ abbrev pub bucketsTold : Answer → Bool
 bucketsTold Done = false
 bucketsTold (Refused w k) = ofBucket w
 
-pub refuse-early : (b : Bool) (w : Why) (k : ℕ) (next : Answer) → ofBucket w ≡ false → bucketsTold next ≡ false → bucketsTold (refuseIf b w k next) ≡ false
+pub refuse-early : (b : Bool) (w : Refusal) (k : ℕ) (next : Answer) → ofBucket w ≡ false → bucketsTold next ≡ false → bucketsTold (refuseIf b w k next) ≡ false
 refuse-early true w k next e q = e
 refuse-early false w k next e q = q
 
@@ -61,11 +61,11 @@ first-early Done next e q = q
 first-early (Refused w k) next e q = e
 
 -- so a refusal for either comes from the buckets
-refuse-late : (b : Bool) (w v : Why) (j k : ℕ) (next : Answer) → ofBucket w ≡ false → ofBucket v ≡ true → refuseIf b w j next ≡ Refused v k → (b ≡ false) × (next ≡ Refused v k)
+refuse-late : (b : Bool) (w v : Refusal) (j k : ℕ) (next : Answer) → ofBucket w ≡ false → ofBucket v ≡ true → refuseIf b w j next ≡ Refused v k → (b ≡ false) × (next ≡ Refused v k)
 refuse-late true w v j k next e q h = let same : ofBucket w ≡ ofBucket v = ap bucketsTold h in (cc, cc)
 refuse-late false w v j k next e q h = (refl, h)
 
-pub first-late : (r next : Answer) (v : Why) (k : ℕ) → bucketsTold r ≡ false → ofBucket v ≡ true → first r next ≡ Refused v k → (r ≡ Done) × (next ≡ Refused v k)
+pub first-late : (r next : Answer) (v : Refusal) (k : ℕ) → bucketsTold r ≡ false → ofBucket v ≡ true → first r next ≡ Refused v k → (r ≡ Done) × (next ≡ Refused v k)
 unfolding first
 first-late Done next v k e q h = (refl, h)
 first-late (Refused w j) next v k e q h = let same : ofBucket w ≡ ofBucket v = ap bucketsTold h in (cc, cc)
@@ -75,9 +75,9 @@ unfolding lengthsAnswer
 lengths-early P c s = refuse-early (not (eqb c (size P) && eqb s (size P))) Length 0 Done refl refl
 
 entry-early : (P : Params) (c s f n : ℕ) → bucketsTold (entryAnswer P c s f n) ≡ false
-unfolding entryAnswer sizesAnswer packetAnswer
+unfolding entryAnswer dimensionsAnswer packetAnswer
 entry-early P c s f n =
-    first-early _ _ (refuse-early (not (goodSizes P)) Param 0 _ refl (lengths-early P c s))
+    first-early _ _ (refuse-early (not (goodDimensions P)) Param 0 _ refl (lengths-early P c s))
     (refuse-early (not (ltb f prime)) Flow 0 _ refl (refuse-early (not (leb 1 n && ltb n prime)) Count 0 Done refl refl))
 
 -- bucket k is at fault and is one of those that are meant, of n in all, and no lower one of them is
@@ -94,20 +94,20 @@ lowest-of n on fault k l =
 
 -- an insertion or a withdrawal: the lowest of the flow's buckets
 module _ (P : Params) (minus : Bool) (f n : ℕ) (S : Sketch) (k : ℕ) where
-  move-late : (w : Why) → ofBucket w ≡ true → moveAnswer P minus f n S ≡ Refused w k → standingAnswer (size P) (stands P f) minus (pos n) S ≡ Refused w k
+  move-late : (w : Refusal) → ofBucket w ≡ true → moveAnswer P minus f n S ≡ Refused w k → flowBucketsAnswer (size P) (stands P f) minus (pos n) S ≡ Refused w k
   unfolding moveAnswer stepAnswer
   move-late w q e =
       first-late _ _ w k (entry-early P (length (S .counts)) (length (S .idsums)) f n) q
       (refuse-late (not (goodParams P)) Param w 0 k _ refl q e .1) .1
 
   pub insert-lowest-damage : moveAnswer P minus f n S ≡ Refused Damage k → LowestOf (size P) (stands P f) (λ j. damaged (countIn S j) (idsumIn S j)) k
-  unfolding standingAnswer damagedIn
+  unfolding flowBucketsAnswer damagedIn
   insert-lowest-damage e = lowest-of _ (stands P f) _ k (damage-lowest (size P) _ _ k (move-late Damage refl e))
 
   pub insert-lowest-range : moveAnswer P minus f n S ≡ Refused Range k
       → LowestOf (size P) (stands P f) (λ j. not (inLimits (plusMinus minus (countIn S j) (pos n)))) k
       × ((j : ℕ) → j < size P → stands P f j ≡ true → damaged (countIn S j) (idsumIn S j) ≡ false)
-  unfolding standingAnswer damagedIn leavesIn
+  unfolding flowBucketsAnswer damagedIn leavesIn
   insert-lowest-range e =
       let r = range-lowest (size P) _ _ k (move-late Range refl e) in
       (lowest-of _ (stands P f) _ k (r .0), λ j l s. and-rest (stands P f j) _ s (r .1 j l))

@@ -10,15 +10,15 @@ use lib.Dec.{eqb}
 use lib.ListN.{length, getD, take, drop, drop-of-length-le}
 use lib.Seq.{drop-cons, take-all}
 use Rattle.params.specs.declared.params.Params.{Params}
-use Rattle.params.specs.declared.answers.Why.the-variants.{Length}
+use Rattle.params.specs.declared.answers.Refusal.the-variants.{Length}
 use Rattle.params.specs.declared.answers.Answer.{Answer}
 use Rattle.params.specs.declared.answers.Answer.the-variants.{Done, Refused}
 use Rattle.params.specs.Answers.{refuseIf, first, kept}
-use Rattle.params.specs.Params.{shapeAnswer}
+use Rattle.params.specs.Params.{lentAnswer}
 use Rattle.sketch.specs.Sketch.{Sketch, changedIn}
 use Rattle.sketch.specs.Packets.{stepAnswer, changed, Stepped, after, packetsAnswer, PacketsInserted, allAnswer, AllInserted, Accepted}
 use Rattle.params.proofs.Changes.{length-touched}
-use Rattle.params.proofs.Judging.{Refusal, first-refused, first-passed, kept-old, kept-new}
+use Rattle.params.proofs.Judging.{Refuses, first-refused, first-passed, kept-old, kept-new}
 use Rattle.sketch.proofs.TakenBack.{step-back}
 
 -- a step keeps the lengths
@@ -60,7 +60,7 @@ module _ (P : Params) (fs ns : List ℕ) (S : Sketch) (i : ℕ) (T : Sketch) (h 
   unfolding packetsAnswer
   opened = sym rest ∙ rw (drop-cons fs i 0 h, drop-cons ns i 0 l)
 
-  pub packet-refused : (r : Answer) → r ≡ stepAnswer P false (getD fs i 0) (getD ns i 0) T → Refusal r → r ≡ packetsAnswer P fs ns S
+  pub packet-refused : (r : Answer) → r ≡ stepAnswer P false (getD fs i 0) (getD ns i 0) T → Refuses r → r ≡ packetsAnswer P fs ns S
   packet-refused r e q =
       first-refused r (stepAnswer P false (getD fs i 0) (getD ns i 0) T) (packetsAnswer P (drop (suc i) fs) (drop (suc i) ns) now-next) e q ∙ sym opened
 
@@ -96,7 +96,7 @@ module _ (P : Params) (fs ns : List ℕ) (S : Sketch) where
   abbrev inTurn : Answer
   inTurn = refuseIf (not (eqb (length fs) (length ns))) Length 0 (packetsAnswer P fs ns S)
 
-  pub all-misshaped : (r : Answer) → r ≡ shapeAnswer P (length (S .counts)) (length (S .idsums)) → Refusal r → AllInserted P fs ns S r S
+  pub all-misshaped : (r : Answer) → r ≡ lentAnswer P (length (S .counts)) (length (S .idsums)) → Refuses r → AllInserted P fs ns S r S
   unfolding allAnswer
   all-misshaped r e h =
       record {
@@ -104,10 +104,10 @@ module _ (P : Params) (fs ns : List ℕ) (S : Sketch) where
         after-all = kept-old r S (after P fs ns S) h;
       }
 
-  pub all-unequal : shapeAnswer P (length (S .counts)) (length (S .idsums)) ≡ Done → (length fs ≡ length ns → ⊥) → AllInserted P fs ns S (Refused Length 0) S
+  pub all-unequal : lentAnswer P (length (S .counts)) (length (S .idsums)) ≡ Done → (length fs ≡ length ns → ⊥) → AllInserted P fs ns S (Refused Length 0) S
   unfolding allAnswer kept
   all-unequal d h = record { answer = rw (ne-eqb (length fs) (length ns) h) (sym (first-passed _ _ d)); after-all = refl }
 
-  pub all-in-turn : (r : Answer) (S' : Sketch) → shapeAnswer P (length (S .counts)) (length (S .idsums)) ≡ Done → length fs ≡ length ns → PacketsInserted P fs ns S r S' → AllInserted P fs ns S r S'
+  pub all-in-turn : (r : Answer) (S' : Sketch) → lentAnswer P (length (S .counts)) (length (S .idsums)) ≡ Done → length fs ≡ length ns → PacketsInserted P fs ns S r S' → AllInserted P fs ns S r S'
   unfolding allAnswer
   all-in-turn r S' d e p = record { answer = p .answer ∙ rw (eq-eqb (length fs) (length ns) e) (sym (first-passed _ _ d)); after-all = p .after-all }

@@ -11,7 +11,7 @@ use borrow.Author.Tests.{eq-eqb, ne-eqb, lt-ltb, le-ltb}
 use lib.Dec.{eqb, ltb}
 use lib.ListN.{getD}
 use Rattle.params.specs.Lists.{least}
-use Rattle.params.specs.Places.{standsIn, Reached}
+use Rattle.params.specs.Positions.{standsIn, WithinArrays}
 use Rattle.params.proofs.Searches.{and-false, least-here, least-skip}
 use Rattle.params.proofs.Sizes.{stretch-within, small}
 use Rattle.params.proofs.Standing.{standing-in, standing-past}
@@ -68,10 +68,10 @@ pub record Within (d m i k : ℕ) : Type 0 where
   pub bucket : i * m + k < d * m
   pub size : d * m ≤ 65536
 
-pub reach-small : {d m c s : ℕ} {ks : List ℕ} → Reached d m ks c s → d * m ≤ 65536
+pub reach-small : {d m c s : ℕ} {ks : List ℕ} → WithinArrays d m ks c s → d * m ≤ 65536
 reach-small {d} {m} r = small d m (r .d-high) (r .m-high)
 
-pub reach : {d m c s : ℕ} {ks : List ℕ} (i : ℕ) → Reached d m ks c s → i < d → Within d m i (getD ks i 0)
+pub reach : {d m c s : ℕ} {ks : List ℕ} (i : ℕ) → WithinArrays d m ks c s → i < d → Within d m i (getD ks i 0)
 reach {d} {m} i r h =
     let end = stretch-within d m i h in
     record {

@@ -10,26 +10,26 @@ use lib.Dec.{leb, ltb}
 use lib.IntN.{ℤ, pos, natAbs}
 use lib.ListN.{length, getD}
 use Rattle.params.specs.declared.params.Params.{Params}
-use Rattle.params.specs.declared.answers.Why.the-variants.{Param, Flow, Count, Damage, Range}
+use Rattle.params.specs.declared.answers.Refusal.the-variants.{Param, Flow, Count, Damage, Range}
 use Rattle.params.specs.declared.answers.Answer.{Answer}
 use Rattle.params.specs.declared.answers.Answer.the-variants.{Done, Refused}
 use Rattle.params.specs.Answers.{kept}
 use Rattle.params.specs.Lists.{below}
-use Rattle.params.specs.Params.{prime, primeOf, size, Sized, goodParams, sizesAnswer}
-use Rattle.params.specs.Places.{stand, standsIn, stands, Placed, Reached}
+use Rattle.params.specs.Params.{prime, primeOf, size, Dimensions, goodParams, dimensionsAnswer}
+use Rattle.params.specs.Positions.{stand, standsIn, stands, Positioned, WithinArrays}
 use Rattle.buckets.specs.Buckets.{inLimits, damaged, plusMinus, weight}
-use Rattle.sketch.specs.Sketch.{Sketch, countIn, idsumIn, damagedAt, leavesAt, quietAt, damagedIn, leavesIn, standingAnswer, changedIn}
+use Rattle.sketch.specs.Sketch.{Sketch, countIn, idsumIn, damagedAt, leavesAt, smallAt, damagedIn, leavesIn, flowBucketsAnswer, changedIn}
 use Rattle.sketch.specs.Packets.{packetAnswer, entryAnswer, stepAnswer, changed, Stepped, moveAnswer, Moved}
-use Rattle.params.proofs.Judging.{Refusal, first-refused, first-passed, first-done, kept-old, kept-new, refuse-done, refuse-none, refuse-at-done}
-use Rattle.params.proofs.Rules.{sizes-done}
+use Rattle.params.proofs.Judging.{Refuses, first-refused, first-passed, first-done, kept-old, kept-new, refuse-done, refuse-none, refuse-at-done}
+use Rattle.params.proofs.Rules.{dimensions-done}
 use Rattle.params.proofs.Searches.{and-true, and-rest, below-at}
 use Rattle.params.proofs.Standing.{standing-in}
-use Rattle.buckets.proofs.Limits.{whole, quiet-whole, quiet-size, quiet-stays}
+use Rattle.buckets.proofs.Limits.{whole, small-whole, small-size, small-stays}
 use Rattle.sketch.proofs.Standing.{standing-same, none-standing}
 
 -- what an entry that was let in says of its sizes and its packet
 pub record Let (P : Params) (c s f n : ℕ) : Type 0 where
-  pub sized : Sized P
+  pub dimensions : Dimensions P
   pub counts : c ≡ P .d * P .m
   pub idsums : s ≡ P .d * P .m
   pub flow : f < prime
@@ -39,12 +39,12 @@ pub record Let (P : Params) (c s f n : ℕ) : Type 0 where
 pub entry-done : (P : Params) (c s f n : ℕ) → entryAnswer P c s f n ≡ Done → Let P c s f n
 unfolding entryAnswer packetAnswer
 entry-done P c s f n e =
-    let h = first-done (sizesAnswer P c s) _ e in
-    let k = sizes-done P c s (h .0) in
+    let h = first-done (dimensionsAnswer P c s) _ e in
+    let k = dimensions-done P c s (h .0) in
     let l = refuse-done (not (ltb f prime)) Flow 0 _ (h .1) in
     let m = and-true (leb 1 n) _ (not-false _ (refuse-done (not (leb 1 n && ltb n prime)) Count 0 _ (l .1) .0)) in
     record {
-      sized = k .0;
+      dimensions = k .0;
       counts = k .1;
       idsums = k .2;
       flow = ltb-true _ _ (not-false _ (l .0));
@@ -57,7 +57,7 @@ pub stand-below : (P : Params) (i f : ℕ) → 1 ≤ P .m → stand P i f < P .m
 unfolding stand
 stand-below P i f h = mod-lt ((getD (P .a) i 0 * f + getD (P .b) i 0) % primeOf P) h
 
-pub reached : {P : Params} {f c s : ℕ} {ks : List ℕ} → Sized P → c ≡ P .d * P .m → s ≡ P .d * P .m → Placed P f ks → Reached (P .d) (P .m) ks c s
+pub reached : {P : Params} {f c s : ℕ} {ks : List ℕ} → Dimensions P → c ≡ P .d * P .m → s ≡ P .d * P .m → Positioned P f ks → WithinArrays (P .d) (P .m) ks c s
 reached {P} {f} h e q p =
     record {
       d-high = h .d-high;
@@ -69,13 +69,13 @@ reached {P} {f} h e q p =
     }
 
 -- the places that the code keeps are the flow's
-pub placed : {P : Params} {f : ℕ} {ks : List ℕ} → Placed P f ks → standsIn (P .d) (P .m) (λ i. getD ks i 0) ≡ stands P f
+pub placed : {P : Params} {f : ℕ} {ks : List ℕ} → Positioned P f ks → standsIn (P .d) (P .m) (λ i. getD ks i 0) ≡ stands P f
 placed {P} {f} {ks} p = standing-same (P .d) (P .m) (λ i. getD ks i 0) (λ i. stand P i f) (p .at)
 
 -- so is what is judged by them, and what is changed
-module _ {P : Params} {f : ℕ} {ks : List ℕ} (p : Placed P f ks) (minus : Bool) (z : ℤ) (n : ℕ) (e : z ≡ pos n) (S : Sketch) where
-  pub placed-answer : (r : Answer) → r ≡ standingAnswer (P .d * P .m) (standsIn (P .d) (P .m) (λ i. getD ks i 0)) minus z S → r ≡ standingAnswer (size P) (stands P f) minus (pos n) S
-  placed-answer r h = h ∙ ap (λ (x : ℤ). standingAnswer (size P) (standsIn (P .d) (P .m) (λ i. getD ks i 0)) minus x S) e ∙ ap (λ (on : ℕ → Bool). standingAnswer (size P) on minus (pos n) S) (placed p)
+module _ {P : Params} {f : ℕ} {ks : List ℕ} (p : Positioned P f ks) (minus : Bool) (z : ℤ) (n : ℕ) (e : z ≡ pos n) (S : Sketch) where
+  pub placed-answer : (r : Answer) → r ≡ flowBucketsAnswer (P .d * P .m) (standsIn (P .d) (P .m) (λ i. getD ks i 0)) minus z S → r ≡ flowBucketsAnswer (size P) (stands P f) minus (pos n) S
+  placed-answer r h = h ∙ ap (λ (x : ℤ). flowBucketsAnswer (size P) (standsIn (P .d) (P .m) (λ i. getD ks i 0)) minus x S) e ∙ ap (λ (on : ℕ → Bool). flowBucketsAnswer (size P) on minus (pos n) S) (placed p)
 
   pub placed-change : (S' : Sketch) (w v : ℕ) → w ≡ v → S' ≡ changedIn (standsIn (P .d) (P .m) (λ i. getD ks i 0)) minus z w S → S' ≡ changedIn (stands P f) minus (pos n) v S
   placed-change S' w v q h =
@@ -85,15 +85,15 @@ module _ {P : Params} {f : ℕ} {ks : List ℕ} (p : Placed P f ks) (minus : Boo
       ∙ ap (λ (x : ℕ). changedIn (stands P f) minus (pos n) x S) q
 
 -- where no bucket is at fault, each of those that are meant is within its limits, and stays there
-pub standing-done : (N : ℕ) (on : ℕ → Bool) (minus : Bool) (n : ℤ) (S : Sketch) → standingAnswer N on minus n S ≡ Done → (k : ℕ) → k < N → on k ≡ true
+pub standing-done : (N : ℕ) (on : ℕ → Bool) (minus : Bool) (n : ℤ) (S : Sketch) → flowBucketsAnswer N on minus n S ≡ Done → (k : ℕ) → k < N → on k ≡ true
     → (damaged (countIn S k) (idsumIn S k) ≡ false) × (inLimits (plusMinus minus (countIn S k) n) ≡ true)
-unfolding standingAnswer damagedIn leavesIn
+unfolding flowBucketsAnswer damagedIn leavesIn
 standing-done N on minus n S e k l h =
     let d = refuse-at-done N (damagedIn on S) Damage _ e in
     let r = refuse-at-done N (leavesIn on minus n (S .counts)) Range _ (d .1) in
     (and-rest (on k) _ h (d .0 k l), not-false _ (and-rest (on k) _ h (r .0 k l)))
 
-pub has-room : (d m : ℕ) (g : ℕ → ℕ) (minus : Bool) (n : ℤ) (S : Sketch) → standingAnswer (d * m) (standsIn d m g) minus n S ≡ Done
+pub has-room : (d m : ℕ) (g : ℕ → ℕ) (minus : Bool) (n : ℤ) (S : Sketch) → flowBucketsAnswer (d * m) (standsIn d m g) minus n S ≡ Done
     → (i : ℕ) → i < d → g i < m → i * m + m ≤ d * m
     → (inLimits (plusMinus minus (countIn S (i * m + g i)) n) ≡ true) × (idsumIn S (i * m + g i) < prime)
 has-room d m g minus n S e i h l end =
@@ -104,13 +104,13 @@ has-room d m g minus n S e i h l end =
     (b .1, whole _ _ (b .0) .1)
 
 -- where each of them is quiet, and what is moved is as small, none is at fault
-pub quiet-done : (d m : ℕ) (g : ℕ → ℕ) (minus : Bool) (n : ℤ) (S : Sketch) → natAbs n ≤ 1000000000 → below d (λ i. quietAt S (i * m + g i)) ≡ true
-    → standingAnswer (d * m) (standsIn d m g) minus n S ≡ Done
-unfolding standingAnswer damagedIn leavesIn
-quiet-done d m g minus n S small e =
-    refuse-none (d * m) (damagedIn (standsIn d m g) S) Damage _ (λ k l. none-standing d m g (damagedAt S) (λ i h. quiet-whole _ _ (below-at d i _ e h)) k)
+pub small-done : (d m : ℕ) (g : ℕ → ℕ) (minus : Bool) (n : ℤ) (S : Sketch) → natAbs n ≤ 1000000000 → below d (λ i. smallAt S (i * m + g i)) ≡ true
+    → flowBucketsAnswer (d * m) (standsIn d m g) minus n S ≡ Done
+unfolding flowBucketsAnswer damagedIn leavesIn
+small-done d m g minus n S small e =
+    refuse-none (d * m) (damagedIn (standsIn d m g) S) Damage _ (λ k l. none-standing d m g (damagedAt S) (λ i h. small-whole _ _ (below-at d i _ e h)) k)
     ∙ refuse-none (d * m) (leavesIn (standsIn d m g) minus n (S .counts)) Range Done
-    (λ k l. none-standing d m g (leavesAt minus n (S .counts)) (λ i h. ap not (quiet-stays minus _ n (quiet-size _ _ (below-at d i _ e h)) small)) k)
+    (λ k l. none-standing d m g (leavesAt minus n (S .counts)) (λ i h. ap not (small-stays minus _ n (small-size _ _ (below-at d i _ e h)) small)) k)
 
 -- what a step that is not refused tells
 pub record StepDone (P : Params) (minus : Bool) (f n : ℕ) (S : Sketch) : Type 0 where
@@ -142,7 +142,7 @@ move-good P minus f n S e = rw e
 
 -- the stages: refused before a bucket is looked at, refused for a bucket, and done
 module _ (minus : Bool) (P : Params) (f n : ℕ) (S : Sketch) (r : Answer) where
-  pub not-let : r ≡ entryAnswer P (length (S .counts)) (length (S .idsums)) f n → Refusal r → Stepped minus P f n S r S
+  pub not-let : r ≡ entryAnswer P (length (S .counts)) (length (S .idsums)) f n → Refuses r → Stepped minus P f n S r S
   unfolding stepAnswer
   not-let e h =
       record {
@@ -150,14 +150,14 @@ module _ (minus : Bool) (P : Params) (f n : ℕ) (S : Sketch) (r : Answer) where
         after = kept-old r S (changed P minus f n S) h;
       }
 
-  judged : entryAnswer P (length (S .counts)) (length (S .idsums)) f n ≡ Done → r ≡ standingAnswer (size P) (stands P f) minus (pos n) S → r ≡ stepAnswer P minus f n S
+  judged : entryAnswer P (length (S .counts)) (length (S .idsums)) f n ≡ Done → r ≡ flowBucketsAnswer (size P) (stands P f) minus (pos n) S → r ≡ stepAnswer P minus f n S
   unfolding stepAnswer
   judged d e = e ∙ sym (first-passed _ _ d)
 
-  pub not-stepped : entryAnswer P (length (S .counts)) (length (S .idsums)) f n ≡ Done → r ≡ standingAnswer (size P) (stands P f) minus (pos n) S → Refusal r → Stepped minus P f n S r S
+  pub not-stepped : entryAnswer P (length (S .counts)) (length (S .idsums)) f n ≡ Done → r ≡ flowBucketsAnswer (size P) (stands P f) minus (pos n) S → Refuses r → Stepped minus P f n S r S
   not-stepped d e h = record { answer = judged d e; after = kept-old r S (changed P minus f n S) h }
 
-  pub stepped : (S' : Sketch) → entryAnswer P (length (S .counts)) (length (S .idsums)) f n ≡ Done → r ≡ standingAnswer (size P) (stands P f) minus (pos n) S → r ≡ Done
+  pub stepped : (S' : Sketch) → entryAnswer P (length (S .counts)) (length (S .idsums)) f n ≡ Done → r ≡ flowBucketsAnswer (size P) (stands P f) minus (pos n) S → r ≡ Done
       → S' ≡ changedIn (stands P f) minus (pos n) (weight f n) S → Stepped minus P f n S r S'
   unfolding changed
   stepped S' d e done a = record { answer = judged d e; after = a ∙ kept-new r S (changed P minus f n S) done }

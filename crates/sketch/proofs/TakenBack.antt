@@ -12,16 +12,16 @@ use Rattle.params.specs.declared.answers.Answer.{Answer}
 use Rattle.params.specs.declared.answers.Answer.the-variants.{Done}
 use Rattle.params.specs.Answers.{kept}
 use Rattle.params.specs.Params.{prime, size}
-use Rattle.params.specs.Places.{stands}
+use Rattle.params.specs.Positions.{stands}
 use Rattle.buckets.specs.Buckets.{inLimits, damaged, plusMinus, weight}
-use Rattle.sketch.specs.Sketch.{Sketch, sketch, countIn, idsumIn, damagedIn, leavesIn, standingAnswer, changedIn}
+use Rattle.sketch.specs.Sketch.{Sketch, sketch, countIn, idsumIn, damagedIn, leavesIn, flowBucketsAnswer, changedIn}
 use Rattle.sketch.specs.Packets.{stepAnswer, changed, Inserted, Withdrawn}
 use Rattle.params.proofs.Changes.{length-touched, getD-touched}
 use Rattle.params.proofs.Judging.{first-passed, kept-new, refuse-none}
 use Rattle.sketch.proofs.Tables.{touched-back}
 use Rattle.buckets.proofs.Limits.{whole-back}
 use Rattle.sketch.proofs.Steps.{StepDone, step-done, move-done, move-good}
-use Rattle.buckets.proofs.Idsums.{prime-pos, wound-back}
+use Rattle.buckets.proofs.Idsums.{prime-pos, idsum-plus-minus-back}
 
 -- it is enough that the idsums of the flow's buckets are below p
 pub changed-back : (P : Params) (f n : ℕ) (S : Sketch) → ((k : ℕ) → k < length (S .idsums) → stands P f k ≡ true → idsumIn S k < prime)
@@ -31,7 +31,7 @@ changed-back P f n S sound =
     ap₂ sketch
     (touched-back (pos 0) (stands P f) (λ k x. x -ℤ pos n) (λ k x. x +ℤ pos n) (S .counts) (λ k l e. +ℤ-negℤ-cancel (countIn S k) (pos n)))
     (touched-back 0 (stands P f) (λ k x. residue prime (pos x -ℤ pos (weight f n))) (λ k x. residue prime (pos x +ℤ pos (weight f n))) (S .idsums)
-    (λ k l e. wound-back (idsumIn S k) (weight f n) (sound k l e)))
+    (λ k l e. idsum-plus-minus-back (idsumIn S k) (weight f n) (sound k l e)))
 
 -- a flow's buckets after a step
 pub count-changed : (P : Params) (minus : Bool) (f n : ℕ) (S : Sketch) (k : ℕ) → k < length (S .counts) → stands P f k ≡ true
@@ -47,7 +47,7 @@ idsum-changed P minus f n S k l s = rw (getD-touched (stands P f) (λ j x. resid
 -- a step that is not refused is not refused when it is taken back, and leaves what was there
 pub step-back : (P : Params) (f n : ℕ) (S : Sketch) → stepAnswer P false f n S ≡ Done
     → (stepAnswer P true f n (changed P false f n S) ≡ Done) × (changed P true f n (changed P false f n S) ≡ S)
-unfolding stepAnswer standingAnswer damagedIn leavesIn changed changedIn
+unfolding stepAnswer flowBucketsAnswer damagedIn leavesIn changed changedIn
 step-back P f n S e = (
   first-passed _ _ (simp length-touched (m .entry))
       ∙ refuse-none (size P) _ _ _ (λ k l. sound-after k l (stands P f k) refl)

@@ -7,14 +7,14 @@ use lib.IntN.{pos}
 use lib.Dec.{leb, ltb, eqb}
 use lib.ListN.{length, getD, take}
 use Rattle.params.specs.declared.params.Params.{Params}
-use Rattle.params.specs.declared.answers.Why.the-variants.{Param, Length, Flow, Count}
+use Rattle.params.specs.declared.answers.Refusal.the-variants.{Param, Length, Flow, Count}
 use Rattle.params.specs.declared.answers.Answer.{Answer}
 use Rattle.params.specs.declared.answers.Answer.the-variants.{Done}
 use Rattle.params.specs.Answers.{refuseIf, first, kept}
-use Rattle.params.specs.Params.{prime, size, goodParams, sizesAnswer, shapeAnswer}
-use Rattle.params.specs.Places.{stands}
+use Rattle.params.specs.Params.{prime, size, goodParams, dimensionsAnswer, lentAnswer}
+use Rattle.params.specs.Positions.{stands}
 use Rattle.buckets.specs.Buckets.{weight}
-use Rattle.sketch.specs.Sketch.{Sketch, Entry, by, standingAnswer, changedIn}
+use Rattle.sketch.specs.Sketch.{Sketch, Entry, by, flowBucketsAnswer, changedIn}
 
 -- a packet's flow, and its number, from 1 to p - 1
 unfoldable pub packetAnswer : ℕ → ℕ → Answer
@@ -25,13 +25,13 @@ packetAnswer f n =
 
 -- the sizes, the lengths and the packet
 unfoldable pub entryAnswer : Params → ℕ → ℕ → ℕ → ℕ → Answer
-entryAnswer P c s f n = first (sizesAnswer P c s) (packetAnswer f n)
+entryAnswer P c s f n = first (dimensionsAnswer P c s) (packetAnswer f n)
 
 -- n packets of f go in, or come out where `minus` holds: what is judged, of the parameters the sizes alone, and what is left
 unfoldable pub stepAnswer : Params → Bool → ℕ → ℕ → Sketch → Answer
 stepAnswer P minus f n S =
     first (entryAnswer P (length (S .counts)) (length (S .idsums)) f n)
-    (standingAnswer (size P) (stands P f) minus (pos n) S)
+    (flowBucketsAnswer (size P) (stands P f) minus (pos n) S)
 
 unfoldable pub changed : Params → Bool → ℕ → ℕ → Sketch → Sketch
 changed P minus f n S = changedIn (stands P f) minus (pos n) (weight f n) S
@@ -73,7 +73,7 @@ pub record PacketsInserted (P : Params) (fs ns : List ℕ) (S : Sketch) (r : Ans
 -- the same, with the parameters, and the lengths of what is lent
 unfoldable pub allAnswer : Params → List ℕ → List ℕ → Sketch → Answer
 allAnswer P fs ns S =
-    first (shapeAnswer P (length (S .counts)) (length (S .idsums)))
+    first (lentAnswer P (length (S .counts)) (length (S .idsums)))
     (refuseIf (not (eqb (length fs) (length ns))) Length 0
     (packetsAnswer P fs ns S))
 

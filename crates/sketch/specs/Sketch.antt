@@ -7,14 +7,14 @@ use lib.IntN.{ℤ, pos, _+ℤ_, _*ℤ_}
 use lib.ListN.{getD, length, replicate}
 use Rattle.field.specs.Residue.{residue}
 use Rattle.params.specs.declared.params.Params.{Params}
-use Rattle.params.specs.declared.answers.Why.the-variants.{Damage, Range}
+use Rattle.params.specs.declared.answers.Refusal.the-variants.{Damage, Range}
 use Rattle.params.specs.declared.answers.Answer.{Answer}
 use Rattle.params.specs.declared.answers.Answer.the-variants.{Done}
 use Rattle.params.specs.Lists.{touched, from}
 use Rattle.params.specs.Answers.{refuseAt, kept}
-use Rattle.params.specs.Params.{prime, primeOf, size, shapeAnswer}
-use Rattle.params.specs.Places.{stands}
-use Rattle.buckets.specs.Buckets.{inLimits, damagedOf, quiet, plusMinus}
+use Rattle.params.specs.Params.{prime, primeOf, size, lentAnswer}
+use Rattle.params.specs.Positions.{stands}
+use Rattle.buckets.specs.Buckets.{inLimits, damagedOf, isSmall, plusMinus}
 
 pub record Sketch : Type 0 where
   pub counts : List ℤ
@@ -38,8 +38,8 @@ abbrev pub leavesAt : Bool → ℤ → List ℤ → ℕ → Bool
 leavesAt minus n cs k = not (inLimits (plusMinus minus (getD cs k (pos 0)) n))
 
 -- bucket k is quiet
-abbrev pub quietAt : Sketch → ℕ → Bool
-quietAt S k = quiet (countIn S k) (idsumIn S k)
+abbrev pub smallAt : Sketch → ℕ → Bool
+smallAt S k = isSmall (countIn S k) (idsumIn S k)
 
 -- a list of (flow, signed number) entries
 pub record Entry : Type 0 where
@@ -68,7 +68,7 @@ unfoldable pub zeros : Params → Sketch
 zeros P = sketch (replicate (size P) (pos 0)) (replicate (size P) 0)
 
 pub record Freshened (P : Params) (S : Sketch) (r : Answer) (S' : Sketch) : Type 0 where
-  pub answer : r ≡ shapeAnswer P (length (S .counts)) (length (S .idsums))
+  pub answer : r ≡ lentAnswer P (length (S .counts)) (length (S .idsums))
   pub after : S' ≡ kept r S (zeros P)
 
 -- Below, `on` tells which buckets are meant.
@@ -81,8 +81,8 @@ unfoldable pub leavesIn : (ℕ → Bool) → Bool → ℤ → List ℤ → ℕ �
 leavesIn on minus n cs k = on k && leavesAt minus n cs k
 
 -- what is refused of them, in a sketch of N buckets
-unfoldable pub standingAnswer : ℕ → (ℕ → Bool) → Bool → ℤ → Sketch → Answer
-standingAnswer N on minus n S =
+unfoldable pub flowBucketsAnswer : ℕ → (ℕ → Bool) → Bool → ℤ → Sketch → Answer
+flowBucketsAnswer N on minus n S =
     refuseAt N (damagedIn on S) Damage
     (refuseAt N (leavesIn on minus n (S .counts)) Range
     Done)

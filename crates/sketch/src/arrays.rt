@@ -3,23 +3,23 @@ ghost use mathlib.Core.Path.{_≡_};
 ghost use Rattle.sketch.specs.Arrays.{arrayAnswer, Lent};
 use params::Answer;
 use params::Params;
-use params::Why;
+use params::Refusal;
 
 // Whether array i of a slice of this length can be lent: what goes with the stretches below.
 pub fn array(p: Params, i: usize, len: usize) -> Answer
     ensures { λ r. ⌜ r ≡ arrayAnswer p i len ⌝ }
 {
     if !p.check() {
-        return Answer::Refused(Why::Param, 0);
+        return Answer::Refused(Refusal::Param, 0);
     }
     if i < 1 {
-        return Answer::Refused(Why::Param, 0);
+        return Answer::Refused(Refusal::Param, 0);
     }
     if p.d < i {
-        return Answer::Refused(Why::Param, 0);
+        return Answer::Refused(Refusal::Param, 0);
     }
     if len != p.size() {
-        return Answer::Refused(Why::Length, 0);
+        return Answer::Refused(Refusal::Length, 0);
     }
     Answer::Done
 }

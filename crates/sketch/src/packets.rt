@@ -7,20 +7,20 @@ ghost use lib.ListN.{length, getD, set, replicate};
 ghost use Rattle.field.specs.Residue.{residue};
 ghost use Rattle.params.specs.Lists.{below, least};
 ghost use Rattle.params.specs.Params.{prime};
-ghost use Rattle.params.specs.Places.{standsIn, Reached};
+ghost use Rattle.params.specs.Positions.{standsIn, WithinArrays};
 ghost use Rattle.buckets.specs.Buckets.{inLimits, plusMinus};
-ghost use Rattle.sketch.specs.Sketch.{sketch, quietAt, damagedIn, leavesIn, standingAnswer, changedIn, Freshened};
+ghost use Rattle.sketch.specs.Sketch.{sketch, smallAt, damagedIn, leavesIn, flowBucketsAnswer, changedIn, Freshened};
 ghost use Rattle.sketch.specs.Packets.{packetAnswer, entryAnswer, Stepped, Inserted, Withdrawn, Unwound, PacketsInserted, AllInserted};
-use buckets::moved;
-use buckets::quiet;
+use buckets::plus_minus;
+use buckets::is_small;
 use buckets::sound;
 use buckets::weight;
 use buckets::within;
-use buckets::wound;
+use buckets::idsum_plus_minus;
 use params::Answer;
 use params::PRIME;
 use params::Params;
-use params::Why;
+use params::Refusal;
 
 fn clear(counts: &mut [i32], idsums: &mut [u32])
     requires { ⌜ length (now counts) ≡ length (now idsums) ⌝ }
@@ -39,7 +39,7 @@ fn clear(counts: &mut [i32], idsums: &mut [u32])
 pub fn fresh(p: Params, counts: &mut [i32], idsums: &mut [u32]) -> Answer
     ensures { λ r. ⌜ Freshened p (sketch (now (counts .entry)) (now (idsums .entry))) r (sketch (now (counts .exit)) (now (idsums .exit))) ⌝ }
 {
-    let r = p.shape(counts.len(), idsums.len());
+    let r = p.judge_lent(counts.len(), idsums.len());
     let Answer::Done = r else {
         return r;
     };
@@ -52,13 +52,13 @@ fn packet(f: u32, n: u32) -> Answer
     ensures { λ r. ⌜ r ≡ packetAnswer f n ⌝ }
 {
     if PRIME <= f {
-        return Answer::Refused(Why::Flow, 0);
+        return Answer::Refused(Refusal::Flow, 0);
     }
     if n < 1 {
-        return Answer::Refused(Why::Count, 0);
+        return Answer::Refused(Refusal::Count, 0);
     }
     if PRIME <= n {
-        return Answer::Refused(Why::Count, 0);
+        return Answer::Refused(Refusal::Count, 0);
     }
     Answer::Done
 }
@@ -67,7 +67,7 @@ fn packet(f: u32, n: u32) -> Answer
 fn entry(p: Params, counts: usize, idsums: usize, f: u32, n: u32) -> Answer
     ensures { λ r. ⌜ r ≡ entryAnswer p counts idsums f n ⌝ }
 {
-    let r = p.sizes(counts, idsums);
+    let r = p.judge_dimensions(counts, idsums);
     let Answer::Done = r else {
         return r;
     };
@@ -75,14 +75,14 @@ fn entry(p: Params, counts: usize, idsums: usize, f: u32, n: u32) -> Answer
 }
 
 // Whether each of a flow's buckets is quiet.
-fn all_quiet(d: usize, m: usize, ks: &[usize; 4], counts: &[i32], idsums: &[u32]) -> bool
-    requires { ⌜ Reached d m (now ks) (length (now counts)) (length (now idsums)) ⌝ }
-    ensures { λ r. ⌜ r ≡ below d (λ i. quietAt (sketch (now (counts .entry)) (now (idsums .entry))) (i * m + getD (now (ks .entry)) i 0)) ⌝ }
+fn all_small(d: usize, m: usize, ks: &[usize; 4], counts: &[i32], idsums: &[u32]) -> bool
+    requires { ⌜ WithinArrays d m (now ks) (length (now counts)) (length (now idsums)) ⌝ }
+    ensures { λ r. ⌜ r ≡ below d (λ i. smallAt (sketch (now (counts .entry)) (now (idsums .entry))) (i * m + getD (now (ks .entry)) i 0)) ⌝ }
 {
     let mut i = 0;
     while i < d {
         let k = i * m + ks[i];
-        if !quiet(counts[k], idsums[k]) {
+        if !is_small(counts[k], idsums[k]) {
             return false;
         }
         i += 1;
@@ -92,7 +92,7 @@ fn all_quiet(d: usize, m: usize, ks: &[usize; 4], counts: &[i32], idsums: &[u32]
 
 // The index of the first of a flow's buckets that is outside its limits, or the sketch's size.
 fn first_damaged(d: usize, m: usize, ks: &[usize; 4], counts: &[i32], idsums: &[u32]) -> usize
-    requires { ⌜ Reached d m (now ks) (length (now counts)) (length (now idsums)) ⌝ }
+    requires { ⌜ WithinArrays d m (now ks) (length (now counts)) (length (now idsums)) ⌝ }
     ensures { λ r. ⌜ r ≡ least 0 (d * m) (damagedIn (standsIn d m (λ i. getD (now (ks .entry)) i 0)) (sketch (now (counts .entry)) (now (idsums .entry)))) ⌝ }
 {
     let mut i = 0;
@@ -108,13 +108,13 @@ fn first_damaged(d: usize, m: usize, ks: &[usize; 4], counts: &[i32], idsums: &[
 
 // The index of the first of a flow's buckets whose count would leave its limits, or the sketch's size.
 fn first_leaving(minus: bool, d: usize, m: usize, ks: &[usize; 4], counts: &[i32], n: i32) -> usize
-    requires { ⌜ Reached d m (now ks) (length (now counts)) (length (now counts)) ⌝ }
+    requires { ⌜ WithinArrays d m (now ks) (length (now counts)) (length (now counts)) ⌝ }
     ensures { λ r. ⌜ r ≡ least 0 (d * m) (leavesIn (standsIn d m (λ i. getD (now (ks .entry)) i 0)) minus n (now (counts .entry))) ⌝ }
 {
     let mut i = 0;
     while i < d {
         let k = i * m + ks[i];
-        if !within(moved(minus, counts[k], n)) {
+        if !within(plus_minus(minus, counts[k], n)) {
             return k;
         }
         i += 1;
@@ -132,21 +132,21 @@ fn judge(
     idsums: &[u32],
     n: i32,
 ) -> Answer
-    requires { ⌜ Reached d m (now ks) (length (now counts)) (length (now idsums)) ⌝ }
-    ensures { λ r. ⌜ r ≡ standingAnswer (d * m) (standsIn d m (λ i. getD (now (ks .entry)) i 0)) minus n (sketch (now (counts .entry)) (now (idsums .entry))) ⌝ }
+    requires { ⌜ WithinArrays d m (now ks) (length (now counts)) (length (now idsums)) ⌝ }
+    ensures { λ r. ⌜ r ≡ flowBucketsAnswer (d * m) (standsIn d m (λ i. getD (now (ks .entry)) i 0)) minus n (sketch (now (counts .entry)) (now (idsums .entry))) ⌝ }
 {
-    if quiet(n, 0) {
-        if all_quiet(d, m, ks, counts, idsums) {
+    if is_small(n, 0) {
+        if all_small(d, m, ks, counts, idsums) {
             return Answer::Done;
         }
     }
     let x = first_damaged(d, m, ks, counts, idsums);
     if x < counts.len() {
-        return Answer::Refused(Why::Damage, x);
+        return Answer::Refused(Refusal::Damage, x);
     }
     let y = first_leaving(minus, d, m, ks, counts, n);
     if y < counts.len() {
-        return Answer::Refused(Why::Range, y);
+        return Answer::Refused(Refusal::Range, y);
     }
     Answer::Done
 }
@@ -159,8 +159,8 @@ fn put(minus: bool, counts: &mut [i32], idsums: &mut [u32], j: usize, n: i32, w:
     ensures { λ r. ⌜ now (counts .exit) ≡ set (now (counts .entry)) j (plusMinus minus (getD (now (counts .entry)) j (pos 0)) n) ⌝ }
     ensures { λ r. ⌜ now (idsums .exit) ≡ set (now (idsums .entry)) j (residue prime (plusMinus minus (pos (getD (now (idsums .entry)) j 0)) (pos w))) ⌝ }
 {
-    counts[j] = moved(minus, counts[j], n) as i32;
-    idsums[j] = wound(minus, idsums[j], w);
+    counts[j] = plus_minus(minus, counts[j], n) as i32;
+    idsums[j] = idsum_plus_minus(minus, idsums[j], w);
 }
 
 // Every array's update. An array's stretch is lent on, to be worked on by itself.
@@ -174,7 +174,7 @@ fn put_all(
     n: i32,
     w: u32,
 )
-    requires { ⌜ Reached d m (now ks) (length (now counts)) (length (now idsums)) ⌝ }
+    requires { ⌜ WithinArrays d m (now ks) (length (now counts)) (length (now idsums)) ⌝ }
     requires { ⌜ ((i : ℕ) → i < d → inLimits (plusMinus minus (getD (now counts) (i * m + getD (now ks) i 0) (pos 0)) n) ≡ true) ⌝ }
     requires { ⌜ ((i : ℕ) → i < d → getD (now idsums) (i * m + getD (now ks) i 0) 0 < prime) × (w < prime) ⌝ }
     ensures { λ r. ⌜ sketch (now (counts .exit)) (now (idsums .exit)) ≡ changedIn (standsIn d m (λ i. getD (now (ks .entry)) i 0)) minus n w (sketch (now (counts .entry)) (now (idsums .entry))) ⌝ }
@@ -206,7 +206,7 @@ pub fn step(
         return e;
     };
     let mut ks: [usize; 4] = [0; 4];
-    p.places(f, &mut ks);
+    p.positions(f, &mut ks);
     let d = p.d;
     let m = p.m;
     let r = judge(minus, d, m, &ks, counts, idsums, n as i32);
@@ -228,7 +228,7 @@ pub fn put_in(p: Params, counts: &mut [i32], idsums: &mut [u32], f: u32, n: u32)
         return e;
     };
     let mut ks: [usize; 4] = [0; 4];
-    p.places(f, &mut ks);
+    p.positions(f, &mut ks);
     let d = p.d;
     let m = p.m;
     let r = judge(false, d, m, &ks, counts, idsums, n as i32);
@@ -248,7 +248,7 @@ fn put_listed(p: Params, counts: &mut [i32], idsums: &mut [u32], f: u32, n: u32)
         return e;
     };
     let mut ks: [usize; 4] = [0; 4];
-    p.places(f, &mut ks);
+    p.positions(f, &mut ks);
     let d = p.d;
     let m = p.m;
     let r = judge(false, d, m, &ks, counts, idsums, n as i32);
@@ -264,7 +264,7 @@ pub fn insert(p: Params, counts: &mut [i32], idsums: &mut [u32], f: u32, n: u32)
     ensures { λ r. ⌜ Inserted p f n (sketch (now (counts .entry)) (now (idsums .entry))) r (sketch (now (counts .exit)) (now (idsums .exit))) ⌝ }
 {
     if !p.check() {
-        return Answer::Refused(Why::Param, 0);
+        return Answer::Refused(Refusal::Param, 0);
     }
     step(false, p, counts, idsums, f, n)
 }
@@ -274,7 +274,7 @@ pub fn withdraw(p: Params, counts: &mut [i32], idsums: &mut [u32], f: u32, n: u3
     ensures { λ r. ⌜ Withdrawn p f n (sketch (now (counts .entry)) (now (idsums .entry))) r (sketch (now (counts .exit)) (now (idsums .exit))) ⌝ }
 {
     if !p.check() {
-        return Answer::Refused(Why::Param, 0);
+        return Answer::Refused(Refusal::Param, 0);
     }
     step(true, p, counts, idsums, f, n)
 }
@@ -331,12 +331,12 @@ pub fn insert_all(
 ) -> Answer
     ensures { λ r. ⌜ AllInserted p (now (flows .entry)) (now (numbers .entry)) (sketch (now (counts .entry)) (now (idsums .entry))) r (sketch (now (counts .exit)) (now (idsums .exit))) ⌝ }
 {
-    let r = p.shape(counts.len(), idsums.len());
+    let r = p.judge_lent(counts.len(), idsums.len());
     let Answer::Done = r else {
         return r;
     };
     if flows.len() != numbers.len() {
-        return Answer::Refused(Why::Length, 0);
+        return Answer::Refused(Refusal::Length, 0);
     }
     insert_packets(p, counts, idsums, flows, numbers)
 }

@@ -9,12 +9,12 @@ use lib.IntN.{pos}
 use lib.ListN.{length, getD, length-append}
 use lib.Seq.{getD-at}
 use Rattle.params.specs.declared.params.Params.{Params}
-use Rattle.params.specs.declared.answers.Why.the-variants.{Damage}
+use Rattle.params.specs.declared.answers.Refusal.the-variants.{Damage}
 use Rattle.params.specs.declared.answers.Answer.the-variants.{Done}
-use Rattle.params.specs.Params.{size, lengthsAnswer, shapeAnswer}
+use Rattle.params.specs.Params.{size, lengthsAnswer, lentAnswer}
 use Rattle.sketch.specs.Sketch.{Sketch, sketch, damagedAt, zeros}
 use Rattle.params.proofs.Judging.{first-done, first-passed, refuse-none}
-use Rattle.params.proofs.Rules.{good-sized, sized-small}
+use Rattle.params.proofs.Rules.{good-dimensions, dimensions-small}
 use Rattle.files.specs.Bytes.{wordBytes}
 use Rattle.files.specs.Heads.{openingAnswer}
 use Rattle.files.specs.Layout.{headBytes, endBytes}
@@ -34,9 +34,9 @@ lengths-good P c s e h = rw (eq-eqb c (size P) e, eq-eqb s (size P) h)
 
 -- a sketch that can be written is, where there is room for its file
 pub writable-done : (P : Params) (S : Sketch) (o : ℕ) → Writable P S → length (sketchBytes P S) ≤ o → sketchWriting P S o ≡ Done
-unfolding sketchWriting shapeAnswer
+unfolding sketchWriting lentAnswer
 writable-done P S o h l =
-    first-passed (shapeAnswer P (length (S .counts)) (length (S .idsums))) _ (rw (h .good) (lengths-good P _ _ (h .counts) (h .idsums)))
+    first-passed (lentAnswer P (length (S .counts)) (length (S .idsums))) _ (rw (h .good) (lengths-good P _ _ (h .counts) (h .idsums)))
     ∙ (rw (le-ltb o (length (sketchBytes P S)) l) (refuse-none (size P) (damagedAt S) Damage Done (h .undamaged)))
 
 -- the file of such a sketch is accepted, and holds the sketch
@@ -58,7 +58,7 @@ module _ (P : Params) (S : Sketch) (able : Writable P S) where
   end-place = headed-long P (bucketsBytes 0 (size P) S) ∙ ap (λ (n : ℕ). 38 + n) (buckets-long S 0 (size P))
 
   short : size P ≤ 65536
-  short = sized-small (good-sized P (able .good))
+  short = dimensions-small (good-dimensions P (able .good))
 
   told : Told P file S number (size P)
   unfolding sketchBytes headBytes wordBytes

@@ -10,15 +10,15 @@ use lib.Dec.{leb, ltb}
 use lib.IntN.{ℤ}
 use lib.ListN.{length, set}
 use Rattle.params.specs.declared.params.Params.{Params}
-use Rattle.params.specs.declared.answers.Why.the-variants.{Damage, Form}
+use Rattle.params.specs.declared.answers.Refusal.the-variants.{Damage, Form}
 use Rattle.params.specs.declared.answers.Answer.{Answer}
 use Rattle.params.specs.declared.answers.Answer.the-variants.{Done, Refused}
 use Rattle.params.specs.Answers.{kept}
-use Rattle.params.specs.Params.{prime, shapeAnswer}
+use Rattle.params.specs.Params.{prime, lentAnswer}
 use Rattle.buckets.specs.Buckets.{allZero, inLimits, damaged}
 use Rattle.sketch.specs.Sketch.{Sketch, sketch, Freshened}
 use Rattle.params.proofs.Searches.{and-true}
-use Rattle.params.proofs.Judging.{Refusal, first-refused, first-passed, first-done, refuse-done}
+use Rattle.params.proofs.Judging.{Refuses, first-refused, first-passed, first-done, refuse-done}
 use Rattle.files.specs.declared.fields.Bucket.{Bucket}
 use Rattle.files.specs.declared.fields.Bucket.the-variants.{Of as BucketOf, No as NoBucket}
 use Rattle.files.specs.Bytes.{word, countOf}
@@ -145,7 +145,7 @@ module _ (N : ℕ) {bs : List ℕ} {n at : ℕ} where
   as-judged here f e h q = rw (e, h, here .place, f .index, f .count, f .idsum) at q
 
   pub bucket-refused : {k s : ℕ} {c : ℤ} {r : Answer} → Found bs n at k c s → ((j : ℕ) → j < n → bucketJudged N bs j ≡ Done)
-      → r ≡ bucketJudged N bs n → Refusal r → r ≡ bucketsJudged N bs
+      → r ≡ bucketJudged N bs n → Refuses r → r ≡ bucketsJudged N bs
   unfolding bucketsJudged
   bucket-refused {r = r} f passed e h = first-refused r _ _ (in-turn-refused (bucketsIn bs) n (bucketJudged N bs) r (f .counted) passed e h) h
 
@@ -169,7 +169,7 @@ pub record Storing (bs : List ℕ) (S : Sketch) (at : ℕ) (T : Sketch) : Type 0
   pub reader : Reader bs passed at
   pub so-far : T ≡ stored bs passed S
 
-pub all-stored : {P : Params} (bs : List ℕ) {S T U : Sketch} {a r : Answer} → Freshened P S a T → shapeAnswer P (length (S .counts)) (length (S .idsums)) ≡ Done
+pub all-stored : {P : Params} (bs : List ℕ) {S T U : Sketch} {a r : Answer} → Freshened P S a T → lentAnswer P (length (S .counts)) (length (S .idsums)) ≡ Done
     → U ≡ stored bs (bucketsIn bs) T → r ≡ Done → U ≡ kept r S (sketchIn P bs)
 unfolding kept sketchIn
 all-stored bs f shaped filled done = rw (done, filled, f .after, f .answer, shaped)
@@ -180,6 +180,6 @@ unfolding bucketsJudged bucketJudged
 indexes-inside N bs e k l =
     done-sound N (lowest bs k) (bucketPlace k) _ _ _ (done-in-turn (bucketsIn bs) (bucketJudged N bs) (first-done _ _ e .0) k l) .inside
 
-pub opening-shape : (P : Params) (bs : List ℕ) (c s : ℕ) → openingAnswer P bs c s ≡ Done → shapeAnswer P c s ≡ Done
-unfolding shapeAnswer
-opening-shape P bs c s e = let opened = opening-done P bs c s e in rw (opened .good) (opened .lengths)
+pub opening-lent : (P : Params) (bs : List ℕ) (c s : ℕ) → openingAnswer P bs c s ≡ Done → lentAnswer P c s ≡ Done
+unfolding lentAnswer
+opening-lent P bs c s e = let opened = opening-done P bs c s e in rw (opened .good) (opened .lengths)

@@ -124,13 +124,13 @@ module _ (P : Params) (bs : List ℕ) (S : Sketch) where
     told-step n k j before true z e q l t ih = told-same (omega arith) refl (ih j before e q (told-zero j k z t))
     told-step n k j before false z e q l t ih =
         let this = bucketBytes k (countIn S k) (idsumIn S k) in
-        let others = bucketsBytes (suc k) n S ++ rest in
-        let form : bs ≡ before ++ (this ++ others) = q ∙ ap (λ (xs : List ℕ). before ++ xs) (append-assoc this (bucketsBytes (suc k) n S) rest) in
+        let other-counts = bucketsBytes (suc k) n S ++ rest in
+        let form : bs ≡ before ++ (this ++ other-counts) = q ∙ ap (λ (xs : List ℕ). before ++ xs) (append-assoc this (bucketsBytes (suc k) n S) rest) in
         let limits = whole (countIn S k) (idsumIn S k) (undamaged k l) in
         let fits = limits-fit (countIn S k) (limits .0) in
-        let b = bucket-written bs before others (bucketPlace j) k (countIn S k) (idsumIn S k) form e (omega arith) fits (omega (arith, limits .1)) in
+        let b = bucket-written bs before other-counts (bucketPlace j) k (countIn S k) (idsumIn S k) form e (omega arith) fits (omega (arith, limits .1)) in
         told-same (omega arith) refl
-        (ih (suc j) (before ++ this) (length-append before this ∙ omega arith) (form ∙ sym (append-assoc before this others))
+        (ih (suc j) (before ++ this) (length-append before this ∙ omega arith) (form ∙ sym (append-assoc before this other-counts))
         (told-next j k l (undamaged k l) z b t))
 
     pub told-all : (n k j : ℕ) (before : List ℕ) → length before ≡ bucketPlace j → bs ≡ before ++ (bucketsBytes k n S ++ rest) → k + n ≡ size P → Told P bs S j k

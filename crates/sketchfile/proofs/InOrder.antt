@@ -9,13 +9,13 @@ use borrow.Author.Tests.{ltb-true}
 use lib.Dec.{leb, ltb}
 use lib.ListN.{length}
 use Rattle.params.specs.declared.params.Params.{Params}
-use Rattle.params.specs.declared.answers.Why.{Why}
-use Rattle.params.specs.declared.answers.Why.the-variants.{Param, Length, Flow, Count, Damage, Range, Mismatch, Form}
+use Rattle.params.specs.declared.answers.Refusal.{Refusal}
+use Rattle.params.specs.declared.answers.Refusal.the-variants.{Param, Length, Flow, Count, Damage, Range, Mismatch, Form}
 use Rattle.params.specs.declared.answers.Answer.{Answer}
 use Rattle.params.specs.declared.answers.Answer.the-variants.{Done, Refused}
 use Rattle.params.specs.Lists.{least}
 use Rattle.params.specs.Answers.{numberOf, numberIn, indexIn, refuseIf, refuseAt, first}
-use Rattle.params.specs.Params.{size, goodParams, lengthsAnswer, shapeAnswer}
+use Rattle.params.specs.Params.{size, goodParams, lengthsAnswer, lentAnswer}
 use Rattle.buckets.specs.Buckets.{allZero, damaged}
 use Rattle.sketch.specs.Sketch.{Sketch, damagedAt}
 use Rattle.params.proofs.Judging.{first-either}
@@ -34,7 +34,7 @@ use Rattle.sketchfile.specs.Stored.{bucketsIn, bucketIndex, bucketCount,
 use Rattle.sketchfile.specs.Writing.{sketchBytes, sketchWriting, SketchWritten}
 
 -- which faults the j-th record has, in a sketch of N buckets: damage, an index that does not rise or is not below N, or a bucket that is all zero
-abbrev pub bucketFault : ℕ → List ℕ → ℕ → Why → Bool
+abbrev pub bucketFault : ℕ → List ℕ → ℕ → Refusal → Bool
 bucketFault N bs j Damage = damaged (bucketCount bs j) (bucketIdsum bs j)
 bucketFault N bs j Form = not (leb (lowest bs j) (bucketIndex bs j) && ltb (bucketIndex bs j) N) || allZero (bucketCount bs j) (bucketIdsum bs j)
 bucketFault N bs j Param = false
@@ -49,7 +49,7 @@ module _ (N : ℕ) (bs : List ℕ) (j : ℕ) where
   unfolding bucketJudged bucketAnswer
   bucket-number = simp (refuse-number, cond-either)
 
-  bucket-place : (w : Why) (k : ℕ) → bucketJudged N bs j ≡ Refused w k → k ≡ bucketPlace j
+  bucket-place : (w : Refusal) (k : ℕ) → bucketJudged N bs j ≡ Refused w k → k ≡ bucketPlace j
   unfolding bucketJudged bucketAnswer
   bucket-place w k = go (damaged (bucketCount bs j) (bucketIdsum bs j)) (not (leb (lowest bs j) (bucketIndex bs j) && ltb (bucketIndex bs j) N)) (allZero (bucketCount bs j) (bucketIdsum bs j))
     where
@@ -59,7 +59,7 @@ module _ (N : ℕ) (bs : List ℕ) (j : ℕ) where
       go false false true e = cc
       go false false false e = absurd (let z : _≡_ {A = ℕ} 0 1 = cc in omega arith)
 
-module _ (P : Params) (bs : List ℕ) (c s : ℕ) (w : Why) (k : ℕ) where
+module _ (P : Params) (bs : List ℕ) (c s : ℕ) (w : Refusal) (k : ℕ) where
   -- the earliest bucket at fault: those before it were accepted, the first of its faults decides the number, and its offset is told
   pub record BucketFault : Type 0 where
     pub which : ℕ
@@ -103,7 +103,7 @@ module _ (P : Params) (bs : List ℕ) (c s : ℕ) (w : Why) (k : ℕ) where
       (first-either (openingAnswer P bs c s) (bucketsJudged (size P) bs) w k e)
 
 -- which faults apply where a sketch is written into an output of o bytes
-abbrev pub writeFault : Params → Sketch → ℕ → Why → Bool
+abbrev pub writeFault : Params → Sketch → ℕ → Refusal → Bool
 writeFault P S o Param = not (goodParams P)
 writeFault P S o Length = wrongLength P S || ltb o (length (sketchBytes P S))
 writeFault P S o Damage = some (size P) (damagedAt S)
@@ -115,13 +115,13 @@ writeFault P S o Form = false
 
 module _ (P : Params) (S : Sketch) (o : ℕ) where
   writing-number : numberIn (sketchWriting P S o) ≡ firstOf order (writeFault P S o)
-  unfolding sketchWriting shapeAnswer lengthsAnswer first
+  unfolding sketchWriting lentAnswer lengthsAnswer first
   writing-number = simp (first-refuse, refuse-number, refuse-at-number, cond-either)
 
   -- the lowest damaged bucket goes with the number of Damage, 0 with any other
   writing-index : (numberIn (sketchWriting P S o) ≡ 5 → Lowest (size P) (damagedAt S) (indexIn (sketchWriting P S o)))
       × ((numberIn (sketchWriting P S o) ≡ 5 → ⊥) → indexIn (sketchWriting P S o) ≡ 0)
-  unfolding sketchWriting shapeAnswer lengthsAnswer first refuseAt
+  unfolding sketchWriting lentAnswer lengthsAnswer first refuseAt
   writing-index = go (not (goodParams P)) (wrongLength P S) (ltb o (length (sketchBytes P S))) (ltb found (size P)) refl
     where
       found : ℕ
@@ -151,7 +151,7 @@ module _ {P : Params} {S : Sketch} {out : List ℕ} {r : Written} {out' : List �
   write-sketch-number = written-number judged long (h .answer) ∙ writing-number P S (length out)
 
   -- so no fault that applies has a lower number
-  pub write-sketch-least-number : (w : Why) → writeFault P S (length out) w ≡ true → writtenNumber r ≤ numberOf w
+  pub write-sketch-least-number : (w : Refusal) → writeFault P S (length out) w ≡ true → writtenNumber r ≤ numberOf w
   write-sketch-least-number w e = rw write-sketch-number (lowest-first (writeFault P S (length out)) refl w e)
 
   -- with the number of Damage the index is that of the lowest damaged bucket
@@ -169,5 +169,5 @@ module _ {P : Params} {S : Sketch} {out : List ℕ} {r : Written} {out' : List �
   write-sketch-length e = written-length judged long (h .answer) e
 
   -- a refused writer writes nothing
-  pub write-sketch-refused : {w : Why} {k : ℕ} → r ≡ NotWritten w k → out' ≡ out
+  pub write-sketch-refused : {w : Refusal} {k : ℕ} → r ≡ NotWritten w k → out' ≡ out
   write-sketch-refused e = h .bytes ∙ refused-as-it-was judged long (h .answer) out _ e

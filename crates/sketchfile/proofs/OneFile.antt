@@ -9,7 +9,7 @@ use Rattle.params.specs.declared.answers.Answer.{Answer}
 use Rattle.params.specs.declared.answers.Answer.the-variants.{Done, Refused}
 use Rattle.params.specs.Params.{size}
 use Rattle.sketch.specs.Sketch.{Sketch}
-use Rattle.params.specs.declared.answers.Why.{Why}
+use Rattle.params.specs.declared.answers.Refusal.{Refusal}
 use Rattle.params.specs.Answers.{kept}
 use Rattle.params.proofs.Judging.{kept-new}
 use Rattle.files.specs.declared.writing.Written.{Written}
@@ -58,6 +58,6 @@ pub one-file : {P : Params} {bs cs : List ℕ} {S T U : Sketch} → ((k : ℕ) �
 one-file small small' p q = sym (same-file small p) ∙ same-file small' q
 
 -- a refusal keeps the sketch that was lent
-pub refused-keeps : {P : Params} {bs : List ℕ} {T T' : Sketch} {w : Why} {k : ℕ} → SketchRead P bs T (Refused w k) T' → T' ≡ T
+pub refused-keeps : {P : Params} {bs : List ℕ} {T T' : Sketch} {w : Refusal} {k : ℕ} → SketchRead P bs T (Refused w k) T' → T' ≡ T
 unfolding kept
 refused-keeps q = q .content

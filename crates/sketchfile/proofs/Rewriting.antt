@@ -127,8 +127,8 @@ module _ (P : Params) (bs : List ℕ) (small : (k : ℕ) → getD bs k 0 < 256) 
   same-bytes n k T r e =
       let end = end-read bs (bucketPlace n) n small e in
       let records = bucketsBytes 0 (size P) T in
-      let quiet = rest-silent T k (size P) (r .inside) (r .rest-zero) in
-      let before : headBytes P ++ records ≡ take (bucketPlace n) bs = ap (λ (xs : List ℕ). headBytes P ++ xs) quiet ∙ r .bytes in
+      let isSmall = rest-silent T k (size P) (r .inside) (r .rest-zero) in
+      let before : headBytes P ++ records ≡ take (bucketPlace n) bs = ap (λ (xs : List ℕ). headBytes P ++ xs) isSmall ∙ r .bytes in
       let long : 38 + length records ≡ bucketPlace n = sym (headed-long P records) ∙ ap length before ∙ length-take-le (bucketPlace n) bs (omega (arith, end .0)) in
       let left : usedBuckets 0 (size P) T ≡ n = omega (arith, buckets-long T 0 (size P)) in
       sym (append-assoc (headBytes P) records (endBytes (usedBuckets 0 (size P) T)))

@@ -9,13 +9,13 @@ use borrow.Author.Tests.{lt-ltb, le-ltb, ltb-false, not-false}
 use lib.Dec.{ltb}
 use lib.ListN.{length}
 use Rattle.params.specs.declared.params.Params.{Params}
-use Rattle.params.specs.declared.answers.Why.the-variants.{Param, Length, Damage}
+use Rattle.params.specs.declared.answers.Refusal.the-variants.{Param, Length, Damage}
 use Rattle.params.specs.declared.answers.Answer.the-variants.{Done, Refused}
 use Rattle.params.specs.Answers.{refuseAt}
-use Rattle.params.specs.Params.{size, goodParams, shapeAnswer}
+use Rattle.params.specs.Params.{size, goodParams, lentAnswer}
 use Rattle.sketch.specs.Sketch.{Sketch, countIn, idsumIn, damagedAt}
 use Rattle.params.proofs.Judging.{first-done, first-passed, refuse-done, refuse-at-done}
-use Rattle.params.proofs.Rules.{good-sized, sized-small, shape-done}
+use Rattle.params.proofs.Rules.{good-dimensions, dimensions-small, lent-done}
 use Rattle.files.specs.Bytes.{wordBytes}
 use Rattle.files.specs.Layout.{bucketBytes}
 use Rattle.files.proofs.Overwriting.{length-file}
@@ -67,9 +67,9 @@ unfolding sketchBytes
 sketch-long P S = omega (arith, length-file P (bucketsBytes 0 (size P) S) (usedBuckets 0 (size P) S), buckets-long S 0 (size P))
 
 -- where the parameters and the lengths of the slices are right
-module _ (P : Params) (S : Sketch) (o : ℕ) (shaped : shapeAnswer P (length (S .counts)) (length (S .idsums)) ≡ Done) where
+module _ (P : Params) (S : Sketch) (o : ℕ) (shaped : lentAnswer P (length (S .counts)) (length (S .idsums)) ≡ Done) where
   long : length (sketchBytes P S) ≡ 43 + 13 * usedBuckets 0 (length (S .counts)) S
-  long = rw (shape-done P _ _ shaped .1) (sketch-long P S)
+  long = rw (lent-done P _ _ shaped .1) (sketch-long P S)
 
   pub sketch-short : o < 43 + 13 * usedBuckets 0 (length (S .counts)) S → Refused Length 0 ≡ sketchWriting P S o
   unfolding sketchWriting
@@ -79,7 +79,7 @@ module _ (P : Params) (S : Sketch) (o : ℕ) (shaped : shapeAnswer P (length (S 
   unfolding sketchWriting
   sketch-passed h =
       let passed : refuseAt (size P) (damagedAt S) Damage Done ≡ sketchWriting P S o = rw (le-ltb o (length (sketchBytes P S)) (omega (arith, long))) (sym (first-passed _ _ shaped)) in
-      ap (λ (n : ℕ). refuseAt n (damagedAt S) Damage Done) (shape-done P _ _ shaped .1) ∙ passed
+      ap (λ (n : ℕ). refuseAt n (damagedAt S) Damage Done) (lent-done P _ _ shaped .1) ∙ passed
 
 -- a sketch whose writing is not refused
 pub record Writable (P : Params) (S : Sketch) : Type 0 where
@@ -90,15 +90,15 @@ pub record Writable (P : Params) (S : Sketch) : Type 0 where
 
 -- it has few enough buckets
 pub writable-few : {P : Params} {S : Sketch} → Writable P S → length (S .counts) ≤ 65536
-writable-few {P} able = omega (arith, able .counts, sized-small (good-sized P (able .good)))
+writable-few {P} able = omega (arith, able .counts, dimensions-small (good-dimensions P (able .good)))
 
 -- where nothing is refused it is one, and the output has room for its file
 pub writing-done : (P : Params) (S : Sketch) (o : ℕ) → sketchWriting P S o ≡ Done → Writable P S × (43 + 13 * usedBuckets 0 (length (S .counts)) S ≤ o)
-unfolding sketchWriting shapeAnswer
+unfolding sketchWriting lentAnswer
 writing-done P S o e =
-    let h = first-done (shapeAnswer P (length (S .counts)) (length (S .idsums))) _ e in
+    let h = first-done (lentAnswer P (length (S .counts)) (length (S .idsums))) _ e in
     let k = refuse-done (ltb o (length (sketchBytes P S))) Length 0 _ (h .1) in
-    let lengths = shape-done P _ _ (h .0) in (
+    let lengths = lent-done P _ _ (h .0) in (
       record {
         good = not-false _ (refuse-done (not (goodParams P)) Param 0 _ (h .0) .0);
         counts = lengths .1;

@@ -7,7 +7,7 @@ use lib.IntN.{ℤ}
 use lib.Dec.{leb, ltb}
 use lib.ListN.{length, set}
 use Rattle.params.specs.declared.params.Params.{Params}
-use Rattle.params.specs.declared.answers.Why.the-variants.{Damage, Form}
+use Rattle.params.specs.declared.answers.Refusal.the-variants.{Damage, Form}
 use Rattle.params.specs.declared.answers.Answer.{Answer}
 use Rattle.params.specs.declared.answers.Answer.the-variants.{Done}
 use Rattle.params.specs.Answers.{refuseIf, first, kept}

@@ -6,11 +6,11 @@ use Prim.Native.Nat.{ℕ, zero, suc, _+_}
 use lib.Dec.{ltb}
 use lib.ListN.{length}
 use Rattle.params.specs.declared.params.Params.{Params}
-use Rattle.params.specs.declared.answers.Why.the-variants.{Length, Damage}
+use Rattle.params.specs.declared.answers.Refusal.the-variants.{Length, Damage}
 use Rattle.params.specs.declared.answers.Answer.{Answer}
 use Rattle.params.specs.declared.answers.Answer.the-variants.{Done}
 use Rattle.params.specs.Answers.{refuseIf, refuseAt, first, kept}
-use Rattle.params.specs.Params.{size, shapeAnswer}
+use Rattle.params.specs.Params.{size, lentAnswer}
 use Rattle.sketch.specs.Sketch.{Sketch, countIn, idsumIn, damagedAt}
 use Rattle.files.specs.declared.writing.Written.{Written}
 use Rattle.files.specs.Bytes.{over}
@@ -38,7 +38,7 @@ sketchBytes P S = headBytes P ++ (bucketsBytes 0 (size P) S ++ endBytes (usedBuc
 -- the parameters and the lengths, of the output, o, too, then damage anywhere
 unfoldable pub sketchWriting : Params → Sketch → ℕ → Answer
 sketchWriting P S o =
-    first (shapeAnswer P (length (S .counts)) (length (S .idsums)))
+    first (lentAnswer P (length (S .counts)) (length (S .idsums)))
     (refuseIf (ltb o (length (sketchBytes P S))) Length 0
     (refuseAt (size P) (damagedAt S) Damage
     Done))

@@ -12,7 +12,7 @@ use files::fields::bucket_at;
 use files::heads::opening;
 use params::Answer;
 use params::Params;
-use params::Why;
+use params::Refusal;
 use sketch::packets::fresh;
 
 // One bucket record at an offset, in a sketch of `size` buckets, where no index below `low` may stand.
@@ -20,16 +20,16 @@ fn judge_bucket(size: usize, low: usize, at: usize, index: usize, c: i32, s: u32
     ensures { λ r. ⌜ r ≡ bucketAnswer size low at index c s ⌝ }
 {
     if !sound(c, s) {
-        return Answer::Refused(Why::Damage, at);
+        return Answer::Refused(Refusal::Damage, at);
     }
     if index < low {
-        return Answer::Refused(Why::Form, at);
+        return Answer::Refused(Refusal::Form, at);
     }
     if size <= index {
-        return Answer::Refused(Why::Form, at);
+        return Answer::Refused(Refusal::Form, at);
     }
     if all_zero(c, s) {
-        return Answer::Refused(Why::Form, at);
+        return Answer::Refused(Refusal::Form, at);
     }
     Answer::Done
 }

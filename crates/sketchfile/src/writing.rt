@@ -13,7 +13,7 @@ use files::writing::put_end;
 use files::writing::put_head;
 use params::Answer;
 use params::Params;
-use params::Why;
+use params::Refusal;
 
 // How many buckets are not all zero.
 fn used(counts: &[i32], idsums: &[u32]) -> usize
@@ -35,16 +35,16 @@ fn used(counts: &[i32], idsums: &[u32]) -> usize
 fn judge(p: Params, counts: &[i32], idsums: &[u32], room: usize) -> Answer
     ensures { λ r. ⌜ r ≡ sketchWriting p (sketch (now (counts .entry)) (now (idsums .entry))) room ⌝ }
 {
-    let r = p.shape(counts.len(), idsums.len());
+    let r = p.judge_lent(counts.len(), idsums.len());
     let Answer::Done = r else {
         return r;
     };
     if room < 43 + 13 * used(counts, idsums) {
-        return Answer::Refused(Why::Length, 0);
+        return Answer::Refused(Refusal::Length, 0);
     }
     let x = first_damaged(counts, idsums);
     if x < counts.len() {
-        return Answer::Refused(Why::Damage, x);
+        return Answer::Refused(Refusal::Damage, x);
     }
     Answer::Done
 }
@@ -81,6 +81,6 @@ pub fn write_sketch(p: Params, counts: &[i32], idsums: &[u32], out: &mut [u8]) -
             put_end(out, at, n as u32);
             Written::Bytes(at + 5)
         }
-        Answer::Refused(why, index) => Written::Refused(why, index),
+        Answer::Refused(refusal, index) => Written::Refused(refusal, index),
     }
 }

@@ -6,7 +6,7 @@ use Prim.Native.Nat.{ℕ, _≤_, _<_}
 use native.Mathlib.Omega.{arith}
 use lib.ListN.{length}
 use Rattle.params.specs.declared.params.Params.{Params}
-use Rattle.params.specs.declared.answers.Why.the-variants.{Damage}
+use Rattle.params.specs.declared.answers.Refusal.the-variants.{Damage}
 use Rattle.params.specs.declared.answers.Answer.{Answer}
 use Rattle.params.specs.declared.answers.Answer.the-variants.{Done, Refused}
 use Rattle.params.specs.Params.{size}
@@ -14,14 +14,14 @@ use Rattle.sketch.specs.Sketch.{Sketch, damagedAt}
 use Rattle.sketch.specs.Packets.{Accepted}
 use Rattle.params.proofs.Judging.{first-done, refuse-at-done}
 use Rattle.files.specs.Heads.{openingAnswer}
-use Rattle.files.specs.Turns.{toldAt, inTurn, packetPlace, endAnswer}
+use Rattle.files.specs.Turns.{atOffset, inTurn, packetPlace, endAnswer}
 use Rattle.files.proofs.HeadTrips.{Opened, opening-done}
 use Rattle.files.proofs.Turning.{done-in-turn}
 use Rattle.streamfile.specs.Streams.{packetsIn, flowsIn, numbersIn, packetJudged, packetsJudged, streamAnswer}
 use Rattle.streamfile.proofs.Found.{flow-is, number-is}
 
-told-done : (at : ℕ) (r : Answer) → toldAt at r ≡ Done → r ≡ Done
-unfolding toldAt
+told-done : (at : ℕ) (r : Answer) → atOffset at r ≡ Done → r ≡ Done
+unfolding atOffset
 told-done at Done e = refl
 told-done at (Refused w k) e = cc
 

@@ -9,24 +9,24 @@ use native.Mathlib.Omega.{arith}
 use lib.ListN.{getD, drop}
 use lib.Seq.{drop-cons}
 use Rattle.params.specs.declared.params.Params.{Params}
-use Rattle.params.specs.declared.answers.Why.{Why}
+use Rattle.params.specs.declared.answers.Refusal.{Refusal}
 use Rattle.params.specs.declared.answers.Answer.{Answer}
 use Rattle.params.specs.declared.answers.Answer.the-variants.{Done, Refused}
 use Rattle.params.specs.Answers.{numberIn, first, kept}
-use Rattle.params.specs.Params.{shapeAnswer}
+use Rattle.params.specs.Params.{lentAnswer}
 use Rattle.sketch.specs.Sketch.{Sketch, Entry}
 use Rattle.sketch.specs.Packets.{stepAnswer, changed, after, packetsAnswer, AllInserted, entriesOf}
 use Rattle.sums.specs.History.{History, inserting-all}
 use Rattle.params.proofs.Judging.{number-done}
 use Rattle.sketch.proofs.ManyPackets.{after-more, packets-end, all-in-turn}
-use Rattle.files.specs.Turns.{toldAt, inTurn, packetPlace}
+use Rattle.files.specs.Turns.{atOffset, inTurn, packetPlace}
 use Rattle.streamfile.specs.Streams.{packetsIn, flowsIn, numbersIn, afterFirst, packetJudged, StreamRead}
 use Rattle.streamfile.proofs.Found.{length-flows, length-numbers, flow-is, number-is}
 use Rattle.streamfile.proofs.Accepting.{stream-done}
 
 -- an offset in place of the index is no other number
-first-told : (at : ℕ) (r next later : Answer) → numberIn next ≡ numberIn later → numberIn (first (toldAt at r) next) ≡ numberIn (first r later)
-unfolding first toldAt
+first-told : (at : ℕ) (r next later : Answer) → numberIn next ≡ numberIn later → numberIn (first (atOffset at r) next) ≡ numberIn (first r later)
+unfolding first atOffset
 first-told at Done next later e = e
 first-told at (Refused w k) next later e = refl
 
@@ -42,7 +42,7 @@ module _ (P : Params) (bs : List ℕ) (S : Sketch) where
     abbrev next : Sketch
     next = changed P false flow number T
 
-    judged-so : packetJudged P bs S i ≡ toldAt (packetPlace i) (stepAnswer P false flow number T)
+    judged-so : packetJudged P bs S i ≡ atOffset (packetPlace i) (stepAnswer P false flow number T)
     unfolding packetJudged
     judged-so = rw (flow-is 38 bs i one, number-is 38 bs i one, made)
 
@@ -73,7 +73,7 @@ module _ (P : Params) (bs : List ℕ) (S : Sketch) where
 
 -- so a stream that is accepted was inserted
 pub reads-as-inserted : {P : Params} {bs : List ℕ} {S S' : Sketch} → StreamRead P bs S Done S' → AllInserted P (flowsIn bs) (numbersIn bs) S Done S'
-unfolding shapeAnswer
+unfolding lentAnswer
 reads-as-inserted {P} {bs} {S} {S'} r =
     let done = stream-done P bs S (sym (r .answer)) in
     all-in-turn P (flowsIn bs) (numbersIn bs) S Done S' (rw (done .opened .good) (done .opened .lengths)) (length-flows 38 bs ∙ sym (length-numbers 38 bs))
@@ -84,6 +84,6 @@ pub reading-on : {P : Params} {es : List Entry} {bs : List ℕ} {S S' : Sketch} 
 reading-on h r = inserting-all h (reads-as-inserted r)
 
 -- a refusal keeps the sketch that was lent
-pub refused-keeps : {P : Params} {bs : List ℕ} {S S' : Sketch} {w : Why} {k : ℕ} → StreamRead P bs S (Refused w k) S' → S' ≡ S
+pub refused-keeps : {P : Params} {bs : List ℕ} {S S' : Sketch} {w : Refusal} {k : ℕ} → StreamRead P bs S (Refused w k) S' → S' ≡ S
 unfolding kept
 refused-keeps r = r .after-all

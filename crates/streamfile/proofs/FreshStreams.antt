@@ -15,7 +15,7 @@ use Rattle.params.specs.declared.params.Params.{Params}
 use Rattle.params.specs.declared.answers.Answer.the-variants.{Done}
 use Rattle.params.specs.Answers.{kept}
 use Rattle.params.specs.Params.{prime, size, goodParams}
-use Rattle.params.specs.Places.{stands}
+use Rattle.params.specs.Positions.{stands}
 use Rattle.params.proofs.Changes.{untouched}
 use Rattle.params.proofs.Rules.{lengths-done}
 use Rattle.buckets.specs.Buckets.{inLimits, damaged}

@@ -8,8 +8,8 @@ use native.Mathlib.Omega.{arith}
 use lib.Dec.{eqb, leb, ltb}
 use lib.ListN.{length}
 use Rattle.params.specs.declared.params.Params.{Params}
-use Rattle.params.specs.declared.answers.Why.{Why}
-use Rattle.params.specs.declared.answers.Why.the-variants.{Param, Length, Flow, Count, Damage, Range, Mismatch, Form}
+use Rattle.params.specs.declared.answers.Refusal.{Refusal}
+use Rattle.params.specs.declared.answers.Refusal.the-variants.{Param, Length, Flow, Count, Damage, Range, Mismatch, Form}
 use Rattle.params.specs.declared.answers.Answer.{Answer}
 use Rattle.params.specs.declared.answers.Answer.the-variants.{Done, Refused}
 use Rattle.params.specs.Lists.{below}
@@ -25,7 +25,7 @@ use Rattle.sketch.proofs.InOrder.{moveFault, move-number}
 use Rattle.files.specs.declared.writing.Written.{Written}
 use Rattle.files.specs.declared.writing.Written.the-variants.{Refused as NotWritten}
 use Rattle.files.specs.Heads.{openingAnswer}
-use Rattle.files.specs.Turns.{toldAt, inTurn, packetPlace, endAnswer}
+use Rattle.files.specs.Turns.{atOffset, inTurn, packetPlace, endAnswer}
 use Rattle.files.specs.Writing.{writtenNumber, writtenIndex, writtenLength}
 use Rattle.files.proofs.HeadTrips.{Opened, opening-done}
 use Rattle.files.proofs.Turning.{Earliest, in-turn-earliest, done-in-turn}
@@ -34,7 +34,7 @@ use Rattle.streamfile.specs.Streams.{packetsIn, packetFlow, packetNumber
 use Rattle.streamfile.specs.Writing.{streamBytes, isFlowAt, isNumberAt, streamWriting, StreamWritten}
 use Rattle.streamfile.proofs.Accepting.{judged-accepted}
 
-module _ (P : Params) (bs : List ℕ) (S : Sketch) (w : Why) (k : ℕ) where
+module _ (P : Params) (bs : List ℕ) (S : Sketch) (w : Refusal) (k : ℕ) where
   -- the earliest packet at fault: those before it were accepted, the first of its faults decides the number, and its offset is told
   pub record PacketFault : Type 0 where
     pub which : ℕ
@@ -50,8 +50,8 @@ module _ (P : Params) (bs : List ℕ) (S : Sketch) (w : Why) (k : ℕ) where
     in-end : Opened P bs (length (S .counts)) (length (S .idsums)) → ((j : ℕ) → j < size P → damagedAt S j ≡ false)
         → Accepted P (flowsIn bs) (numbersIn bs) S (packetsIn bs) → w ≡ Form → EndFault bs (packetPlace (packetsIn bs)) (packetsIn bs) k → StreamFault
 
-  told-refused : (at : ℕ) (r : Answer) → toldAt at r ≡ Refused w k → (numberOf w ≡ numberIn r) × (k ≡ at)
-  unfolding toldAt
+  told-refused : (at : ℕ) (r : Answer) → atOffset at r ≡ Refused w k → (numberOf w ≡ numberIn r) × (k ≡ at)
+  unfolding atOffset
   told-refused at Done e = absurd (let z : _≡_ {A = ℕ} 0 1 = cc in omega arith)
   told-refused at (Refused v j) e = let same : v ≡ w = cc in (ap numberOf (sym same), cc)
 
@@ -97,7 +97,7 @@ module _ (P : Params) (bs : List ℕ) (S : Sketch) (w : Why) (k : ℕ) where
       (first-either (openingAnswer P bs c s) _ w k e)
 
 -- which faults apply where packets are written into an output of o bytes
-abbrev pub writeFault : Params → List ℕ → List ℕ → ℕ → Why → Bool
+abbrev pub writeFault : Params → List ℕ → List ℕ → ℕ → Refusal → Bool
 writeFault P fs ns o Param = not (goodParams P)
 writeFault P fs ns o Length = not (eqb (length fs) (length ns) && leb (length fs) 65536) || ltb o (length (streamBytes P fs ns))
 writeFault P fs ns o Flow = not (below (length fs) (isFlowAt P fs))
@@ -134,7 +134,7 @@ module _ {P : Params} {fs ns out : List ℕ} {r : Written} {out' : List ℕ} (h 
   write-stream-number = written-number judged long (h .answer) ∙ writing-number P fs ns (length out)
 
   -- so no fault that applies has a lower number
-  pub write-stream-least-number : (w : Why) → writeFault P fs ns (length out) w ≡ true → writtenNumber r ≤ numberOf w
+  pub write-stream-least-number : (w : Refusal) → writeFault P fs ns (length out) w ≡ true → writtenNumber r ≤ numberOf w
   write-stream-least-number w e = rw write-stream-number (lowest-first (writeFault P fs ns (length out)) refl w e)
 
   -- 0 is told with it
@@ -146,5 +146,5 @@ module _ {P : Params} {fs ns out : List ℕ} {r : Written} {out' : List ℕ} (h 
   write-stream-length e = written-length judged long (h .answer) e
 
   -- a refused writer writes nothing
-  pub write-stream-refused : {w : Why} {k : ℕ} → r ≡ NotWritten w k → out' ≡ out
+  pub write-stream-refused : {w : Refusal} {k : ℕ} → r ≡ NotWritten w k → out' ≡ out
   write-stream-refused e = h .bytes ∙ refused-as-it-was judged long (h .answer) out _ e

@@ -11,18 +11,18 @@ use Rattle.params.specs.declared.answers.Answer.{Answer}
 use Rattle.params.specs.declared.answers.Answer.the-variants.{Done, Refused}
 use Rattle.sketch.specs.Sketch.{Sketch}
 use Rattle.sketch.specs.Packets.{stepAnswer, changed, after, Accepted}
-use Rattle.params.proofs.Judging.{Refusal, first-refused, first-passed}
+use Rattle.params.proofs.Judging.{Refuses, first-refused, first-passed}
 use Rattle.sketch.proofs.ManyPackets.{after-more, after-end}
 use Rattle.files.specs.Records.{recordAt, isKind, bodyLength}
-use Rattle.files.specs.Turns.{toldAt, packetFrom, packetPlace, endAnswer}
+use Rattle.files.specs.Turns.{atOffset, packetFrom, packetPlace, endAnswer}
 use Rattle.files.proofs.Standing.{kind-ends}
 use Rattle.files.proofs.Turning.{Come, come-start, come-next, come-end, come-within, in-turn-refused, in-turn-done}
 use Rattle.streamfile.specs.Streams.{packetsFrom, flowsFrom, numbersFrom, packetsIn, packetJudged, packetsJudged}
 use Rattle.streamfile.proofs.Found.{There, length-flows, length-numbers, flow-is, number-is}
 
 -- a told refusal is one
-pub told-refusal : (at : ℕ) (r : Answer) → Refusal r → Refusal (toldAt at r)
-unfolding toldAt
+pub told-refusal : (at : ℕ) (r : Answer) → Refuses r → Refuses (atOffset at r)
+unfolding atOffset
 told-refusal at Done h = h
 told-refusal at (Refused w k) h = h
 
@@ -82,17 +82,17 @@ module _ (P : Params) (o : ℕ) (bs : List ℕ) (S : Sketch) where
 module _ (P : Params) (bs : List ℕ) (S : Sketch) (n : ℕ) (T : Sketch) (g : Gone P 38 bs S n T) where
   -- every packet before was accepted
   passed : (j : ℕ) → j < n → packetJudged P bs S j ≡ Done
-  unfolding packetJudged toldAt
+  unfolding packetJudged atOffset
   passed j l =
       let one : j < packetsIn bs = omega (arith, gone-within P 38 bs S n T g) in
       rw (flow-is 38 bs j one, number-is 38 bs j one, g .accepted j l)
 
-  module _ (f k : ℕ) (there : There bs (packetPlace n) f k) (r : Answer) (e : r ≡ stepAnswer P false f k T) (h : Refusal r) where
-    judged-so : toldAt (packetPlace n) r ≡ packetJudged P bs S n
+  module _ (f k : ℕ) (there : There bs (packetPlace n) f k) (r : Answer) (e : r ≡ stepAnswer P false f k T) (h : Refuses r) where
+    judged-so : atOffset (packetPlace n) r ≡ packetJudged P bs S n
     unfolding packetJudged
-    judged-so = ap (toldAt (packetPlace n)) (e ∙ rw (← there .flow, ← there .number, ← g .made))
+    judged-so = ap (atOffset (packetPlace n)) (e ∙ rw (← there .flow, ← there .number, ← g .made))
 
-    pub packet-refused : toldAt (packetPlace n) r ≡ packetsJudged P bs S
+    pub packet-refused : atOffset (packetPlace n) r ≡ packetsJudged P bs S
     unfolding packetsJudged
     packet-refused =
         let told = told-refusal (packetPlace n) r h in

@@ -9,12 +9,12 @@ use lib.Dec.{eqb, leb}
 use lib.ListN.{length, getD, take, drop, length-append}
 use lib.Seq.{ext-getD, getD-at, length-take-le}
 use Rattle.params.specs.declared.params.Params.{Params}
-use Rattle.params.specs.declared.answers.Why.the-variants.{Length, Flow, Count, Damage}
+use Rattle.params.specs.declared.answers.Refusal.the-variants.{Length, Flow, Count, Damage}
 use Rattle.params.specs.declared.answers.Answer.{Answer}
 use Rattle.params.specs.declared.answers.Answer.the-variants.{Done}
 use Rattle.params.specs.Lists.{below}
 use Rattle.params.specs.Answers.{numberIn, refuseIf, refuseAt, first}
-use Rattle.params.specs.Params.{prime, size, goodParams, shapeAnswer}
+use Rattle.params.specs.Params.{prime, size, goodParams, lentAnswer}
 use Rattle.sketch.specs.Sketch.{Sketch, damagedAt}
 use Rattle.sketch.specs.Packets.{packetsAnswer, allAnswer}
 use Rattle.params.proofs.Searches.{and-true, below-at, all-below}
@@ -136,8 +136,8 @@ module _ (P : Params) (fs ns : List ℕ) (able : Sendable P fs ns) where
       at k l = omega (arith, length-numbers 38 file, counted)
 
   -- and reading it into a sketch without damage answers as inserting them does, save for the place
-  opening-is : (c s : ℕ) → openingAnswer P file c s ≡ shapeAnswer P c s
-  unfolding streamBytes shapeAnswer
+  opening-is : (c s : ℕ) → openingAnswer P file c s ≡ lentAnswer P c s
+  unfolding streamBytes lentAnswer
   opening-is c s = opening-written P _ c s (able .good) ∙ rw (able .good)
 
   records-number : (S : Sketch) → numberIn (packetsJudged P file S) ≡ numberIn (packetsAnswer P fs ns S)
@@ -147,9 +147,9 @@ module _ (P : Params) (fs ns : List ℕ) (able : Sendable P fs ns) where
       ∙ packets-judged P file S
       ∙ ap₂ (λ (fs ns : List ℕ). numberIn (packetsAnswer P fs ns S)) flows-back numbers-back
 
-  past-shape : (S : Sketch) → ((k : ℕ) → k < size P → damagedAt S k ≡ false)
+  past-lent : (S : Sketch) → ((k : ℕ) → k < size P → damagedAt S k ≡ false)
       → numberIn (refuseAt (size P) (damagedAt S) Damage (packetsJudged P file S)) ≡ numberIn (refuseIf (not (eqb (length fs) (length ns))) Length 0 (packetsAnswer P fs ns S))
-  past-shape S undamaged =
+  past-lent S undamaged =
       ap numberIn (refuse-none (size P) (damagedAt S) Damage (packetsJudged P file S) undamaged)
       ∙ records-number S
       ∙ rw (eq-eqb (length fs) (length ns) (able .same))
@@ -158,4 +158,4 @@ module _ (P : Params) (fs ns : List ℕ) (able : Sendable P fs ns) where
   unfolding streamAnswer allAnswer
   file-number S undamaged =
       ap (λ (r : Answer). numberIn (first r (refuseAt (size P) (damagedAt S) Damage (packetsJudged P file S)))) (opening-is (length (S .counts)) (length (S .idsums)))
-      ∙ first-number (shapeAnswer P (length (S .counts)) (length (S .idsums))) _ _ (past-shape S undamaged)
+      ∙ first-number (lentAnswer P (length (S .counts)) (length (S .idsums))) _ _ (past-lent S undamaged)

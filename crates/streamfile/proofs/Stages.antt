@@ -7,7 +7,7 @@ use borrow.Author.Tests.{eq-eqb}
 use lib.Dec.{eqb}
 use lib.ListN.{length}
 use Rattle.params.specs.declared.params.Params.{Params}
-use Rattle.params.specs.declared.answers.Why.the-variants.{Damage}
+use Rattle.params.specs.declared.answers.Refusal.the-variants.{Damage}
 use Rattle.params.specs.declared.answers.Answer.{Answer}
 use Rattle.params.specs.declared.answers.Answer.the-variants.{Done, Refused}
 use Rattle.params.specs.Lists.{least}
@@ -15,14 +15,14 @@ use Rattle.params.specs.Answers.{kept}
 use Rattle.params.specs.Params.{size}
 use Rattle.sketch.specs.Sketch.{Sketch, damagedAt}
 use Rattle.sketch.specs.Packets.{after}
-use Rattle.params.proofs.Judging.{Refusal, first-refused, first-passed, kept-old, refuse-found, refuse-past}
+use Rattle.params.proofs.Judging.{Refuses, first-refused, first-passed, kept-old, refuse-found, refuse-past}
 use Rattle.params.proofs.Rules.{lengths-done}
 use Rattle.files.specs.Heads.{openingAnswer}
 use Rattle.files.proofs.HeadTrips.{opening-done}
 use Rattle.streamfile.specs.Streams.{flowsIn, numbersIn, packetsJudged, streamAnswer, RecordsRead, StreamRead}
 
 module _ (P : Params) (bs : List ℕ) (S : Sketch) where
-  pub not-opened : (r : Answer) → r ≡ openingAnswer P bs (length (S .counts)) (length (S .idsums)) → Refusal r → StreamRead P bs S r S
+  pub not-opened : (r : Answer) → r ≡ openingAnswer P bs (length (S .counts)) (length (S .idsums)) → Refuses r → StreamRead P bs S r S
   unfolding streamAnswer
   not-opened r e h =
       record {

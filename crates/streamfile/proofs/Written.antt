@@ -10,7 +10,7 @@ use lib.Dec.{eqb, leb, ltb}
 use lib.ListN.{length, getD, drop}
 use lib.Seq.{drop-cons}
 use Rattle.params.specs.declared.params.Params.{Params}
-use Rattle.params.specs.declared.answers.Why.the-variants.{Param, Length, Flow, Count}
+use Rattle.params.specs.declared.answers.Refusal.the-variants.{Param, Length, Flow, Count}
 use Rattle.params.specs.declared.answers.Answer.the-variants.{Done}
 use Rattle.params.specs.Lists.{below}
 use Rattle.params.specs.Answers.{refuseIf}

@@ -5,7 +5,7 @@ use mathlib.Core.List.{List}
 use Prim.Native.Nat.{ℕ, _+_}
 use lib.ListN.{length, take}
 use Rattle.params.specs.declared.params.Params.{Params}
-use Rattle.params.specs.declared.answers.Why.the-variants.{Damage}
+use Rattle.params.specs.declared.answers.Refusal.the-variants.{Damage}
 use Rattle.params.specs.declared.answers.Answer.{Answer}
 use Rattle.params.specs.Lists.{from}
 use Rattle.params.specs.Answers.{refuseAt, first, kept}
@@ -14,7 +14,7 @@ use Rattle.sketch.specs.Sketch.{Sketch, damagedAt}
 use Rattle.sketch.specs.Packets.{stepAnswer, after}
 use Rattle.files.specs.Bytes.{word}
 use Rattle.files.specs.Heads.{openingAnswer}
-use Rattle.files.specs.Turns.{toldAt, inTurn, packetFrom, packetPlace, recordsOf, endAnswer}
+use Rattle.files.specs.Turns.{atOffset, inTurn, packetFrom, packetPlace, recordsOf, endAnswer}
 
 -- how many packet records stand from an offset o on, and the flow and the number in the k-th, counted from 0
 abbrev pub packetsFrom : ℕ → List ℕ → ℕ
@@ -54,7 +54,7 @@ abbrev pub afterFirst : Params → List ℕ → ℕ → Sketch → Sketch
 afterFirst P bs k S = after P (take k (flowsIn bs)) (take k (numbersIn bs)) S
 
 unfoldable pub packetJudged : Params → List ℕ → Sketch → ℕ → Answer
-packetJudged P bs S k = toldAt (packetPlace k) (stepAnswer P false (packetFlow bs k) (packetNumber bs k) (afterFirst P bs k S))
+packetJudged P bs S k = atOffset (packetPlace k) (stepAnswer P false (packetFlow bs k) (packetNumber bs k) (afterFirst P bs k S))
 
 -- the records after the head: the earliest at fault decides
 unfoldable pub packetsJudged : Params → List ℕ → Sketch → Answer

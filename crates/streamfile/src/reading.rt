@@ -3,7 +3,7 @@ ghost use mathlib.Core.Path.{_≡_};
 ghost use Prim.Native.Nat.{_≤_};
 ghost use Rattle.sketch.specs.Sketch.{sketch};
 ghost use Rattle.sketch.specs.Packets.{Unwound};
-ghost use Rattle.files.specs.Turns.{toldAt};
+ghost use Rattle.files.specs.Turns.{atOffset};
 ghost use Rattle.streamfile.specs.Streams.{packetsIn, flowsIn, numbersIn, RecordsRead, StreamRead};
 use buckets::first_damaged;
 use files::ends::end;
@@ -12,17 +12,17 @@ use files::fields::packets_at;
 use files::heads::opening;
 use params::Answer;
 use params::Params;
-use params::Why;
+use params::Refusal;
 use sketch::packets::put_in;
 use sketch::packets::step;
 
 // A refusal with an offset in place of its index.
-fn told_at(at: usize, r: Answer) -> Answer
-    ensures { λ x. ⌜ x ≡ toldAt at r ⌝ }
+fn at_offset(at: usize, r: Answer) -> Answer
+    ensures { λ x. ⌜ x ≡ atOffset at r ⌝ }
 {
     match r {
         Answer::Done => Answer::Done,
-        Answer::Refused(why, _) => Answer::Refused(why, at),
+        Answer::Refused(refusal, _) => Answer::Refused(refusal, at),
     }
 }
 
@@ -56,7 +56,7 @@ fn read_records(p: Params, counts: &mut [i32], idsums: &mut [u32], bytes: &[u8])
         let r = put_in(p, counts, idsums, flow, number);
         let Answer::Done = r else {
             withdraw_packets(p, counts, idsums, bytes, n);
-            return told_at(at, r);
+            return at_offset(at, r);
         };
         at += 9;
         n += 1;
@@ -79,7 +79,7 @@ pub fn read_stream(p: Params, counts: &mut [i32], idsums: &mut [u32], bytes: &[u
     };
     let x = first_damaged(counts, idsums);
     if x < counts.len() {
-        return Answer::Refused(Why::Damage, x);
+        return Answer::Refused(Refusal::Damage, x);
     }
     read_records(p, counts, idsums, bytes)
 }

@@ -12,7 +12,7 @@ use files::writing::put_packets;
 use params::Answer;
 use params::PRIME;
 use params::Params;
-use params::Why;
+use params::Refusal;
 
 // Whether every flow is one.
 fn all_flows(p: Params, flows: &[u32]) -> bool
@@ -50,23 +50,23 @@ fn judge(p: Params, flows: &[u32], numbers: &[u32], room: usize) -> Answer
     ensures { λ r. ⌜ r ≡ streamWriting p (now (flows .entry)) (now (numbers .entry)) room ⌝ }
 {
     if !p.check() {
-        return Answer::Refused(Why::Param, 0);
+        return Answer::Refused(Refusal::Param, 0);
     }
     let n = flows.len();
     if n != numbers.len() {
-        return Answer::Refused(Why::Length, 0);
+        return Answer::Refused(Refusal::Length, 0);
     }
     if 65536 < n {
-        return Answer::Refused(Why::Length, 0);
+        return Answer::Refused(Refusal::Length, 0);
     }
     if room < 43 + 9 * n {
-        return Answer::Refused(Why::Length, 0);
+        return Answer::Refused(Refusal::Length, 0);
     }
     if !all_flows(p, flows) {
-        return Answer::Refused(Why::Flow, 0);
+        return Answer::Refused(Refusal::Flow, 0);
     }
     if !all_numbers(numbers) {
-        return Answer::Refused(Why::Count, 0);
+        return Answer::Refused(Refusal::Count, 0);
     }
     Answer::Done
 }
@@ -99,6 +99,6 @@ pub fn write_stream(p: Params, flows: &[u32], numbers: &[u32], out: &mut [u8]) -
             put_end(out, 38 + 9 * n, n as u32);
             Written::Bytes(43 + 9 * n)
         }
-        Answer::Refused(why, index) => Written::Refused(why, index),
+        Answer::Refused(refusal, index) => Written::Refused(refusal, index),
     }
 }

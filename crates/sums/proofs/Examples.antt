@@ -10,13 +10,13 @@ use Rattle.params.specs.declared.params.Params.{Params}
 use Rattle.params.specs.declared.answers.Answer.{Answer}
 use Rattle.params.specs.Lists.{below, least}
 use Rattle.params.specs.Answers.{numberIn, indexIn, refuseAt, first}
-use Rattle.params.specs.Params.{pairAt, twins, goodSizes, goodParams, samePair, sameParams, lengthsAnswer, sizesAnswer}
-use Rattle.params.specs.Places.{stand, standAnswer, standsIn}
+use Rattle.params.specs.Params.{pairAt, twins, goodDimensions, goodParams, samePair, sameParams, lengthsAnswer, dimensionsAnswer}
+use Rattle.params.specs.Positions.{stand, positionAnswer, standsIn}
 use Rattle.buckets.specs.Buckets.{inLimits}
-use Rattle.sketch.specs.Sketch.{Sketch, sketch, zeros, damagedIn, leavesIn, standingAnswer}
+use Rattle.sketch.specs.Sketch.{Sketch, sketch, zeros, damagedIn, leavesIn, flowBucketsAnswer}
 use Rattle.sketch.specs.Packets.{packetAnswer, entryAnswer, stepAnswer, moveAnswer}
 use Rattle.sketch.specs.Arrays.{arrayAnswer}
-use Rattle.sums.specs.Sums.{shapesAnswer, eitherDamaged, leaves, bucketsAnswer, combineAnswer}
+use Rattle.sums.specs.Sums.{bothLentAnswer, eitherDamaged, leaves, bucketsAnswer, combineAnswer}
 
 -- what a row tells: an answer's number and index
 pub record Told : Type 0 where
@@ -72,9 +72,9 @@ table =
     ∷ (inserting (params 2 5 (1 ∷ 1073741824 ∷ 0 ∷ 0 ∷ []) (0 ∷ 2147483647 ∷ 0 ∷ 0 ∷ [])) 7 1 fresh, answer 1 0)
     ∷ (inserting (params 2 5 (1 ∷ 1073741824 ∷ 1 ∷ 0 ∷ []) (0 ∷ 0 ∷ 0 ∷ 0 ∷ [])) 7 1 fresh, answer 1 0)
     ∷ (inserting (params 2 5 (1 ∷ 1073741824 ∷ 0 ∷ 0 ∷ []) (0 ∷ 0 ∷ 0 ∷ 1 ∷ [])) 7 1 fresh, answer 1 0)
-    ∷ (told (standAnswer K 0 7), answer 1 0)
-    ∷ (told (standAnswer K 3 7), answer 1 0)
-    ∷ (told (standAnswer K 2 2147483647), answer 3 0)
+    ∷ (told (positionAnswer K 0 7), answer 1 0)
+    ∷ (told (positionAnswer K 3 7), answer 1 0)
+    ∷ (told (positionAnswer K 2 2147483647), answer 3 0)
     ∷ (told (arrayAnswer K 0 10), answer 1 0)
     ∷ (told (arrayAnswer K 3 10), answer 1 0)
     ∷ (told (arrayAnswer K 2 11), answer 2 0)
@@ -106,5 +106,5 @@ table =
     ∷ []
 
 pub examples : map (λ row. row .0) table ≡ map (λ row. row .1) table
-unfolding below least refuseAt first pairAt twins goodSizes goodParams samePair sameParams lengthsAnswer sizesAnswer stand standAnswer standsIn inLimits zeros damagedIn leavesIn standingAnswer packetAnswer entryAnswer stepAnswer moveAnswer arrayAnswer shapesAnswer eitherDamaged leaves bucketsAnswer combineAnswer
+unfolding below least refuseAt first pairAt twins goodDimensions goodParams samePair sameParams lengthsAnswer dimensionsAnswer stand positionAnswer standsIn inLimits zeros damagedIn leavesIn flowBucketsAnswer packetAnswer entryAnswer stepAnswer moveAnswer arrayAnswer bothLentAnswer eitherDamaged leaves bucketsAnswer combineAnswer
 examples = refl

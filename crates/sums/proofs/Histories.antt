@@ -11,16 +11,16 @@ use Rattle.params.specs.declared.answers.Answer.the-variants.{Done}
 use Rattle.params.specs.Lists.{from}
 use Rattle.params.specs.Answers.{kept}
 use Rattle.params.specs.Params.{prime, size, goodParams, sameParams}
-use Rattle.params.specs.Places.{stands}
+use Rattle.params.specs.Positions.{stands}
 use Rattle.buckets.specs.Buckets.{plusMinus, weight}
 use Rattle.sketch.specs.Sketch.{Sketch, sketch, Entry, by, countAt, weightAt, sketchOf, zeros, changedIn}
 use Rattle.sketch.specs.Packets.{changed, after, entriesOf}
 use Rattle.sums.specs.Sums.{combineAnswer, combined, Combined}
 use Rattle.sums.specs.History.{History, freshly, inserting, stepping, inserting-all, withdrawing, adding, subtracting, negated, signed, net}
 use Rattle.params.proofs.Judging.{first-done}
-use Rattle.sums.proofs.TwoSketches.{shapes-done}
+use Rattle.sums.proofs.TwoSketches.{both-lent-done}
 use Rattle.sketch.proofs.Tables.{replicate-from, touched-from}
-use Rattle.buckets.proofs.Idsums.{wound-both}
+use Rattle.buckets.proofs.Idsums.{idsum-plus-minus-both}
 use Rattle.params.proofs.SameParams.{size-same, stands-same}
 use Rattle.sums.proofs.Weighted.{weighted, times-neg, count-weighted, weight-weighted, sketch-same}
 use Rattle.sums.proofs.Linear.{count-append, weight-append, joined, joined-less}
@@ -65,7 +65,7 @@ changed-entry P minus f n es =
     idsum-more : (k : ℕ) → cond (stands P f k) (residue prime (plusMinus minus (pos (residue prime (weightAt P es k))) (pos (weight f n)))) (residue prime (weightAt P es k))
         ≡ residue prime (weightAt P (es ++ (by f (signed minus (pos n)) ∷ [])) k)
     idsum-more k =
-        ap (λ (r : ℕ). cond (stands P f k) r (residue prime (weightAt P es k))) (wound-both minus (weightAt P es k) (pos (n * f)))
+        ap (λ (r : ℕ). cond (stands P f k) r (residue prime (weightAt P es k))) (idsum-plus-minus-both minus (weightAt P es k) (pos (n * f)))
         ∙ cond-residue (stands P f k) _ _
         ∙ ap (residue prime)
         (one-more (stands P f k) (weightAt P es k) (signed minus (pos n) *ℤ pos f) _
@@ -95,7 +95,7 @@ combined-shared : (minus : Bool) (es gs : List Entry) {P Q : Params} {S T S' : S
     → S' ≡ combined minus (sketchOf P es) (sketchOf P gs)
 unfolding combineAnswer kept
 combined-shared minus es gs {P} {Q} {S} {T} s t c =
-    let h = shapes-done P Q _ _ _ _ (first-done _ _ (sym (c .answer)) .0) in
+    let h = both-lent-done P Q _ _ _ _ (first-done _ _ (sym (c .answer)) .0) in
     c .after ∙ ap₂ (combined minus) s (t ∙ sym (sketch-shared P Q gs (h .good) (h .same)))
 
 -- whatever calls made it

@@ -3,17 +3,17 @@ use mathlib.Core.Path.{_≡_}
 use mathlib.Core.Bool.{Bool, false, not, _&&_, _||_}
 use lib.ListN.{length}
 use Rattle.params.specs.declared.params.Params.{Params}
-use Rattle.params.specs.declared.answers.Why.{Why}
-use Rattle.params.specs.declared.answers.Why.the-variants.{Param, Length, Flow, Count, Damage, Range, Mismatch, Form}
+use Rattle.params.specs.declared.answers.Refusal.{Refusal}
+use Rattle.params.specs.declared.answers.Refusal.the-variants.{Param, Length, Flow, Count, Damage, Range, Mismatch, Form}
 use Rattle.params.specs.Answers.{numberIn, first}
 use Rattle.params.specs.Params.{goodParams, sameParams, lengthsAnswer}
 use Rattle.sketch.specs.Sketch.{Sketch}
-use Rattle.sums.specs.Sums.{shapesAnswer, eitherDamaged, leaves, bucketsAnswer, combineAnswer}
+use Rattle.sums.specs.Sums.{bothLentAnswer, eitherDamaged, leaves, bucketsAnswer, combineAnswer}
 use Rattle.sketch.proofs.InOrder.{wrongLength}
 use Rattle.params.proofs.InOrder.{order, firstOf, some, refuse-number, refuse-at-number, first-refuse, cond-either, IndexZero, refuse-index, first-index, buckets-index, lengths-index}
 
 -- adding or subtracting the sketch T: which faults apply
-abbrev pub combineFault : Bool → Params → Params → Sketch → Sketch → Why → Bool
+abbrev pub combineFault : Bool → Params → Params → Sketch → Sketch → Refusal → Bool
 combineFault minus P Q S T Param = not (goodParams P && goodParams Q)
 combineFault minus P Q S T Mismatch = not (sameParams P Q)
 combineFault minus P Q S T Length = wrongLength P S || wrongLength P T
@@ -24,11 +24,11 @@ combineFault minus P Q S T Count = false
 combineFault minus P Q S T Form = false
 
 pub combine-number : (minus : Bool) (P Q : Params) (S T : Sketch) → numberIn (combineAnswer minus P Q S T) ≡ firstOf order (combineFault minus P Q S T)
-unfolding combineAnswer shapesAnswer lengthsAnswer bucketsAnswer first
+unfolding combineAnswer bothLentAnswer lengthsAnswer bucketsAnswer first
 combine-number minus P Q S T = simp (first-refuse, refuse-number, refuse-at-number, cond-either)
 
 pub combine-index : (minus : Bool) (P Q : Params) (S T : Sketch) → IndexZero (combineAnswer minus P Q S T)
-unfolding combineAnswer shapesAnswer bucketsAnswer
+unfolding combineAnswer bothLentAnswer bucketsAnswer
 combine-index minus P Q S T =
     first-index _ _
     (refuse-index (not (goodParams P && goodParams Q)) Param _

@@ -16,7 +16,7 @@ use Rattle.sketch.specs.Sketch.{Entry, sketch, countAt, weightAt, sketchOf}
 use Rattle.sums.specs.Sums.{combined}
 use Rattle.sums.specs.History.{negated}
 use Rattle.sketch.proofs.Tables.{getD-from, from-same, map-from}
-use Rattle.buckets.proofs.Idsums.{wound-both}
+use Rattle.buckets.proofs.Idsums.{idsum-plus-minus-both}
 use Rattle.sums.proofs.Weighted.{count-weighted, weight-weighted, weighted-append, weighted-negated}
 
 module _ (P : Params) where
@@ -45,7 +45,7 @@ module _ (P : Params) where
       ∙ from-same 0 (size P) _ (λ k. residue prime (weightAt P hs k))
       (λ k l m.
       ap (λ (s : ℕ). residue prime (plusMinus minus (pos (residue prime (weightAt P es k))) (pos s))) (place (λ j. residue prime (weightAt P gs j)) 0 k (omega arith))
-      ∙ wound-both minus (weightAt P es k) (weightAt P gs k)
+      ∙ idsum-plus-minus-both minus (weightAt P es k) (weightAt P gs k)
       ∙ ap (residue prime) (w k)))
     where
       place : {A : Type 0} (h : ℕ → A) (d : A) (k : ℕ) → k < size P → getD (from 0 (size P) h) k d ≡ h k

@@ -10,7 +10,7 @@ use Rattle.field.proofs.Parts.{int, up, down, up-neg, down-neg, up-mul, down-mu
 use Rattle.params.specs.declared.params.Params.{Params}
 use Rattle.params.specs.Lists.{from}
 use Rattle.params.specs.Params.{prime, size}
-use Rattle.params.specs.Places.{stands}
+use Rattle.params.specs.Positions.{stands}
 use Rattle.sketch.specs.Sketch.{Entry, sketch, countAt, weightAt, sketchOf}
 use Rattle.sums.specs.History.{negated, net}
 

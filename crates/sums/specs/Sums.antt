@@ -7,7 +7,7 @@ use lib.IntN.{ℤ, pos}
 use lib.ListN.{length, getD}
 use Rattle.field.specs.Residue.{residue}
 use Rattle.params.specs.declared.params.Params.{Params}
-use Rattle.params.specs.declared.answers.Why.the-variants.{Param, Damage, Range, Mismatch}
+use Rattle.params.specs.declared.answers.Refusal.the-variants.{Param, Damage, Range, Mismatch}
 use Rattle.params.specs.declared.answers.Answer.{Answer}
 use Rattle.params.specs.declared.answers.Answer.the-variants.{Done}
 use Rattle.params.specs.Lists.{mapFrom}
@@ -17,8 +17,8 @@ use Rattle.buckets.specs.Buckets.{plusMinus}
 use Rattle.sketch.specs.Sketch.{Sketch, sketch, countIn, idsumIn, damagedAt, leavesAt}
 
 -- the parameters of both sketches, whether they are the same, and the four lengths
-unfoldable pub shapesAnswer : Params → Params → ℕ → ℕ → ℕ → ℕ → Answer
-shapesAnswer P Q c s e t =
+unfoldable pub bothLentAnswer : Params → Params → ℕ → ℕ → ℕ → ℕ → Answer
+bothLentAnswer P Q c s e t =
     refuseIf (not (goodParams P && goodParams Q)) Param 0
     (refuseIf (not (sameParams P Q)) Mismatch 0
     (first (lengthsAnswer P c s) (lengthsAnswer P e t)))
@@ -38,7 +38,7 @@ bucketsAnswer minus S T =
 
 unfoldable pub combineAnswer : Bool → Params → Params → Sketch → Sketch → Answer
 combineAnswer minus P Q S T =
-    first (shapesAnswer P Q (length (S .counts)) (length (S .idsums)) (length (T .counts)) (length (T .idsums)))
+    first (bothLentAnswer P Q (length (S .counts)) (length (S .idsums)) (length (T .counts)) (length (T .idsums)))
     (bucketsAnswer minus S T)
 
 -- bucket by bucket, idsums modulo p

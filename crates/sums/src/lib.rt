@@ -8,48 +8,48 @@ ghost use lib.ListN.{length, getD};
 ghost use Rattle.params.specs.Lists.{below, least};
 ghost use Rattle.params.specs.Params.{prime};
 ghost use Rattle.buckets.specs.Buckets.{inLimits, plusMinus};
-ghost use Rattle.sketch.specs.Sketch.{sketch, quietAt};
-ghost use Rattle.sums.specs.Sums.{shapesAnswer, eitherDamaged, leaves, combineAnswer, combined, Combined};
-use buckets::moved;
-use buckets::quiet;
+ghost use Rattle.sketch.specs.Sketch.{sketch, smallAt};
+ghost use Rattle.sums.specs.Sums.{bothLentAnswer, eitherDamaged, leaves, combineAnswer, combined, Combined};
+use buckets::plus_minus;
+use buckets::is_small;
 use buckets::sound;
 use buckets::within;
-use buckets::wound;
+use buckets::idsum_plus_minus;
 use params::Answer;
 use params::Params;
-use params::Why;
+use params::Refusal;
 
 // The parameters of both sketches and the four lengths.
-fn shapes(p: Params, q: Params, c: usize, s: usize, e: usize, t: usize) -> Answer
-    ensures { λ r. ⌜ r ≡ shapesAnswer p q c s e t ⌝ }
+fn judge_both(p: Params, q: Params, c: usize, s: usize, e: usize, t: usize) -> Answer
+    ensures { λ r. ⌜ r ≡ bothLentAnswer p q c s e t ⌝ }
 {
     if !p.check() {
-        return Answer::Refused(Why::Param, 0);
+        return Answer::Refused(Refusal::Param, 0);
     }
     if !q.check() {
-        return Answer::Refused(Why::Param, 0);
+        return Answer::Refused(Refusal::Param, 0);
     }
     if !p.same(q) {
-        return Answer::Refused(Why::Mismatch, 0);
+        return Answer::Refused(Refusal::Mismatch, 0);
     }
-    let r = p.sizes(c, s);
+    let r = p.judge_dimensions(c, s);
     let Answer::Done = r else {
         return r;
     };
-    p.sizes(e, t)
+    p.judge_dimensions(e, t)
 }
 
 // The first index at which a bucket of either sketch is outside its limits, or the length.
-fn first_damaged(counts: &[i32], idsums: &[u32], others: &[i32], weights: &[u32]) -> usize
-    requires { ⌜ (length (now idsums) ≡ length (now counts)) × (length (now others) ≡ length (now counts)) × (length (now weights) ≡ length (now counts)) ⌝ }
-    ensures { λ r. ⌜ r ≡ least 0 (length (now (counts .entry))) (eitherDamaged (sketch (now (counts .entry)) (now (idsums .entry))) (sketch (now (others .entry)) (now (weights .entry)))) ⌝ }
+fn first_damaged(counts: &[i32], idsums: &[u32], other_counts: &[i32], other_idsums: &[u32]) -> usize
+    requires { ⌜ (length (now idsums) ≡ length (now counts)) × (length (now «other_counts») ≡ length (now counts)) × (length (now «other_idsums») ≡ length (now counts)) ⌝ }
+    ensures { λ r. ⌜ r ≡ least 0 (length (now (counts .entry))) (eitherDamaged (sketch (now (counts .entry)) (now (idsums .entry))) (sketch (now («other_counts» .entry)) (now («other_idsums» .entry)))) ⌝ }
 {
     let mut i = 0;
     while i < counts.len() {
         if !sound(counts[i], idsums[i]) {
             return i;
         }
-        if !sound(others[i], weights[i]) {
+        if !sound(other_counts[i], other_idsums[i]) {
             return i;
         }
         i += 1;
@@ -58,13 +58,13 @@ fn first_damaged(counts: &[i32], idsums: &[u32], others: &[i32], weights: &[u32]
 }
 
 // The first index at which the sum or the difference of the counts leaves the limits, or the length.
-fn first_leaving(minus: bool, counts: &[i32], others: &[i32]) -> usize
-    requires { ⌜ length (now others) ≡ length (now counts) ⌝ }
-    ensures { λ r. ⌜ r ≡ least 0 (length (now (counts .entry))) (leaves minus (now (counts .entry)) (now (others .entry))) ⌝ }
+fn first_leaving(minus: bool, counts: &[i32], other_counts: &[i32]) -> usize
+    requires { ⌜ length (now «other_counts») ≡ length (now counts) ⌝ }
+    ensures { λ r. ⌜ r ≡ least 0 (length (now (counts .entry))) (leaves minus (now (counts .entry)) (now («other_counts» .entry))) ⌝ }
 {
     let mut i = 0;
     while i < counts.len() {
-        if !within(moved(minus, counts[i], others[i])) {
+        if !within(plus_minus(minus, counts[i], other_counts[i])) {
             return i;
         }
         i += 1;
@@ -74,23 +74,23 @@ fn first_leaving(minus: bool, counts: &[i32], others: &[i32]) -> usize
 
 // Whether every bucket of both sketches is quiet. Those that are not are counted, without an early end, so that the compiler can do
 // several buckets at once.
-fn all_quiet(counts: &[i32], idsums: &[u32], others: &[i32], weights: &[u32]) -> bool
-    requires { ⌜ (length (now idsums) ≡ length (now counts)) × (length (now others) ≡ length (now counts)) × (length (now weights) ≡ length (now counts)) ⌝ }
+fn all_small(counts: &[i32], idsums: &[u32], other_counts: &[i32], other_idsums: &[u32]) -> bool
+    requires { ⌜ (length (now idsums) ≡ length (now counts)) × (length (now «other_counts») ≡ length (now counts)) × (length (now «other_idsums») ≡ length (now counts)) ⌝ }
     requires { ⌜ length (now counts) ≤ 65536 ⌝ }
-    ensures { λ r. ⌜ r ≡ below (length (now (counts .entry))) (λ k. quietAt (sketch (now (counts .entry)) (now (idsums .entry))) k && quietAt (sketch (now (others .entry)) (now (weights .entry))) k) ⌝ }
+    ensures { λ r. ⌜ r ≡ below (length (now (counts .entry))) (λ k. smallAt (sketch (now (counts .entry)) (now (idsums .entry))) k && smallAt (sketch (now («other_counts» .entry)) (now («other_idsums» .entry))) k) ⌝ }
 {
-    let mut loud: u32 = 0;
+    let mut large: u32 = 0;
     let mut i = 0;
     while i < counts.len() {
-        if !quiet(counts[i], idsums[i]) {
-            loud += 1;
+        if !is_small(counts[i], idsums[i]) {
+            large += 1;
         }
-        if !quiet(others[i], weights[i]) {
-            loud += 1;
+        if !is_small(other_counts[i], other_idsums[i]) {
+            large += 1;
         }
         i += 1;
     }
-    loud == 0
+    large == 0
 }
 
 // The answer, which alters nothing. Where all buckets are quiet, no more is to be looked at.
@@ -100,46 +100,46 @@ fn judge(
     q: Params,
     counts: &[i32],
     idsums: &[u32],
-    others: &[i32],
-    weights: &[u32],
+    other_counts: &[i32],
+    other_idsums: &[u32],
 ) -> Answer
-    ensures { λ r. ⌜ r ≡ combineAnswer minus p q (sketch (now (counts .entry)) (now (idsums .entry))) (sketch (now (others .entry)) (now (weights .entry))) ⌝ }
+    ensures { λ r. ⌜ r ≡ combineAnswer minus p q (sketch (now (counts .entry)) (now (idsums .entry))) (sketch (now («other_counts» .entry)) (now («other_idsums» .entry))) ⌝ }
 {
-    let r = shapes(
+    let r = judge_both(
         p,
         q,
         counts.len(),
         idsums.len(),
-        others.len(),
-        weights.len(),
+        other_counts.len(),
+        other_idsums.len(),
     );
     let Answer::Done = r else {
         return r;
     };
-    if all_quiet(counts, idsums, others, weights) {
+    if all_small(counts, idsums, other_counts, other_idsums) {
         return Answer::Done;
     }
-    let x = first_damaged(counts, idsums, others, weights);
+    let x = first_damaged(counts, idsums, other_counts, other_idsums);
     if x < counts.len() {
-        return Answer::Refused(Why::Damage, x);
+        return Answer::Refused(Refusal::Damage, x);
     }
-    let y = first_leaving(minus, counts, others);
+    let y = first_leaving(minus, counts, other_counts);
     if y < counts.len() {
-        return Answer::Refused(Why::Range, y);
+        return Answer::Refused(Refusal::Range, y);
     }
     Answer::Done
 }
 
-fn put_all(minus: bool, counts: &mut [i32], idsums: &mut [u32], others: &[i32], weights: &[u32])
-    requires { ⌜ (length (now idsums) ≡ length (now counts)) × (length (now others) ≡ length (now counts)) × (length (now weights) ≡ length (now counts)) ⌝ }
-    requires { ⌜ ((k : ℕ) → k < length (now counts) → inLimits (plusMinus minus (getD (now counts) k (pos 0)) (getD (now others) k (pos 0))) ≡ true) ⌝ }
-    requires { ⌜ ((k : ℕ) → k < length (now counts) → (getD (now idsums) k 0 < prime) × (getD (now weights) k 0 < prime)) ⌝ }
-    ensures { λ r. ⌜ sketch (now (counts .exit)) (now (idsums .exit)) ≡ combined minus (sketch (now (counts .entry)) (now (idsums .entry))) (sketch (now (others .entry)) (now (weights .entry))) ⌝ }
+fn put_all(minus: bool, counts: &mut [i32], idsums: &mut [u32], other_counts: &[i32], other_idsums: &[u32])
+    requires { ⌜ (length (now idsums) ≡ length (now counts)) × (length (now «other_counts») ≡ length (now counts)) × (length (now «other_idsums») ≡ length (now counts)) ⌝ }
+    requires { ⌜ ((k : ℕ) → k < length (now counts) → inLimits (plusMinus minus (getD (now counts) k (pos 0)) (getD (now «other_counts») k (pos 0))) ≡ true) ⌝ }
+    requires { ⌜ ((k : ℕ) → k < length (now counts) → (getD (now idsums) k 0 < prime) × (getD (now «other_idsums») k 0 < prime)) ⌝ }
+    ensures { λ r. ⌜ sketch (now (counts .exit)) (now (idsums .exit)) ≡ combined minus (sketch (now (counts .entry)) (now (idsums .entry))) (sketch (now («other_counts» .entry)) (now («other_idsums» .entry))) ⌝ }
 {
     let mut i = 0;
     while i < counts.len() {
-        counts[i] = moved(minus, counts[i], others[i]) as i32;
-        idsums[i] = wound(minus, idsums[i], weights[i]);
+        counts[i] = plus_minus(minus, counts[i], other_counts[i]) as i32;
+        idsums[i] = idsum_plus_minus(minus, idsums[i], other_idsums[i]);
         i += 1;
     }
 }
@@ -151,16 +151,16 @@ fn combine(
     q: Params,
     counts: &mut [i32],
     idsums: &mut [u32],
-    others: &[i32],
-    weights: &[u32],
+    other_counts: &[i32],
+    other_idsums: &[u32],
 ) -> Answer
-    ensures { λ r. ⌜ Combined minus p q (sketch (now (counts .entry)) (now (idsums .entry))) (sketch (now (others .entry)) (now (weights .entry))) r (sketch (now (counts .exit)) (now (idsums .exit))) ⌝ }
+    ensures { λ r. ⌜ Combined minus p q (sketch (now (counts .entry)) (now (idsums .entry))) (sketch (now («other_counts» .entry)) (now («other_idsums» .entry))) r (sketch (now (counts .exit)) (now (idsums .exit))) ⌝ }
 {
-    let r = judge(minus, p, q, counts, idsums, others, weights);
+    let r = judge(minus, p, q, counts, idsums, other_counts, other_idsums);
     let Answer::Done = r else {
         return r;
     };
-    put_all(minus, counts, idsums, others, weights);
+    put_all(minus, counts, idsums, other_counts, other_idsums);
     r
 }
 
@@ -170,12 +170,12 @@ pub fn add(
     q: Params,
     counts: &mut [i32],
     idsums: &mut [u32],
-    others: &[i32],
-    weights: &[u32],
+    other_counts: &[i32],
+    other_idsums: &[u32],
 ) -> Answer
-    ensures { λ r. ⌜ Combined false p q (sketch (now (counts .entry)) (now (idsums .entry))) (sketch (now (others .entry)) (now (weights .entry))) r (sketch (now (counts .exit)) (now (idsums .exit))) ⌝ }
+    ensures { λ r. ⌜ Combined false p q (sketch (now (counts .entry)) (now (idsums .entry))) (sketch (now («other_counts» .entry)) (now («other_idsums» .entry))) r (sketch (now (counts .exit)) (now (idsums .exit))) ⌝ }
 {
-    combine(false, p, q, counts, idsums, others, weights)
+    combine(false, p, q, counts, idsums, other_counts, other_idsums)
 }
 
 // The first sketch, of parameters p, less the second, of parameters q.
@@ -184,10 +184,10 @@ pub fn subtract(
     q: Params,
     counts: &mut [i32],
     idsums: &mut [u32],
-    others: &[i32],
-    weights: &[u32],
+    other_counts: &[i32],
+    other_idsums: &[u32],
 ) -> Answer
-    ensures { λ r. ⌜ Combined true p q (sketch (now (counts .entry)) (now (idsums .entry))) (sketch (now (others .entry)) (now (weights .entry))) r (sketch (now (counts .exit)) (now (idsums .exit))) ⌝ }
+    ensures { λ r. ⌜ Combined true p q (sketch (now (counts .entry)) (now (idsums .entry))) (sketch (now («other_counts» .entry)) (now («other_idsums» .entry))) r (sketch (now (counts .exit)) (now (idsums .exit))) ⌝ }
 {
-    combine(true, p, q, counts, idsums, others, weights)
+    combine(true, p, q, counts, idsums, other_counts, other_idsums)
 }

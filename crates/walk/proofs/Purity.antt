@@ -16,7 +16,7 @@ use Rattle.field.proofs.Residues.{residue-below, residue-nonzero}
 use Rattle.field.proofs.OneFlow.{the-flow}
 use Rattle.params.specs.declared.params.Params.{Params}
 use Rattle.params.specs.Params.{primeOf, size}
-use Rattle.params.specs.Places.{stand, standsIn, stands}
+use Rattle.params.specs.Positions.{stand, standsIn, stands}
 use Rattle.buckets.specs.Buckets.{inLimits}
 use Rattle.params.proofs.Searches.{and-true}
 use Rattle.buckets.proofs.Limits.{limits-size}

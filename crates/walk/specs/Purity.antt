@@ -6,8 +6,8 @@ use lib.Dec.{eqb}
 use Rattle.field.specs.Residue.{residue}
 use Rattle.field.specs.Flow.{flow}
 use Rattle.params.specs.declared.params.Params.{Params}
-use Rattle.params.specs.Params.{primeOf, goodSizes}
-use Rattle.params.specs.Places.{stand, stands}
+use Rattle.params.specs.Params.{primeOf, goodDimensions}
+use Rattle.params.specs.Positions.{stand, stands}
 use Rattle.walk.specs.declared.Found.{Found}
 use Rattle.walk.specs.declared.Found.the-variants.{Undefined, Impure, Pure}
 use Rattle.walk.specs.Walk.{Rule}
@@ -26,7 +26,7 @@ pureTest P = testIn (primeOf P) (stands P)
 
 -- the same where the sizes may break a rule: then no flow stands anywhere
 abbrev pub sizedTest : Params → ℕ → ℤ → ℕ → Found
-sizedTest P = testIn (primeOf P) (λ f k. goodSizes P && stands P f k)
+sizedTest P = testIn (primeOf P) (λ f k. goodDimensions P && stands P f k)
 
 -- the walk of a sketch with these parameters
 abbrev pub ruleOf : Params → Rule

@@ -20,12 +20,12 @@ use Rattle.sums.proofs.first_damaged.Statement.{statement}
 use Rattle.sums.proofs.first_damaged.Tie as tie
 
 abbrev Inv-loop : tie.InvT-loop
-Inv-loop counts idsums others weights i₀ i =
+Inv-loop counts idsums other-counts other-idsums i₀ i =
     (i ≤ length counts)
-    × (least 0 (length counts) (eitherDamaged (sketch counts idsums) (sketch others weights)) ≡ least i (length counts - i) (eitherDamaged (sketch counts idsums) (sketch others weights)))
+    × (least 0 (length counts) (eitherDamaged (sketch counts idsums) (sketch other-counts other-idsums)) ≡ least i (length counts - i) (eitherDamaged (sketch counts idsums) (sketch other-counts other-idsums)))
 
 abbrev μ-loop : tie.MeasureT-loop
-μ-loop counts idsums others weights i₀ i = length counts - i
+μ-loop counts idsums other-counts other-idsums i₀ i = length counts - i
 
 -- what the two tests of a turn tell of bucket k
 module _ (S T : Sketch) (k : ℕ) (r : Bool) (one : r ≡ (inLimits (countIn S k) && ltb (idsumIn S k) prime)) where
@@ -41,7 +41,7 @@ module _ (S T : Sketch) (k : ℕ) (r : Bool) (one : r ≡ (inLimits (countIn S k
 judged : (c : tie.After-sound2 Inv-loop μ-loop)
     → let s = c .before .before .before .before .before .before .before .before in
     let t = s .before .before .before .args in
-    eitherDamaged (sketch (now (t .counts)) (now (t .idsums))) (sketch (now (t .others)) (now (t .weights))) (s .loop .i) ≡ not (c .sound2 .result)
+    eitherDamaged (sketch (now (t .counts)) (now (t .idsums))) (sketch (now (t .other-counts)) (now (t .other-idsums))) (s .loop .i) ≡ not (c .sound2 .result)
 judged c =
     first-passes _ _ _ _ (rw (back w32 _ (c .before .before .before .before .before .before .sound-arg .given)) at (c .before .before .before .before .sound .ensures)) (c .before .before .before .if1 .left) _
     (rw (back w32 _ (c .before .before .sound-arg2 .given)) at (c .sound2 .ensures))

@@ -16,38 +16,38 @@ use Rattle.sums.proofs.first_leaving.Statement.{statement}
 use Rattle.sums.proofs.first_leaving.Tie as tie
 
 abbrev Inv-loop : tie.InvT-loop
-Inv-loop minus counts others i₀ i = (i ≤ length counts) × (least 0 (length counts) (leaves minus counts others) ≡ least i (length counts - i) (leaves minus counts others))
+Inv-loop minus counts other-counts i₀ i = (i ≤ length counts) × (least 0 (length counts) (leaves minus counts other-counts) ≡ least i (length counts - i) (leaves minus counts other-counts))
 
 abbrev μ-loop : tie.MeasureT-loop
-μ-loop minus counts others i₀ i = length counts - i
+μ-loop minus counts other-counts i₀ i = length counts - i
 
 -- the bucket that a turn looked at
 judged : (c : tie.After-within Inv-loop μ-loop)
     → let s = c .before .before .before .before .before in
-    leaves (s .before .args .minus) (now (s .before .args .counts)) (now (s .before .args .others)) (s .loop .i) ≡ not (c .within .result)
+    leaves (s .before .args .minus) (now (s .before .args .counts)) (now (s .before .args .other-counts)) (s .loop .i) ≡ not (c .within .result)
 unfolding leaves
 judged c =
-    let e = rw (back w64 _ (c .before .moved .ok)) at (c .within .ensures) in
-    let h = rw (back w32 _ (c .before .before .before .moved-arg .given), back w32 _ (c .before .before .moved-arg2 .given)) at (c .before .moved .ensures) in
+    let e = rw (back w64 _ (c .before .plus-minus .ok)) at (c .within .ensures) in
+    let h = rw (back w32 _ (c .before .before .before .plus-minus-arg .given), back w32 _ (c .before .before .plus-minus-arg2 .given)) at (c .before .plus-minus .ensures) in
     ap not (sym (e ∙ ap inLimits h))
 
 loop-holds : tie.Need-loop-holds Inv-loop μ-loop
 loop-holds c = (search needs, scan-start _ _)
 
-mul-moved : tie.Need-mul-moved Inv-loop μ-loop
-mul-moved c = search needs
+mul-plus-minus : tie.Need-mul-plus-minus Inv-loop μ-loop
+mul-plus-minus c = search needs
 
-shared-slice-copy-out-moved : tie.Need-shared-slice-copy-out-moved Inv-loop μ-loop
-shared-slice-copy-out-moved c = search needs
+shared-slice-copy-out-plus-minus : tie.Need-shared-slice-copy-out-plus-minus Inv-loop μ-loop
+shared-slice-copy-out-plus-minus c = search needs
 
-mul-moved-2 : tie.Need-mul-moved-2 Inv-loop μ-loop
-mul-moved-2 c = search needs
+mul-plus-minus-2 : tie.Need-mul-plus-minus-2 Inv-loop μ-loop
+mul-plus-minus-2 c = search needs
 
-shared-slice-copy-out-moved-2 : tie.Need-shared-slice-copy-out-moved-2 Inv-loop μ-loop
-shared-slice-copy-out-moved-2 c = search needs
+shared-slice-copy-out-plus-minus-2 : tie.Need-shared-slice-copy-out-plus-minus-2 Inv-loop μ-loop
+shared-slice-copy-out-plus-minus-2 c = search needs
 
-moved-requires : tie.Need-moved-requires Inv-loop μ-loop
-moved-requires c κs = search needs
+plus-minus-requires : tie.Need-plus-minus-requires Inv-loop μ-loop
+plus-minus-requires c κs = search needs
 
 within-requires : tie.Need-within-requires Inv-loop μ-loop
 within-requires c κs = search needs
@@ -74,11 +74,11 @@ first-leaving-spec =
     Inv-loop
     μ-loop
     loop-holds
-    mul-moved
-    shared-slice-copy-out-moved
-    mul-moved-2
-    shared-slice-copy-out-moved-2
-    moved-requires
+    mul-plus-minus
+    shared-slice-copy-out-plus-minus
+    mul-plus-minus-2
+    shared-slice-copy-out-plus-minus-2
+    plus-minus-requires
     within-requires
     returns
     add-i

@@ -4,18 +4,18 @@ use denote.Ref.{now}
 use lib.ListN.{length}
 use borrow.Author.Needs.{needs}
 use Rattle.params.specs.declared.answers.Answer.the-variants.{Done}
-use Rattle.sums.specs.Sums.{shapesAnswer, bucketsAnswer, combineAnswer}
+use Rattle.sums.specs.Sums.{bothLentAnswer, bucketsAnswer, combineAnswer}
 use Rattle.params.proofs.Judging.{first-refused, first-passed, refuse-found, refuse-past}
-use Rattle.sums.proofs.TwoSketches.{shapes-done, same-lengths, small-lengths, quiet-done}
+use Rattle.sums.proofs.TwoSketches.{both-lent-done, same-lengths, small-lengths, small-done}
 use Rattle.sums.proofs.judge.Statement.{statement}
 use Rattle.sums.proofs.judge.Tie as tie
 
 -- the shapes were passed
-shaped : (c : tie.After-enum-told) → shapesAnswer (c .before .before .before .before .before .args .p) (c .before .before .before .before .before .args .q) (length (now (c .before .before .before .before .before .args .counts))) (length (now (c .before .before .before .before .before .args .idsums))) (length (now (c .before .before .before .before .before .args .others))) (length (now (c .before .before .before .before .before .args .weights))) ≡ Done
-shaped c = sym (c .before .before .shapes .ensures) ∙ c .enum-told .given .1
+shaped : (c : tie.After-enum-told) → bothLentAnswer (c .before .before .before .before .before .args .p) (c .before .before .before .before .before .args .q) (length (now (c .before .before .before .before .before .args .counts))) (length (now (c .before .before .before .before .before .args .idsums))) (length (now (c .before .before .before .before .before .args .other-counts))) (length (now (c .before .before .before .before .before .args .other-idsums))) ≡ Done
+shaped c = sym (c .before .before .judge-both .ensures) ∙ c .enum-told .given .1
 
-shapes-requires : tie.Need-shapes-requires
-shapes-requires c κs = search needs
+judge-both-requires : tie.Need-judge-both-requires
+judge-both-requires c κs = search needs
 
 enum-told : tie.Need-enum-told
 enum-told c = search needs
@@ -25,24 +25,24 @@ enum-told-2 c = search needs
 
 returns : tie.Need-returns
 unfolding combineAnswer
-returns c = first-refused _ _ _ (c .before .before .shapes .ensures) (c .before .match .keys2)
+returns c = first-refused _ _ _ (c .before .before .judge-both .ensures) (c .before .match .keys2)
 
-all-quiet-requires : tie.Need-all-quiet-requires
-all-quiet-requires c κs = let h = shapes-done _ _ _ _ _ _ (shaped c) in (same-lengths h, small-lengths h)
+all-small-requires : tie.Need-all-small-requires
+all-small-requires c κs = let h = both-lent-done _ _ _ _ _ _ (shaped c) in (same-lengths h, small-lengths h)
 
 returns-2 : tie.Need-returns-2
 unfolding combineAnswer
-returns-2 c = sym (first-passed _ _ (shaped (c .before .before)) ∙ quiet-done _ _ _ (sym (c .before .all-quiet .ensures) ∙ c .if1 .taken))
+returns-2 c = sym (first-passed _ _ (shaped (c .before .before)) ∙ small-done _ _ _ (sym (c .before .all-small .ensures) ∙ c .if1 .taken))
 
 first-damaged-requires : tie.Need-first-damaged-requires
-first-damaged-requires c κs = same-lengths (shapes-done _ _ _ _ _ _ (shaped (c .before .before)))
+first-damaged-requires c κs = same-lengths (both-lent-done _ _ _ _ _ _ (shaped (c .before .before)))
 
 returns-3 : tie.Need-returns-3
 unfolding combineAnswer bucketsAnswer
 returns-3 c = refuse-found _ _ _ _ _ (c .before .first-damaged .ensures) (c .if2 .taken) ∙ sym (first-passed _ _ (shaped (c .before .before .before .before)))
 
 first-leaving-requires : tie.Need-first-leaving-requires
-first-leaving-requires c κs = same-lengths (shapes-done _ _ _ _ _ _ (shaped (c .before .before .before .before))) .1
+first-leaving-requires c κs = same-lengths (both-lent-done _ _ _ _ _ _ (shaped (c .before .before .before .before))) .1
 
 returns-4 : tie.Need-returns-4
 unfolding combineAnswer bucketsAnswer
@@ -62,11 +62,11 @@ pub judge-spec : {M : Type 1} → statement M
 judge-spec =
     tie.close
     (tie.spec
-    shapes-requires
+    judge-both-requires
     enum-told
     enum-told-2
     returns
-    all-quiet-requires
+    all-small-requires
     returns-2
     first-damaged-requires
     returns-3

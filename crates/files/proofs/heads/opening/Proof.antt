@@ -4,7 +4,7 @@ use mathlib.Core.Bool.{true}
 use denote.Ref.{now}
 use borrow.Author.Needs.{needs}
 use Rattle.params.specs.declared.answers.Answer.the-variants.{Done}
-use Rattle.params.specs.Params.{goodParams, sameParams, shapeAnswer}
+use Rattle.params.specs.Params.{goodParams, sameParams, lentAnswer}
 use Rattle.params.proofs.Searches.{test-held, test-failed}
 use Rattle.params.proofs.Judging.{kept-new}
 use Rattle.files.specs.Heads.{paramsIn, headAnswer}
@@ -49,14 +49,14 @@ returns-3 c =
     opening-other _ _ _ _ (headed (c .before .before .before .before .before)) (good (c .before .before .before))
     (ap (sameParams p) (sym (told (c .before .before .before .before .before))) ∙ test-failed (c .before .same .ensures) (c .if2 .taken))
 
-shape-requires : tie.Need-shape-requires
-shape-requires c κs = search needs
+judge-lent-requires : tie.Need-judge-lent-requires
+judge-lent-requires c κs = search needs
 
 returns-4 : tie.Need-returns-4
-unfolding shapeAnswer
+unfolding lentAnswer
 returns-4 c =
     let p = c .before .before .before .before .before .before .before .before .before .before .args .p in
-    rw (good (c .before .before .before .before)) at (c .shape .ensures)
+    rw (good (c .before .before .before .before)) at (c .judge-lent .ensures)
     ∙ opening-lengths _ _ _ _ (headed (c .before .before .before .before .before .before)) (good (c .before .before .before .before))
     (ap (sameParams p) (sym (told (c .before .before .before .before .before .before))) ∙ test-held (c .before .before .same .ensures) (c .before .if2 .left))
 
@@ -72,5 +72,5 @@ opening-spec =
     returns-2
     same-requires
     returns-3
-    shape-requires
+    judge-lent-requires
     returns-4)

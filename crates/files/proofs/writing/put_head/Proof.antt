@@ -8,7 +8,7 @@ use lib.ListN.{length-set}
 use lib.Seq.{length-sets}
 use Rattle.params.specs.Params.{goodParams}
 use Rattle.params.proofs.Searches.{test-held, test-failed}
-use Rattle.params.proofs.Rules.{good-sized}
+use Rattle.params.proofs.Rules.{good-dimensions}
 use Rattle.files.specs.Bytes.{wordBytes}
 use Rattle.files.specs.Layout.{headBytes}
 use Rattle.files.proofs.Overwriting.{over-stores, over-next, written-over, written-not}
@@ -33,13 +33,13 @@ slice-write-out : tie.Need-slice-write-out
 slice-write-out c = search needs
 
 cast-out : tie.Need-cast-out
-cast-out c = omega (arith, good-sized _ (good (c .before .before .before .before)))
+cast-out c = omega (arith, good-dimensions _ (good (c .before .before .before .before)))
 
 slice-write-out-2 : tie.Need-slice-write-out-2
 slice-write-out-2 c = omega (arith, length-set (now (c .before .before .before .before .before .before .before .args .out)) 0 1)
 
 cast-put-word : tie.Need-cast-put-word
-cast-put-word c = omega (arith, good-sized _ (good (c .before .before .before .before .before .before)))
+cast-put-word c = omega (arith, good-dimensions _ (good (c .before .before .before .before .before .before)))
 
 put-word-requires : tie.Need-put-word-requires
 put-word-requires c κs = let s = c .before .before .before .before .before .before .before .before .before .args in omega (arith, length-sets (now (s .out)) 0 (1 ∷ s .p .d ∷ []))

@@ -40,8 +40,8 @@ same-length c = search needs
 returns-2 : tie.Need-returns-2
 unfolding refusedLine
 returns-2 c =
-    let why = rw (c .before .before .before .before .before .before .before .before .before .before .before .before .before .before .before .number .ensures) at (c .before .before .before .before .before .before .before .before .before .before .before .before .put-named .ensures) in
-    line-of-three (omega arith) why (c .before .before .before .before .before .before .before .put-named2 .ensures) (c .before .before .put .ensures)
+    let refusal = rw (c .before .before .before .before .before .before .before .before .before .before .before .before .before .before .before .number .ensures) at (c .before .before .before .before .before .before .before .before .before .before .before .before .put-named .ensures) in
+    line-of-three (omega arith) refusal (c .before .before .before .before .before .before .before .put-named2 .ensures) (c .before .before .put .ensures)
 
 pub refused-spec : {M : Type 1} → statement M
 refused-spec =

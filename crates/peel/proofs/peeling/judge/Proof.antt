@@ -6,18 +6,18 @@ use denote.Ref.{now}
 use lib.ListN.{length}
 use borrow.Author.Needs.{needs}
 use Rattle.params.specs.declared.answers.Answer.the-variants.{Done}
-use Rattle.params.specs.Params.{shapeAnswer}
-use Rattle.params.proofs.Rules.{shape-done}
+use Rattle.params.specs.Params.{lentAnswer}
+use Rattle.params.proofs.Rules.{lent-done}
 use Rattle.peel.proofs.Judged.{Lent, ill-shaped, ill-lent, one-damaged, none-damaged}
 use Rattle.peel.proofs.peeling.judge.Statement.{statement}
 use Rattle.peel.proofs.peeling.judge.Tie as tie
 
 -- the shape was passed, and the counts are as many as the buckets
-shaped : (c : tie.After-enum-told) → shapeAnswer (c .before .before .before .before .args .p) (length (now (c .before .before .before .before .args .counts))) (length (now (c .before .before .before .before .args .idsums))) ≡ Done
-shaped c = sym (c .before .before .shape .ensures) ∙ c .enum-told .given .1
+shaped : (c : tie.After-enum-told) → lentAnswer (c .before .before .before .before .args .p) (length (now (c .before .before .before .before .args .counts))) (length (now (c .before .before .before .before .args .idsums))) ≡ Done
+shaped c = sym (c .before .before .judge-lent .ensures) ∙ c .enum-told .given .1
 
 long : (c : tie.After-enum-told) → length (now (c .before .before .before .before .args .counts)) ≡ c .before .before .before .before .args .p .d * c .before .before .before .before .args .p .m
-long c = shape-done _ _ _ (shaped c) .1
+long c = lent-done _ _ _ (shaped c) .1
 
 -- so were the other lengths
 passed : (c : tie.Else4) → let a = c .before .before .before .before .before .before .before .before .args in Lent (a .p) (a .flows) (a .numbers) (a .queue) (a .marks)
@@ -30,8 +30,8 @@ passed c =
       few = c .if4 .left;
     }
 
-shape-requires : tie.Need-shape-requires
-shape-requires c κs = search needs
+judge-lent-requires : tie.Need-judge-lent-requires
+judge-lent-requires c κs = search needs
 
 enum-told : tie.Need-enum-told
 enum-told c = search needs
@@ -40,7 +40,7 @@ enum-told-2 : tie.Need-enum-told-2
 enum-told-2 c = search needs
 
 returns : tie.Need-returns
-returns c = ill-shaped _ _ _ _ _ _ _ (c .before .before .shape .ensures) (c .before .match .keys2)
+returns c = ill-shaped _ _ _ _ _ _ _ (c .before .before .judge-lent .ensures) (c .before .match .keys2)
 
 returns-2 : tie.Need-returns-2
 returns-2 c = ill-lent _ _ _ _ _ _ (shaped (c .before)) (λ l. c .if1 .taken (l .queue-long ∙ sym (long (c .before))))
@@ -67,7 +67,7 @@ pub judge-spec : {M : Type 1} → statement M
 judge-spec =
     tie.close
     (tie.spec
-    shape-requires
+    judge-lent-requires
     enum-told
     enum-told-2
     returns

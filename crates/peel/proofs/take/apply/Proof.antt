@@ -12,7 +12,7 @@ use borrow.Author.Needs.{needs}
 use Rattle.field.specs.Residue.{residue}
 use Rattle.params.specs.Lists.{touched}
 use Rattle.params.specs.Params.{prime}
-use Rattle.params.specs.Places.{standsIn}
+use Rattle.params.specs.Positions.{standsIn}
 use Rattle.sketch.specs.Sketch.{sketch, changedIn}
 use Rattle.params.proofs.Changes.{length-touched}
 use Rattle.sketch.proofs.Standing.{Within, reach}

@@ -6,8 +6,8 @@ use Rattle.buckets.specs.Buckets.{inLimits, plusMinus}
 use Rattle.peel.proofs.take.fits.Statement.{statement}
 use Rattle.peel.proofs.take.fits.Tie as tie
 
-moved-requires : tie.Need-moved-requires
-moved-requires c κs = search needs
+plus-minus-requires : tie.Need-plus-minus-requires
+plus-minus-requires c κs = search needs
 
 within-requires : tie.Need-within-requires
 within-requires c κs = search needs
@@ -16,9 +16,9 @@ returns : tie.Need-returns
 returns c =
     c .within .ensures
     ∙ ap inLimits
-    (toZ-ofZ (sfits-of (c .before .moved .ok))
-    ∙ c .before .moved .ensures
+    (toZ-ofZ (sfits-of (c .before .plus-minus .ok))
+    ∙ c .before .plus-minus .ensures
     ∙ ap₂ (plusMinus (c .before .before .args .minus)) (toZ-ofZ (c .before .before .fits .x)) (toZ-ofZ (c .before .before .fits .c)))
 
 pub fits-spec : {M : Type 1} → statement M
-fits-spec = tie.close (tie.spec moved-requires within-requires returns)
+fits-spec = tie.close (tie.spec plus-minus-requires within-requires returns)

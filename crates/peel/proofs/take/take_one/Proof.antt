@@ -9,7 +9,7 @@ use mir.Facts.{toZ-ofZ}
 use mir.Syntax.{w32}
 use mir.Val.{SFits, toZ, ofZ}
 use borrow.Author.Needs.{needs, sfits-of}
-use Rattle.buckets.proofs.Idsums.{wound-is}
+use Rattle.buckets.proofs.Idsums.{idsum-plus-minus-is}
 use Rattle.buckets.proofs.Limits.{limits-fit}
 use Rattle.peel.specs.Dirt.{some, dirty}
 use Rattle.peel.proofs.Dirtiness.{some-most, dirty-most, dirty-set}
@@ -28,7 +28,7 @@ v-is c =
 
 -- what the bucket counts after and counted before, and so what is left
 new-is : (c : tie.After-some-left) → let b = c .before .before .before .before .before in
-    c .some-left .result ≡ some (getD (b .args .counts .now) (b .args .j) (pos 0) -ℤ b .args .c) (c .before .wound .result)
+    c .some-left .result ≡ some (getD (b .args .counts .now) (b .args .j) (pos 0) -ℤ b .args .c) (c .before .idsum-plus-minus .result)
 new-is c = rw (v-is (c .before .before .before)) at (c .some-left .ensures)
 
 old-is : (c : tie.After-some-left2) → let b = c .before .before .before .before .before .before in
@@ -36,12 +36,12 @@ old-is : (c : tie.After-some-left2) → let b = c .before .before .before .befor
 old-is c = rw (toZ-ofZ (x-fits (c .before .before .before .before))) at (c .some-left2 .ensures)
 
 account : (c : tie.After-some-left2) → let b = c .before .before .before .before .before .before in
-    dirty (set (b .args .counts .now) (b .args .j) (getD (b .args .counts .now) (b .args .j) (pos 0) -ℤ b .args .c)) (set (b .args .idsums .now) (b .args .j) (c .before .before .wound .result)) + c .some-left2 .result
+    dirty (set (b .args .counts .now) (b .args .j) (getD (b .args .counts .now) (b .args .j) (pos 0) -ℤ b .args .c)) (set (b .args .idsums .now) (b .args .j) (c .before .before .idsum-plus-minus .result)) + c .some-left2 .result
     ≡ b .args .dirt + c .before .some-left .result
 account c =
     let b = c .before .before .before .before .before .before in
     rw (new-is (c .before), old-is c, b .pre .dirt)
-    (dirty-set (b .args .counts .now) (b .args .idsums .now) (b .args .j) _ (c .before .before .wound .result) (b .pre .inside) (b .pre .inside-ids))
+    (dirty-set (b .args .counts .now) (b .args .idsums .now) (b .args .j) _ (c .before .before .idsum-plus-minus .result) (b .pre .inside) (b .pre .inside-ids))
 
 mul-x : tie.Need-mul-x
 mul-x c = search needs
@@ -60,8 +60,8 @@ sub-v c =
     let b = c .before .before .before in
     rw (toZ-ofZ (x-fits (c .before)), toZ-ofZ (b .fits .c)) (limits-fit _ (b .pre .limits))
 
-wound-requires : tie.Need-wound-requires
-wound-requires c κs = search needs
+idsum-plus-minus-requires : tie.Need-idsum-plus-minus-requires
+idsum-plus-minus-requires c κs = search needs
 
 mul-v : tie.Need-mul-v
 mul-v c = search needs
@@ -102,7 +102,7 @@ returns c =
     rw (v-is (c .before .before .before .before))
     (record {
       counts = refl;
-      idsums = ap (set (b .args .idsums .now) (b .args .j)) (c .before .before .wound .ensures ∙ wound-is true _ _ (b .pre .idsum) (b .pre .small));
+      idsums = ap (set (b .args .idsums .now) (b .args .j)) (c .before .before .idsum-plus-minus .ensures ∙ idsum-plus-minus-is true _ _ (b .pre .idsum) (b .pre .small));
       dirt = omega (arith, account c);
     })
 
@@ -115,7 +115,7 @@ take-one-spec =
     mul-y
     slice-read-y
     sub-v
-    wound-requires
+    idsum-plus-minus-requires
     mul-v
     slice-set-from-v
     mul-idsums

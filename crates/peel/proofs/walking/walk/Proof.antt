@@ -15,9 +15,9 @@ use borrow.Author.Needs.{needs}
 use borrow.Author.Count.{below-none, below-more}
 use borrow.Author.Tests.{not-true, not-false}
 use Rattle.buckets.specs.Buckets.{inLimits}
-use Rattle.params.specs.Places.{Placed, Reached}
+use Rattle.params.specs.Positions.{Positioned, WithinArrays}
 use Rattle.params.proofs.Sizes.{small}
-use Rattle.params.proofs.Rules.{places-found, places-long}
+use Rattle.params.proofs.Rules.{positions-found, positions-long}
 use Rattle.sketch.proofs.Steps.{reached}
 use Rattle.sketch.proofs.Standing.{Within, reach}
 use Rattle.walk.specs.declared.Found.the-variants.{Pure}
@@ -107,7 +107,7 @@ c-is c = toZ-ofZ w32 _ (record { sfits = c .before .before .c .given })
 
 test-is : (c : Test) → let a = head-of (pop-of c) in
     c .test .result ≡ pureTest (start a .args .p) (pop-of c .pop .result) (count-of c) (getD (a .walk .idsums) (pop-of c .pop .result) 0)
-test-is c = (rw (c-is c) at (c .test .ensures)) ∙ sized-test _ _ _ (start (head-of (pop-of c)) .pre .sized)
+test-is c = (rw (c-is c) at (c .test .ensures)) ∙ sized-test _ _ _ (start (head-of (pop-of c)) .pre .dimensions)
 
 place-is : (c : Test) → let a = head-of (pop-of c) in c .before .before .before .place .result ≡ slot (start a .args .p .d * start a .args .p .m) (a .walk .head) 1
 place-is c = rw (start (head-of (pop-of c)) .pre .ringed .long) at (c .before .before .before .place .ensures)
@@ -126,25 +126,25 @@ abbrev flow : Inner → ℕ
 flow c = c .before .before .before .before .found .given .0 .0
 
 abbrev ks-of : Inner → List ℕ
-ks-of c = c .before .places .last .1 .1 .0
+ks-of c = c .before .positions .last .1 .1 .0
 
 pure-is : (c : Inner) → pureTest (start (walk-of c) .args .p) (pop-of (test-of c) .pop .result) (count-of (test-of c)) (getD (walk-of c .walk .idsums) (pop-of (test-of c) .pop .result) 0) ≡ Pure (flow c)
 pure-is c = sym (test-is (test-of c)) ∙ c .before .before .before .before .found .given .1
 
-placed-is : (c : Inner) → Placed (start (walk-of c) .args .p) (flow c) (ks-of c)
+placed-is : (c : Inner) → Positioned (start (walk-of c) .args .p) (flow c) (ks-of c)
 placed-is c =
-    subst⁻¹ (Placed (start (walk-of c) .args .p) (flow c)) (c .before .places .ensures)
-    (places-found (start (walk-of c) .args .p) (flow c) _ (start (walk-of c) .pre .sized) (walk-of c .walk .inv .2))
+    subst⁻¹ (Positioned (start (walk-of c) .args .p) (flow c)) (c .before .positions .ensures)
+    (positions-found (start (walk-of c) .args .p) (flow c) _ (start (walk-of c) .pre .dimensions) (walk-of c .walk .inv .2))
 
-reached-is : (c : Inner) → Reached (start (walk-of c) .args .p .d) (start (walk-of c) .args .p .m) (ks-of c) (length (walk-of c .walk .counts)) (length (walk-of c .walk .idsums))
-reached-is c = let h = walk-of c .walk .inv .0 .holds in reached (h .sized) (h .sane .long) (h .sane .long-ids) (placed-is c)
+reached-is : (c : Inner) → WithinArrays (start (walk-of c) .args .p .d) (start (walk-of c) .args .p .m) (ks-of c) (length (walk-of c .walk .counts)) (length (walk-of c .walk .idsums))
+reached-is c = let h = walk-of c .walk .inv .0 .holds in reached (h .dimensions) (h .sane .long) (h .sane .long-ids) (placed-is c)
 
 -- the marks once a bucket is popped, and f's bucket in array 1
 abbrev marks-of : Inner → List ℕ
 marks-of c = pop-of (test-of c) .pop .last .1 .0
 
 first-bucket : (c : Inner) → let b = start (walk-of c) in Within (b .args .p .d) (b .args .p .m) 0 (getD (ks-of c) 0 0)
-first-bucket c = reach 0 (reached-is c) (omega (arith, start (walk-of c) .pre .sized .d-low))
+first-bucket c = reach 0 (reached-is c) (omega (arith, start (walk-of c) .pre .dimensions .d-low))
 
 first-below : (c : Inner) → getD (ks-of c) 0 0 < length (marks-of c)
 first-below c = omega (arith, first-bucket c .bucket, popped-is (pop-of (test-of c)) .ringed .long-marks)
@@ -270,7 +270,7 @@ place-requires : tie.Need-place-requires Inv-loop μ-loop Inv-walk μ-walk
 place-requires c κs =
     let a = head-of (c .before .before) in
     let b = start a in
-    rw (b .pre .ringed .long) (a .walk .inv .0 .holds .ringed .head-in, omega (arith, b .pre .ringed .head-in), small _ _ (b .pre .sized .d-high) (b .pre .sized .m-high))
+    rw (b .pre .ringed .long) (a .walk .inv .0 .holds .ringed .head-in, omega (arith, b .pre .ringed .head-in), small _ _ (b .pre .dimensions .d-high) (b .pre .dimensions .m-high))
 
 sub-waiting : tie.Need-sub-waiting Inv-loop μ-loop Inv-walk μ-walk
 sub-waiting c = search needs
@@ -313,8 +313,8 @@ walk-again c =
 enum-known-found : tie.Need-enum-known-found Inv-loop μ-loop Inv-walk μ-walk
 enum-known-found c = search needs
 
-places-requires : tie.Need-places-requires Inv-loop μ-loop Inv-walk μ-walk
-places-requires c κs = search needs
+positions-requires : tie.Need-positions-requires Inv-loop μ-loop Inv-walk μ-walk
+positions-requires c κs = search needs
 
 loop-holds : tie.Need-loop-holds Inv-loop μ-loop Inv-walk μ-walk
 loop-holds c = (omega arith, below-none _)
@@ -393,7 +393,7 @@ credit-requires c κs =
         turn.entry-fits v (some-of p) (popped-is p) (more-of p) (pure-is l) (placed-is l) (all-fit (done-of m)) (m .before .find .ensures) (entry m) (free m),
       ),
       (
-        rw (size-is (walk-of l)) (small _ _ (v .holds .sized .d-high) (v .holds .sized .m-high)),
+        rw (size-is (walk-of l)) (small _ _ (v .holds .dimensions .d-high) (v .holds .dimensions .m-high)),
         first-below l,
         omega (arith, chained-is l .chains .newest (getD (ks-of l) 0 0) .within),
       ),
@@ -405,7 +405,7 @@ requeue-requires c κs =
     let l = inner-of (meet-of k) in
     let h = walk-of l .walk .inv .0 .holds in
     let n = apply-of k .apply .kept .1 .1 .1 .0 ∙ h .sane .long in (
-      reached (h .sized) n n (placed-is l),
+      reached (h .dimensions) n n (placed-is l),
       rw (place-is (test-of l))
           (ring-kept (popped-is (pop-of (test-of l)) .ringed) _ _ (k .credit .kept .1 .1 .0) (k .credit .kept .1 .1 .1 .0) (relinked k .below) (relinked k .below-marks)),
     )
@@ -431,7 +431,7 @@ walk-again-2 c =
         queue = requeued e .ringed .long ∙ sym (start a .pre .ringed .long);
         marks = requeued e .ringed .long-marks ∙ sym (start a .pre .ringed .long-marks);
       },
-      ap length (l .before .places .ensures) ∙ places-long _ _ _ ∙ a .walk .inv .2,
+      ap length (l .before .positions .ensures) ∙ positions-long _ _ _ ∙ a .walk .inv .2,
     )
 
 same-length : tie.Need-same-length Inv-loop μ-loop Inv-walk μ-walk
@@ -623,7 +623,7 @@ walk-spec =
     walk-less
     walk-again
     enum-known-found
-    places-requires
+    positions-requires
     loop-holds
     mul-j
     mul-j-2

@@ -6,7 +6,7 @@ use denote.Ref.{now}
 use borrow.Author.Needs.{needs}
 use Rattle.walk.specs.Walk.{run, walk}
 use Rattle.walk.specs.Purity.{ruleOf}
-use Rattle.params.proofs.Rules.{sized-small}
+use Rattle.params.proofs.Rules.{dimensions-small}
 use Rattle.peel.proofs.Chains.{chains-none}
 use Rattle.peel.proofs.Begins.{begins, size-some}
 use Rattle.peel.proofs.walking.walk_whole.Statement.{statement}
@@ -17,8 +17,8 @@ start-requires c κs =
     let n = c .before .before .before .before .before .before .before .pre in (
       n .sane .long ∙ sym (n .long),
       n .long-marks ∙ sym (n .long),
-      rw (n .long) (size-some (n .sized)),
-      rw (n .long) (sized-small (n .sized)),
+      rw (n .long) (size-some (n .dimensions)),
+      rw (n .long) (dimensions-small (n .dimensions)),
     )
 
 count-left-requires : tie.Need-count-left-requires
@@ -28,7 +28,7 @@ walk-requires : tie.Need-walk-requires
 walk-requires c κs =
     let n = c .before .before .before .before .before .before .before .before .before .before .before .before .before .before .before .before .before .before .before .before .before .pre in
     record {
-      sized = n .sized;
+      dimensions = n .dimensions;
       sane = n .sane;
       slots = n .slots;
       ringed = rw (n .long) at (c .before .before .before .before .before .before .before .before .before .before .before .before .before .start .ensures .ringed);

@@ -6,18 +6,18 @@ use borrow.Author.Needs.{needs}
 use borrow.Author.Tests.{eq-eqb, ne-eqb, le-leb, lt-leb}
 use lib.Dec.{eqb}
 use Rattle.params.specs.declared.answers.Answer.the-variants.{Done}
-use Rattle.params.specs.Params.{size, shapeAnswer}
-use Rattle.params.proofs.Rules.{shape-done}
+use Rattle.params.specs.Params.{size, lentAnswer}
+use Rattle.params.proofs.Rules.{lent-done}
 use Rattle.settle.proofs.Settled.{ill-shaped, ill-lent, well-lent}
 use Rattle.settle.proofs.settling.lent.Statement.{statement}
 use Rattle.settle.proofs.settling.lent.Tie as tie
 
 -- the shape was passed, and the counts are as many as the buckets
-shaped : (c : tie.After-enum-told) → shapeAnswer (c .before .before .before .args .p) (c .before .before .before .args .counts) (c .before .before .before .args .idsums) ≡ Done
-shaped c = sym (c .before .before .shape .ensures) ∙ c .enum-told .given .1
+shaped : (c : tie.After-enum-told) → lentAnswer (c .before .before .before .args .p) (c .before .before .before .args .counts) (c .before .before .before .args .idsums) ≡ Done
+shaped c = sym (c .before .before .judge-lent .ensures) ∙ c .enum-told .given .1
 
 long : (c : tie.After-enum-told) → c .before .before .before .args .counts ≡ c .before .before .before .args .p .d * c .before .before .before .args .p .m
-long c = shape-done _ _ _ (shaped c) .1
+long c = lent-done _ _ _ (shaped c) .1
 
 -- the tests of equal lengths that were passed
 queued : (c : tie.Else1) → let a = c .before .before .before .before .args in eqb (a .queue) (size (a .p)) ≡ true
@@ -29,8 +29,8 @@ marked c = rw (queued (c .before)) (eq-eqb _ _ (c .if2 .left ∙ long (c .before
 alike : (c : tie.Else3) → let a = c .before .before .before .before .before .before .args in (eqb (a .queue) (size (a .p)) && eqb (a .marks) (size (a .p)) && eqb (a .flows) (a .numbers)) ≡ true
 alike c = rw (marked (c .before)) (eq-eqb _ _ (c .if3 .left))
 
-shape-requires : tie.Need-shape-requires
-shape-requires c κs = search needs
+judge-lent-requires : tie.Need-judge-lent-requires
+judge-lent-requires c κs = search needs
 
 enum-told : tie.Need-enum-told
 enum-told c = search needs
@@ -39,7 +39,7 @@ enum-told-2 : tie.Need-enum-told-2
 enum-told-2 c = search needs
 
 returns : tie.Need-returns
-returns c = ill-shaped _ _ _ _ _ _ _ _ (c .before .before .shape .ensures) (c .before .match .keys2)
+returns c = ill-shaped _ _ _ _ _ _ _ _ (c .before .before .judge-lent .ensures) (c .before .match .keys2)
 
 returns-2 : tie.Need-returns-2
 returns-2 c = ill-lent _ _ _ _ _ _ _ (shaped (c .before)) (rw (ne-eqb _ _ (λ e. c .if1 .taken (e ∙ sym (long (c .before))))))
@@ -60,7 +60,7 @@ pub lent-spec : {M : Type 1} → statement M
 lent-spec =
     tie.close
     (tie.spec
-    shape-requires
+    judge-lent-requires
     enum-told
     enum-told-2
     returns

@@ -31,8 +31,8 @@ within c = reach (c .before .loop .i) (c .before .before .pre) (c .loop-test .ta
 judged : (c : tie.After-within Inv-loop μ-loop)
     → leavesAt (c .before .before .before .before .before .before .args .minus) (toZ w32 (ofZ w32 (c .before .before .before .before .before .before .args .n))) (now (c .before .before .before .before .before .before .args .counts)) (c .before .before .before .before .before .loop .i * c .before .before .before .before .before .before .args .m + getD (now (c .before .before .before .before .before .before .args .ks)) (c .before .before .before .before .before .loop .i) 0) ≡ not (c .within .result)
 judged c =
-    let sum = rw (back w32 _ (c .before .before .moved-arg .given)) at (c .before .moved .ensures) in
-    ap not (sym (rw (back w64 _ (c .before .moved .ok), sum) at (c .within .ensures)))
+    let sum = rw (back w32 _ (c .before .before .plus-minus-arg .given)) at (c .before .plus-minus .ensures) in
+    ap not (sym (rw (back w64 _ (c .before .plus-minus .ok), sum) at (c .within .ensures)))
 
 loop-holds : tie.Need-loop-holds Inv-loop μ-loop
 loop-holds c = (search needs, arrays-start _ _ _ _)
@@ -49,14 +49,14 @@ element-copy-out-k c = within c .few
 add-k : tie.Need-add-k Inv-loop μ-loop
 add-k c = omega (arith, within (c .before))
 
-mul-moved : tie.Need-mul-moved Inv-loop μ-loop
-mul-moved c = omega (arith, within (c .before))
+mul-plus-minus : tie.Need-mul-plus-minus Inv-loop μ-loop
+mul-plus-minus c = omega (arith, within (c .before))
 
-shared-slice-copy-out-moved : tie.Need-shared-slice-copy-out-moved Inv-loop μ-loop
-shared-slice-copy-out-moved c = omega (arith, within (c .before), c .before .before .before .pre)
+shared-slice-copy-out-plus-minus : tie.Need-shared-slice-copy-out-plus-minus Inv-loop μ-loop
+shared-slice-copy-out-plus-minus c = omega (arith, within (c .before), c .before .before .before .pre)
 
-moved-requires : tie.Need-moved-requires Inv-loop μ-loop
-moved-requires c κs = search needs
+plus-minus-requires : tie.Need-plus-minus-requires Inv-loop μ-loop
+plus-minus-requires c κs = search needs
 
 within-requires : tie.Need-within-requires Inv-loop μ-loop
 within-requires c κs = search needs
@@ -101,9 +101,9 @@ first-leaving-spec =
     mul-k-2
     element-copy-out-k
     add-k
-    mul-moved
-    shared-slice-copy-out-moved
-    moved-requires
+    mul-plus-minus
+    shared-slice-copy-out-plus-minus
+    plus-minus-requires
     within-requires
     returns
     add-i

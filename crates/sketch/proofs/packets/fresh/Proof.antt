@@ -3,12 +3,12 @@ use mathlib.Core.Path.{sym, ap₂, _∙_}
 use borrow.Author.Needs.{needs}
 use Rattle.sketch.specs.Sketch.{sketch, zeros}
 use Rattle.params.proofs.Judging.{kept-old, kept-new}
-use Rattle.params.proofs.Rules.{shape-done}
+use Rattle.params.proofs.Rules.{lent-done}
 use Rattle.sketch.proofs.packets.fresh.Statement.{statement}
 use Rattle.sketch.proofs.packets.fresh.Tie as tie
 
-shape-requires : tie.Need-shape-requires
-shape-requires c κs = search needs
+judge-lent-requires : tie.Need-judge-lent-requires
+judge-lent-requires c κs = search needs
 
 enum-told : tie.Need-enum-told
 enum-told c = search needs
@@ -17,11 +17,11 @@ enum-told-2 : tie.Need-enum-told-2
 enum-told-2 c = search needs
 
 returns : tie.Need-returns
-returns c = record { answer = c .before .before .shape .ensures; after = kept-old _ _ _ (c .before .match .keys2) }
+returns c = record { answer = c .before .before .judge-lent .ensures; after = kept-old _ _ _ (c .before .match .keys2) }
 
 clear-requires : tie.Need-clear-requires
 clear-requires c κs =
-    let h = shape-done _ _ _ (sym (c .before .before .before .before .shape .ensures) ∙ c .before .before .enum-told .given .1) in
+    let h = lent-done _ _ _ (sym (c .before .before .before .before .judge-lent .ensures) ∙ c .before .before .enum-told .given .1) in
     h .1 ∙ sym (h .2)
 
 same-length : tie.Need-same-length
@@ -34,9 +34,9 @@ returns-2 : tie.Need-returns-2
 unfolding zeros
 returns-2 c =
     let done = c .before .before .before .before .before .before .enum-told .given .1 in
-    let h = shape-done _ _ _ (sym (c .before .before .before .before .before .before .before .before .shape .ensures) ∙ done) in
+    let h = lent-done _ _ _ (sym (c .before .before .before .before .before .before .before .before .judge-lent .ensures) ∙ done) in
     record {
-      answer = c .before .before .before .before .before .before .before .before .shape .ensures;
+      answer = c .before .before .before .before .before .before .before .before .judge-lent .ensures;
       after = ap₂ sketch (rw (h .1) at (c .before .before .before .clear .ensures .0)) (rw (h .2) at (c .before .before .before .clear .ensures .1)) ∙ kept-new _ _ _ done;
     }
 
@@ -44,7 +44,7 @@ pub fresh-spec : {M : Type 1} → statement M
 fresh-spec =
     tie.close
     (tie.spec
-    shape-requires
+    judge-lent-requires
     enum-told
     enum-told-2
     returns

@@ -6,32 +6,32 @@ use lib.ListN.{getD}
 use denote.Ref.{now}
 use mir.Facts.{toZ-ofZ}
 use borrow.Author.Needs.{needs}
-use Rattle.sketch.specs.Sketch.{standingAnswer, leavesIn}
+use Rattle.sketch.specs.Sketch.{flowBucketsAnswer, leavesIn}
 use Rattle.params.specs.Lists.{least}
-use Rattle.params.specs.Places.{standsIn}
+use Rattle.params.specs.Positions.{standsIn}
 use Rattle.params.proofs.Judging.{refuse-found, refuse-past}
-use Rattle.buckets.proofs.Limits.{quiet-size}
-use Rattle.sketch.proofs.Steps.{quiet-done}
+use Rattle.buckets.proofs.Limits.{small-size}
+use Rattle.sketch.proofs.Steps.{small-done}
 use Rattle.sketch.proofs.packets.judge.Statement.{statement}
 use Rattle.sketch.proofs.packets.judge.Tie as tie
 
-quiet-requires : tie.Need-quiet-requires
-quiet-requires c κs = search needs
+is-small-requires : tie.Need-is-small-requires
+is-small-requires c κs = search needs
 
-all-quiet-requires : tie.Need-all-quiet-requires
-all-quiet-requires c κs = search needs
+all-small-requires : tie.Need-all-small-requires
+all-small-requires c κs = search needs
 
 returns : tie.Need-returns
 returns c =
     let s = c .before .before .before .before .before in
-    let few = rw (toZ-ofZ (s .fits .n)) at (sym (c .before .before .before .quiet .ensures) ∙ c .before .before .if1 .taken) in
-    sym (quiet-done _ _ _ (s .args .minus) _ _ (quiet-size _ 0 few) (sym (c .before .all-quiet .ensures) ∙ c .if2 .taken))
+    let few = rw (toZ-ofZ (s .fits .n)) at (sym (c .before .before .before .is-small .ensures) ∙ c .before .before .if1 .taken) in
+    sym (small-done _ _ _ (s .args .minus) _ _ (small-size _ 0 few) (sym (c .before .all-small .ensures) ∙ c .if2 .taken))
 
 first-damaged-requires : tie.Need-first-damaged-requires
 first-damaged-requires c κs = search needs
 
 returns-2 : tie.Need-returns-2
-unfolding standingAnswer
+unfolding flowBucketsAnswer
 returns-2 c = refuse-found _ _ _ _ _ (c .before .first-damaged .ensures) (omega arith)
 
 first-leaving-requires : tie.Need-first-leaving-requires
@@ -52,12 +52,12 @@ scanned : (c : tie.After-first-leaving) → let a = c .before .before .before .b
 scanned c = rw (toZ-ofZ (c .before .before .before .before .before .before .fits .n)) at (c .first-leaving .ensures)
 
 returns-3 : tie.Need-returns-3
-unfolding standingAnswer
+unfolding flowBucketsAnswer
 returns-3 c =
     refuse-found _ _ _ _ _ (scanned (c .before)) (omega arith) ∙ refuse-past _ _ _ _ _ (c .before .before .before .first-damaged .ensures) (omega arith)
 
 returns-4 : tie.Need-returns-4
-unfolding standingAnswer
+unfolding flowBucketsAnswer
 returns-4 c =
     refuse-past _ _ _ _ _ (scanned (c .before)) (omega arith) ∙ refuse-past _ _ _ _ _ (c .before .before .before .first-damaged .ensures) (omega arith)
 
@@ -65,8 +65,8 @@ pub judge-spec : {M : Type 1} → statement M
 judge-spec =
     tie.close
     (tie.spec
-    quiet-requires
-    all-quiet-requires
+    is-small-requires
+    all-small-requires
     returns
     first-damaged-requires
     returns-2

@@ -10,9 +10,9 @@ use mir.ValLaws.{toZ-pos}
 use borrow.Author.Needs.{needs}
 use Rattle.field.proofs.Residues.{residue-below}
 use Rattle.params.specs.Params.{prime}
-use Rattle.params.specs.Places.{Placed}
+use Rattle.params.specs.Positions.{Positioned}
 use Rattle.params.proofs.Sizes.{stretch-within}
-use Rattle.params.proofs.Rules.{places-found}
+use Rattle.params.proofs.Rules.{positions-found}
 use Rattle.buckets.proofs.Idsums.{prime-pos}
 use Rattle.sketch.proofs.Steps.{Let, entry-done, reached, placed-answer, placed-change, has-room, not-let, not-stepped, stepped}
 use Rattle.sketch.proofs.packets.step.Statement.{statement}
@@ -37,18 +37,18 @@ let-in c = entry-done _ _ _ _ _ (sym (c .before .before .entry .ensures) ∙ c .
 as-count : (c : tie.After-enum-told) → toZ w32 (c .before .before .before .before .args .n) ≡ pos (c .before .before .before .before .args .n)
 as-count c = toZ-pos w32 _ (omega (arith, let-in c .high))
 
-places-requires : tie.Need-places-requires
-places-requires c κs = search needs
+positions-requires : tie.Need-positions-requires
+positions-requires c κs = search needs
 
 -- the flow's places
-flow-places : (c : tie.After-places) → let a = c .before .before .before .before .before .before .args in Placed (a .p) (a .f) (c .places .last .1 .1 .0)
-flow-places c = rw (c .places .ensures) (places-found _ _ _ (let-in (c .before .before) .sized) refl)
+flow-positions : (c : tie.After-positions) → let a = c .before .before .before .before .before .before .args in Positioned (a .p) (a .f) (c .positions .last .1 .1 .0)
+flow-positions c = rw (c .positions .ensures) (positions-found _ _ _ (let-in (c .before .before) .dimensions) refl)
 
 cast-judge : tie.Need-cast-judge
 cast-judge c = record { sfits = omega (arith, let-in (c .before .before .before .before .before) .high) }
 
 judge-requires : tie.Need-judge-requires
-judge-requires c κs = reached (let-in (c .before .before .before .before .before) .sized) (let-in (c .before .before .before .before .before) .counts) (let-in (c .before .before .before .before .before) .idsums) (flow-places (c .before .before .before))
+judge-requires c κs = reached (let-in (c .before .before .before .before .before) .dimensions) (let-in (c .before .before .before .before .before) .counts) (let-in (c .before .before .before .before .before) .idsums) (flow-positions (c .before .before .before))
 
 enum-told-3 : tie.Need-enum-told-3
 enum-told-3 c = search needs
@@ -66,7 +66,7 @@ returns-2 : tie.Need-returns-2
 returns-2 c =
     let s = c .before .before .before .before .before .before .before .before .before .before .before .before in
     not-stepped (s .args .minus) (s .args .p) (s .args .f) (s .args .n) _ _ (sym (c .before .before .before .before .before .before .before .before .before .before .entry .ensures) ∙ c .before .before .before .before .before .before .before .before .enum-told .given .1)
-    (placed-answer (flow-places (c .before .before .before .before .before .before)) (s .args .minus) _ (s .args .n) (as-count (c .before .before .before .before .before .before .before .before)) _ _ (c .before .before .judge .ensures)) (c .before .match2 .keys2)
+    (placed-answer (flow-positions (c .before .before .before .before .before .before)) (s .args .minus) _ (s .args .n) (as-count (c .before .before .before .before .before .before .before .before)) _ _ (c .before .before .judge .ensures)) (c .before .match2 .keys2)
 
 cast-put-all : tie.Need-cast-put-all
 cast-put-all c = record { sfits = omega (arith, let-in (c .before .before .before .before .before .before .before .before .before .before .before) .high) }
@@ -77,7 +77,7 @@ weight-requires c κs = search needs
 put-all-requires : tie.Need-put-all-requires
 put-all-requires c κs =
     let l = let-in (c .before .before .before .before .before .before .before .before .before .before .before .before) in
-    let r = reached (l .sized) (l .counts) (l .idsums) (flow-places (c .before .before .before .before .before .before .before .before .before .before)) in
+    let r = reached (l .dimensions) (l .counts) (l .idsums) (flow-positions (c .before .before .before .before .before .before .before .before .before .before)) in
     let done = sym (c .before .before .before .before .before .before .judge .ensures) ∙ c .before .before .before .before .enum-told3 .given .1 in (
       r,
       (
@@ -95,7 +95,7 @@ same-length-4 c = search needs
 returns-3 : tie.Need-returns-3
 returns-3 c =
     let s = c .before .before .before .before .before .before .before .before .before .before .before .before .before .before .before .before .before .before .before .before in
-    let p = flow-places (c .before .before .before .before .before .before .before .before .before .before .before .before .before .before) in
+    let p = flow-positions (c .before .before .before .before .before .before .before .before .before .before .before .before .before .before) in
     let n = as-count (c .before .before .before .before .before .before .before .before .before .before .before .before .before .before .before .before) in
     stepped (s .args .minus) (s .args .p) (s .args .f) (s .args .n) _ _ _ (sym (c .before .before .before .before .before .before .before .before .before .before .before .before .before .before .before .before .before .before .entry .ensures) ∙ c .before .before .before .before .before .before .before .before .before .before .before .before .before .before .before .before .enum-told .given .1)
     (placed-answer p (s .args .minus) _ (s .args .n) n _ _ (c .before .before .before .before .before .before .before .before .before .before .judge .ensures)) (c .before .before .before .before .before .before .before .before .enum-told3 .given .1)
@@ -109,7 +109,7 @@ step-spec =
     enum-told
     enum-told-2
     returns
-    places-requires
+    positions-requires
     cast-judge
     judge-requires
     enum-told-3

@@ -6,28 +6,28 @@ use borrow.Author.Needs.{needs}
 use borrow.Author.Tests.{eq-eqb}
 use denote.Ref.{now}
 use lib.ListN.{length}
-use Rattle.params.specs.declared.answers.Why.the-variants.{Damage}
+use Rattle.params.specs.declared.answers.Refusal.the-variants.{Damage}
 use Rattle.params.specs.declared.answers.Answer.the-variants.{Done}
 use Rattle.params.specs.Lists.{least}
 use Rattle.params.specs.Answers.{refuseAt}
-use Rattle.params.specs.Params.{shapeAnswer}
+use Rattle.params.specs.Params.{lentAnswer}
 use Rattle.sketch.specs.Sketch.{sketch, damagedAt}
 use Rattle.params.proofs.Judging.{first-refused, refuse-found, refuse-past}
-use Rattle.params.proofs.Rules.{shape-done, sized-small}
+use Rattle.params.proofs.Rules.{lent-done, dimensions-small}
 use Rattle.sketchfile.specs.Writing.{sketchWriting}
 use Rattle.sketchfile.proofs.Written.{sketch-short, sketch-passed}
 use Rattle.sketchfile.proofs.writing.judge.Statement.{statement}
 use Rattle.sketchfile.proofs.writing.judge.Tie as tie
 
 -- the parameters and the lengths of the slices were passed
-shaped : (c : tie.After-enum-told) → let a = c .before .before .before .before .args in shapeAnswer (a .p) (length (now (a .counts))) (length (now (a .idsums))) ≡ Done
-shaped c = sym (c .before .before .shape .ensures) ∙ c .enum-told .given .1
+shaped : (c : tie.After-enum-told) → let a = c .before .before .before .before .args in lentAnswer (a .p) (length (now (a .counts))) (length (now (a .idsums))) ≡ Done
+shaped c = sym (c .before .before .judge-lent .ensures) ∙ c .enum-told .given .1
 
 same : (c : tie.After-enum-told) → let a = c .before .before .before .before .args in length (now (a .counts)) ≡ length (now (a .idsums))
-same c = let h = shape-done _ _ _ (shaped c) in h .1 ∙ sym (h .2)
+same c = let h = lent-done _ _ _ (shaped c) in h .1 ∙ sym (h .2)
 
 few : (c : tie.After-enum-told) → length (now (c .before .before .before .before .args .counts)) ≤ 65536
-few c = let h = shape-done _ _ _ (shaped c) in omega (arith, sized-small (h .0))
+few c = let h = lent-done _ _ _ (shaped c) in omega (arith, dimensions-small (h .0))
 
 -- there is room, so that damage decides
 roomy : (c : tie.Else1) → let a = c .before .before .before .before .before .before .args in
@@ -39,8 +39,8 @@ searched : (c : tie.After-first-damaged) → let a = c .before .before .before .
     c .first-damaged .result ≡ least 0 (length (now (a .counts))) (damagedAt (sketch (now (a .counts)) (now (a .idsums))))
 searched c = rw (eq-eqb _ _ (same (c .before .before .before))) at (c .first-damaged .ensures)
 
-shape-requires : tie.Need-shape-requires
-shape-requires c κs = search needs
+judge-lent-requires : tie.Need-judge-lent-requires
+judge-lent-requires c κs = search needs
 
 enum-told : tie.Need-enum-told
 enum-told c = search needs
@@ -50,7 +50,7 @@ enum-told-2 c = search needs
 
 returns : tie.Need-returns
 unfolding sketchWriting
-returns c = first-refused _ _ _ (c .before .before .shape .ensures) (c .before .match .keys2)
+returns c = first-refused _ _ _ (c .before .before .judge-lent .ensures) (c .before .match .keys2)
 
 used-requires : tie.Need-used-requires
 used-requires c κs = same c
@@ -77,7 +77,7 @@ pub judge-spec : {M : Type 1} → statement M
 judge-spec =
     tie.close
     (tie.spec
-    shape-requires
+    judge-lent-requires
     enum-told
     enum-told-2
     returns

@@ -11,7 +11,7 @@ use Rattle.params.proofs.Judging.{kept-old, kept-new}
 use Rattle.sketch.proofs.ManyPackets.{stepped-long}
 use Rattle.files.specs.Records.{recordAt, isKind}
 use Rattle.files.specs.Layout.{packetsAt}
-use Rattle.files.specs.Turns.{packetPlace, endAnswer, toldAt}
+use Rattle.files.specs.Turns.{packetPlace, endAnswer, atOffset}
 use Rattle.streamfile.specs.Streams.{packetsJudged}
 use Rattle.streamfile.proofs.Found.{There, packets-there, packets-not-there}
 use Rattle.streamfile.proofs.InTurn.{told-refusal, Gone, gone-none, gone-within, next-ends, gone-more, packet-refused, end-judged, gone-all}
@@ -62,8 +62,8 @@ none c = packets-not-there _ _ _ (c .before .before .packets-at .ensures ∙ ap 
 withdraw-packets-requires : tie.Need-withdraw-packets-requires Inv-loop μ-loop
 withdraw-packets-requires c κs = gone-within _ 38 _ _ _ _ (c .before .before .before .before .before .before .before .before .before .before .before .before .before .before .loop .inv .3)
 
-told-at-requires : tie.Need-told-at-requires Inv-loop μ-loop
-told-at-requires c κs = search needs
+at-offset-requires : tie.Need-at-offset-requires Inv-loop μ-loop
+at-offset-requires c κs = search needs
 
 -- after a refused packet the sketch is what it was
 restored : (c : tie.After-withdraw-packets Inv-loop μ-loop)
@@ -83,10 +83,10 @@ returns : tie.Need-returns Inv-loop μ-loop
 returns c =
     let l = c .before .before .before .before .before .before .before .before .before .before .before .before .before .before .before .before .before .before .before .loop in
     let refused = c .before .before .before .before .before .before .before .before .match2 .keys2 in
-    let told = c .told-at .ensures ∙ ap (λ a. toldAt a (c .before .before .before .before .before .before .before .before .before .before .before .before .put-in .result)) (l .inv .0) in
+    let told = c .at-offset .ensures ∙ ap (λ a. atOffset a (c .before .before .before .before .before .before .before .before .before .before .before .before .put-in .result)) (l .inv .0) in
     record {
       answer = told ∙ packet-refused _ _ _ _ _ (l .inv .3) _ _ (there (c .before .before .before .before .before .before .before .before .before .before .before .before .before .before .before)) _ (c .before .before .before .before .before .before .before .before .before .before .before .before .put-in .ensures .answer) refused;
-      after-all = restored (c .before .before .before .before) ∙ kept-old _ _ _ (rw (c .told-at .ensures) (told-refusal _ (c .before .before .before .before .before .before .before .before .before .before .before .before .put-in .result) refused));
+      after-all = restored (c .before .before .before .before) ∙ kept-old _ _ _ (rw (c .at-offset .ensures) (told-refusal _ (c .before .before .before .before .before .before .before .before .before .before .before .before .put-in .result) refused));
     }
 
 add-at : tie.Need-add-at Inv-loop μ-loop
@@ -173,7 +173,7 @@ read-records-spec =
     enum-told-2
     enum-told-3
     withdraw-packets-requires
-    told-at-requires
+    at-offset-requires
     same-length
     same-length-2
     returns

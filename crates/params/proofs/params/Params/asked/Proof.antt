@@ -3,7 +3,7 @@ use mathlib.Core.Path.{_≡_}
 use mathlib.Core.Bool.{true}
 use borrow.Author.Tests.{le-leb, lt-leb, lt-ltb, le-ltb}
 use Rattle.params.specs.Params.{prime, goodParams}
-use Rattle.params.specs.Places.{standAnswer}
+use Rattle.params.specs.Positions.{positionAnswer}
 use borrow.Author.Needs.{needs}
 use Rattle.params.proofs.Searches.{test-held, test-failed}
 use Rattle.params.proofs.params.Params.asked.Statement.{statement}
@@ -16,23 +16,23 @@ check-requires : tie.Need-check-requires
 check-requires c κs = search needs
 
 returns : tie.Need-returns
-unfolding standAnswer
+unfolding positionAnswer
 returns c = simp (test-failed (c .before .check .ensures) (c .if1 .taken))
 
 returns-2 : tie.Need-returns-2
-unfolding standAnswer
+unfolding positionAnswer
 returns-2 c = simp (passed (c .before), lt-leb 1 _ (c .if2 .taken))
 
 returns-3 : tie.Need-returns-3
-unfolding standAnswer
+unfolding positionAnswer
 returns-3 c = simp (passed (c .before .before .before), le-leb 1 _ (c .before .before .if2 .left), lt-leb _ _ (c .if3 .taken))
 
 returns-4 : tie.Need-returns-4
-unfolding standAnswer
+unfolding positionAnswer
 returns-4 c = simp (passed (c .before .before .before .before), le-leb 1 _ (c .before .before .before .if2 .left), le-leb _ _ (c .before .if3 .left), le-ltb _ prime (c .if4 .taken))
 
 returns-5 : tie.Need-returns-5
-unfolding standAnswer
+unfolding positionAnswer
 returns-5 c = simp (passed (c .before .before .before .before), le-leb 1 _ (c .before .before .before .if2 .left), le-leb _ _ (c .before .if3 .left), lt-ltb _ prime (c .if4 .left))
 
 pub asked-spec : {M : Type 1} → statement M

@@ -5,12 +5,12 @@ use Rattle.params.proofs.Searches.{test-held, test-failed}
 use Rattle.params.proofs.params.Params.check.Statement.{statement}
 use Rattle.params.proofs.params.Params.check.Tie as tie
 
-sized-requires : tie.Need-sized-requires
-sized-requires c κs = search needs
+good-dimensions-requires : tie.Need-good-dimensions-requires
+good-dimensions-requires c κs = search needs
 
 returns : tie.Need-returns
 unfolding goodParams
-returns c = simp (test-failed (c .before .sized .ensures) (c .if1 .taken))
+returns c = simp (test-failed (c .before .good-dimensions .ensures) (c .if1 .taken))
 
 pairs-ok-requires : tie.Need-pairs-ok-requires
 pairs-ok-requires c κs = search needs
@@ -18,7 +18,7 @@ pairs-ok-requires c κs = search needs
 returns-2 : tie.Need-returns-2
 unfolding goodParams
 returns-2 c =
-    simp (test-held (c .before .before .before .before .before .sized .ensures) (c .before .before .before .before .if1 .left), test-failed (c .before .pairs-ok .ensures) (c .if2 .taken))
+    simp (test-held (c .before .before .before .before .before .good-dimensions .ensures) (c .before .before .before .before .if1 .left), test-failed (c .before .pairs-ok .ensures) (c .if2 .taken))
 
 pairs-apart-requires : tie.Need-pairs-apart-requires
 pairs-apart-requires c κs = search needs
@@ -26,10 +26,10 @@ pairs-apart-requires c κs = search needs
 returns-3 : tie.Need-returns-3
 unfolding goodParams
 returns-3 c =
-    simp (test-held (c .before .before .before .before .before .before .sized .ensures) (c .before .before .before .before .before .if1 .left), test-held (c .before .before .pairs-ok .ensures) (c .before .if2 .left))
+    simp (test-held (c .before .before .before .before .before .before .good-dimensions .ensures) (c .before .before .before .before .before .if1 .left), test-held (c .before .before .pairs-ok .ensures) (c .before .if2 .left))
     (c .pairs-apart .ensures)
 
 pub check-spec : {M : Type 1} → statement M
 check-spec =
     tie.close
-    (tie.spec sized-requires returns pairs-ok-requires returns-2 pairs-apart-requires returns-3)
+    (tie.spec good-dimensions-requires returns pairs-ok-requires returns-2 pairs-apart-requires returns-3)

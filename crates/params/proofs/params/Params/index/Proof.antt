@@ -2,7 +2,7 @@
 use mathlib.Core.Path.{sym, ap, _∙_}
 use Prim.Native.Nat.{ℕ, _+_, _-_, _*_}
 use native.Mathlib.Omega.{arith}
-use Rattle.params.proofs.Rules.{Asked, asked-done, spot-at, no-spot}
+use Rattle.params.proofs.Rules.{Asked, asked-done, located-at, not-located}
 use borrow.Author.Needs.{needs}
 use Rattle.params.proofs.params.Params.index.Statement.{statement}
 use Rattle.params.proofs.params.Params.index.Tie as tie
@@ -22,14 +22,14 @@ sub-t8 c = right c .low
 mul-t9 : tie.Need-mul-t9
 mul-t9 c = omega (arith, right (c .before))
 
-sub-spot : tie.Need-sub-spot
-sub-spot c = right (c .before) .low
+sub-stand : tie.Need-sub-stand
+sub-stand c = right (c .before) .low
 
-spot-requires : tie.Need-spot-requires
-spot-requires c κs = let h = right (c .before) in (h .sized, omega arith)
+stand-requires : tie.Need-stand-requires
+stand-requires c κs = let h = right (c .before) in (h .dimensions, omega arith)
 
 add-t12 : tie.Need-add-t12
-add-t12 c = omega (arith, c .spot .ensures .1, right (c .before .before))
+add-t12 c = omega (arith, c .stand .ensures .1, right (c .before .before))
 
 enum-known-asked : tie.Need-enum-known-asked
 enum-known-asked c = search needs
@@ -37,10 +37,10 @@ enum-known-asked c = search needs
 returns : tie.Need-returns
 returns c =
     let s = c .before .before .before .before .before .args in
-    spot-at _ _ _ _ (c .before .before .before .before .asked .ensures) (c .before .before .enum-told .given .1) (ap (λ (k : ℕ). (s .i - 1) * s .self .m + k) (c .spot .ensures .0))
+    located-at _ _ _ _ (c .before .before .before .before .asked .ensures) (c .before .before .enum-told .given .1) (ap (λ (k : ℕ). (s .i - 1) * s .self .m + k) (c .stand .ensures .0))
 
 returns-2 : tie.Need-returns-2
-returns-2 c = no-spot _ _ _ _ _ (c .before .before .before .asked .ensures) (c .before .asked2 .given .1)
+returns-2 c = not-located _ _ _ _ _ (c .before .before .before .asked .ensures) (c .before .asked2 .given .1)
 
 pub index-spec : {M : Type 1} → statement M
 index-spec =
@@ -50,8 +50,8 @@ index-spec =
     enum-told
     sub-t8
     mul-t9
-    sub-spot
-    spot-requires
+    sub-stand
+    stand-requires
     add-t12
     enum-known-asked
     returns

@@ -2,12 +2,12 @@
 use native.Mathlib.Omega.{arith}
 use borrow.Author.Tests.{eq-eqb, ne-eqb}
 use Rattle.params.specs.Params.{lengthsAnswer}
-use Rattle.params.proofs.Rules.{sized-small}
+use Rattle.params.proofs.Rules.{dimensions-small}
 use Rattle.params.proofs.params.Params.lengths.Statement.{statement}
 use Rattle.params.proofs.params.Params.lengths.Tie as tie
 
 mul-size : tie.Need-mul-size
-mul-size c = omega (arith, sized-small (c .before .pre))
+mul-size c = omega (arith, dimensions-small (c .before .pre))
 
 returns : tie.Need-returns
 unfolding lengthsAnswer

@@ -1,7 +1,7 @@
 -- `params::params::Params::position` meets its contract: what was asked is right, or the caller is told why not.
 use mathlib.Core.Path.{sym, _∙_}
 use native.Mathlib.Omega.{arith}
-use Rattle.params.proofs.Rules.{Asked, asked-done, spot-at, no-spot}
+use Rattle.params.proofs.Rules.{Asked, asked-done, located-at, not-located}
 use borrow.Author.Needs.{needs}
 use Rattle.params.proofs.params.Params.position.Statement.{statement}
 use Rattle.params.proofs.params.Params.position.Tie as tie
@@ -15,22 +15,22 @@ asked-requires c κs = search needs
 enum-told : tie.Need-enum-told
 enum-told c = search needs
 
-sub-spot : tie.Need-sub-spot
-sub-spot c = right c .low
+sub-stand : tie.Need-sub-stand
+sub-stand c = right c .low
 
-spot-requires : tie.Need-spot-requires
-spot-requires c κs = let h = right c in (h .sized, omega arith)
+stand-requires : tie.Need-stand-requires
+stand-requires c κs = let h = right c in (h .dimensions, omega arith)
 
 enum-known-asked : tie.Need-enum-known-asked
 enum-known-asked c = search needs
 
 returns : tie.Need-returns
-returns c = spot-at _ _ _ _ (c .before .before .before .asked .ensures) (c .before .enum-told .given .1) (c .spot .ensures .0)
+returns c = located-at _ _ _ _ (c .before .before .before .asked .ensures) (c .before .enum-told .given .1) (c .stand .ensures .0)
 
 returns-2 : tie.Need-returns-2
-returns-2 c = no-spot _ _ _ _ _ (c .before .before .before .asked .ensures) (c .before .asked2 .given .1)
+returns-2 c = not-located _ _ _ _ _ (c .before .before .before .asked .ensures) (c .before .asked2 .given .1)
 
 pub position-spec : {M : Type 1} → statement M
 position-spec =
     tie.close
-    (tie.spec asked-requires enum-told sub-spot spot-requires enum-known-asked returns returns-2)
+    (tie.spec asked-requires enum-told sub-stand stand-requires enum-known-asked returns returns-2)

@@ -4,7 +4,7 @@ use mathlib.Core.Bool.{true}
 use native.Mathlib.Omega.{arith}
 use Rattle.params.specs.Params.{goodParams}
 use Rattle.params.proofs.Searches.{test-held, test-failed}
-use Rattle.params.proofs.Rules.{sized-small, good-sized}
+use Rattle.params.proofs.Rules.{dimensions-small, good-dimensions}
 use borrow.Author.Needs.{needs}
 use Rattle.params.proofs.params.Params.size.Statement.{statement}
 use Rattle.params.proofs.params.Params.size.Tie as tie
@@ -20,7 +20,7 @@ returns c = simp (test-failed (c .before .check .ensures) (c .if1 .taken))
 
 mul-result : tie.Need-mul-result
 mul-result c =
-    omega (arith, sized-small (good-sized _ (passed (c .before))))
+    omega (arith, dimensions-small (good-dimensions _ (passed (c .before))))
 
 returns-2 : tie.Need-returns-2
 returns-2 c = simp (passed (c .before))

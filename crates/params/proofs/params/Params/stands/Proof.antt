@@ -2,26 +2,26 @@
 use mathlib.Core.Path.{_≡_}
 use mathlib.Core.Bool.{true}
 use native.Mathlib.Omega.{arith}
-use Rattle.params.specs.Params.{Sized, goodSizes}
-use Rattle.params.specs.Places.{stand}
+use Rattle.params.specs.Params.{Dimensions, goodDimensions}
+use Rattle.params.specs.Positions.{stand}
 use Rattle.params.proofs.Searches.{test-held, test-failed}
-use Rattle.params.proofs.Rules.{sized}
+use Rattle.params.proofs.Rules.{dimensions}
 use Rattle.params.proofs.Standing.{stands-in, stands-nowhere}
 use borrow.Author.Needs.{needs}
 use Rattle.params.proofs.params.Params.stands.Statement.{statement}
 use Rattle.params.proofs.params.Params.stands.Tie as tie
 
-passed : (c : tie.Else1) → goodSizes (c .before .before .args .self) ≡ true
-passed c = test-held (c .before .sized .ensures) (c .if1 .left)
+passed : (c : tie.Else1) → goodDimensions (c .before .before .args .self) ≡ true
+passed c = test-held (c .before .good-dimensions .ensures) (c .if1 .left)
 
-sizes : (c : tie.Else1) → Sized (c .before .before .args .self)
-sizes c = sized _ (passed c)
+sizes : (c : tie.Else1) → Dimensions (c .before .before .args .self)
+sizes c = dimensions _ (passed c)
 
-sized-requires : tie.Need-sized-requires
-sized-requires c κs = search needs
+good-dimensions-requires : tie.Need-good-dimensions-requires
+good-dimensions-requires c κs = search needs
 
 returns : tie.Need-returns
-returns c = rw (test-failed (c .before .sized .ensures) (c .if1 .taken))
+returns c = rw (test-failed (c .before .good-dimensions .ensures) (c .if1 .taken))
 
 array-read-place : tie.Need-array-read-place
 array-read-place c = search needs
@@ -126,7 +126,7 @@ pub stands-spec : {M : Type 1} → statement M
 stands-spec =
     tie.close
     (tie.spec
-    sized-requires
+    good-dimensions-requires
     returns
     array-read-place
     array-read-place-2

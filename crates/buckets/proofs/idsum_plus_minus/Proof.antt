@@ -1,9 +1,9 @@
 -- `buckets::wound` meets its contract: the definition, case by case.
 use borrow.Author.Needs.{needs}
 use borrow.Author.Tests.{lt-ltb, le-ltb}
-use Rattle.buckets.specs.Buckets.{wound}
-use Rattle.buckets.proofs.wound.Statement.{statement}
-use Rattle.buckets.proofs.wound.Tie as tie
+use Rattle.buckets.specs.Buckets.{idsumPlusMinus}
+use Rattle.buckets.proofs.idsum_plus_minus.Statement.{statement}
+use Rattle.buckets.proofs.idsum_plus_minus.Tie as tie
 
 cast-result : tie.Need-cast-result
 cast-result c = search needs
@@ -27,23 +27,23 @@ cast-sum : tie.Need-cast-sum
 cast-sum c = search needs
 
 returns : tie.Need-returns
-unfolding wound
+unfolding idsumPlusMinus
 returns c = rw (c .before .if1 .taken, lt-ltb _ _ (c .if2 .taken))
 
 returns-2 : tie.Need-returns-2
-unfolding wound
+unfolding idsumPlusMinus
 returns-2 c = rw (c .before .if1 .taken, le-ltb _ _ (c .if2 .left))
 
 returns-3 : tie.Need-returns-3
-unfolding wound
+unfolding idsumPlusMinus
 returns-3 c = rw (c .before .if1 .left, lt-ltb _ _ (c .if3 .taken))
 
 returns-4 : tie.Need-returns-4
-unfolding wound
+unfolding idsumPlusMinus
 returns-4 c = rw (c .before .if1 .left, le-ltb _ _ (c .if3 .left))
 
-pub wound-spec : {M : Type 1} → statement M
-wound-spec =
+pub idsum-plus-minus-spec : {M : Type 1} → statement M
+idsum-plus-minus-spec =
     tie.close
     (tie.spec
     cast-result

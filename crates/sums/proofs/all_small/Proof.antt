@@ -13,20 +13,20 @@ use borrow.Author.Needs.{needs}
 use borrow.Author.Tests.{ne-eqb, not-true, not-false}
 use Rattle.field.proofs.Casts.{back}
 use Rattle.params.specs.Lists.{below}
-use Rattle.sketch.specs.Sketch.{Sketch, sketch, quietAt}
-use Rattle.sums.proofs.all_quiet.Statement.{statement}
-use Rattle.sums.proofs.all_quiet.Tie as tie
+use Rattle.sketch.specs.Sketch.{Sketch, sketch, smallAt}
+use Rattle.sums.proofs.all_small.Statement.{statement}
+use Rattle.sums.proofs.all_small.Tie as tie
 
 -- bucket k is quiet in both sketches
 abbrev both : Sketch → Sketch → ℕ → Bool
-both S T k = quietAt S k && quietAt T k
+both S T k = smallAt S k && smallAt T k
 
 abbrev Inv-loop : tie.InvT-loop
-Inv-loop counts idsums others weights loud₀ i₀ loud i =
-    (i ≤ length counts) × (loud ≤ 2 * i) × (eqb loud 0 ≡ below i (both (sketch counts idsums) (sketch others weights)))
+Inv-loop counts idsums other-counts other-idsums loud₀ i₀ loud i =
+    (i ≤ length counts) × (loud ≤ 2 * i) × (eqb loud 0 ≡ below i (both (sketch counts idsums) (sketch other-counts other-idsums)))
 
 abbrev μ-loop : tie.MeasureT-loop
-μ-loop counts idsums others weights loud₀ i₀ loud i = length counts - i
+μ-loop counts idsums other-counts other-idsums loud₀ i₀ loud i = length counts - i
 
 -- a count before and after a test: it grows where the test fails, by 1, so that it is 0 as long as each test held
 abbrev Counted : ℕ → ℕ → Bool → Type 0
@@ -45,59 +45,59 @@ counted-both t i a b c q r e h k here =
     k .1 ∙ ap (λ (x : Bool). x && r) (h .1) ∙ and-assoc (eqb a 0) q r ∙ ap₂ _&&_ e (sym here) ∙ ap (λ (n : ℕ). below n t) (sym (add-one i))
 
 -- the count before and after each of a turn's tests
-first-counted : (c : tie.Joined1 Inv-loop μ-loop) → Counted (c .before .before .before .before .before .loop .loud) (c .if1 .loud) (c .before .quiet .result)
+first-counted : (c : tie.Joined1 Inv-loop μ-loop) → Counted (c .before .before .before .before .before .loop .large) (c .if1 .large) (c .before .is-small .result)
 first-counted c = ⊎-elim (λ w. failed _ _ _ (w .0 .taken) (w .1)) (λ w. held _ _ _ (w .0 .left) (w .1)) (c .if1 .came)
 
-second-counted : (c : tie.Joined2 Inv-loop μ-loop) → Counted (c .before .before .before .before .if1 .loud) (c .if2 .loud) (c .before .quiet2 .result)
+second-counted : (c : tie.Joined2 Inv-loop μ-loop) → Counted (c .before .before .before .before .if1 .large) (c .if2 .large) (c .before .is-small2 .result)
 second-counted c = ⊎-elim (λ w. failed _ _ _ (w .0 .taken) (w .2)) (λ w. held _ _ _ (w .0 .left) (w .1)) (c .if2 .came)
 
 -- the buckets that a turn looked at
-judged : (c : tie.After-quiet2 Inv-loop μ-loop) → let a = c .before .before .before .before .before .before .before .before .before .before .before .args in
-    both (sketch (now (a .counts)) (now (a .idsums))) (sketch (now (a .others)) (now (a .weights))) (c .before .before .before .before .before .before .before .before .loop .i) ≡ (c .before .before .before .before .quiet .result && c .quiet2 .result)
+judged : (c : tie.After-is-small2 Inv-loop μ-loop) → let a = c .before .before .before .before .before .before .before .before .before .before .before .args in
+    both (sketch (now (a .counts)) (now (a .idsums))) (sketch (now (a .other-counts)) (now (a .other-idsums))) (c .before .before .before .before .before .before .before .before .loop .i) ≡ (c .before .before .before .before .is-small .result && c .is-small2 .result)
 judged c =
     ap₂ _&&_
-    (sym (rw (back w32 _ (c .before .before .before .before .before .before .quiet-arg .given)) at (c .before .before .before .before .quiet .ensures)))
-    (sym (rw (back w32 _ (c .before .before .quiet-arg2 .given)) at (c .quiet2 .ensures)))
+    (sym (rw (back w32 _ (c .before .before .before .before .before .before .is-small-arg .given)) at (c .before .before .before .before .is-small .ensures)))
+    (sym (rw (back w32 _ (c .before .before .is-small-arg2 .given)) at (c .is-small2 .ensures)))
 
 loop-holds : tie.Need-loop-holds Inv-loop μ-loop
 unfolding below
 loop-holds c = (search needs, search needs, refl)
 
-mul-quiet : tie.Need-mul-quiet Inv-loop μ-loop
-mul-quiet c = search needs
+mul-is-small : tie.Need-mul-is-small Inv-loop μ-loop
+mul-is-small c = search needs
 
-shared-slice-copy-out-quiet : tie.Need-shared-slice-copy-out-quiet Inv-loop μ-loop
-shared-slice-copy-out-quiet c = search needs
+shared-slice-copy-out-is-small : tie.Need-shared-slice-copy-out-is-small Inv-loop μ-loop
+shared-slice-copy-out-is-small c = search needs
 
-mul-quiet-2 : tie.Need-mul-quiet-2 Inv-loop μ-loop
-mul-quiet-2 c = search needs
+mul-is-small-2 : tie.Need-mul-is-small-2 Inv-loop μ-loop
+mul-is-small-2 c = search needs
 
-shared-slice-read-quiet : tie.Need-shared-slice-read-quiet Inv-loop μ-loop
-shared-slice-read-quiet c = search needs
+shared-slice-read-is-small : tie.Need-shared-slice-read-is-small Inv-loop μ-loop
+shared-slice-read-is-small c = search needs
 
-quiet-requires : tie.Need-quiet-requires Inv-loop μ-loop
-quiet-requires c κs = search needs
+is-small-requires : tie.Need-is-small-requires Inv-loop μ-loop
+is-small-requires c κs = search needs
 
-add-loud : tie.Need-add-loud Inv-loop μ-loop
-add-loud c = search needs
+add-large : tie.Need-add-large Inv-loop μ-loop
+add-large c = search needs
 
-mul-quiet-3 : tie.Need-mul-quiet-3 Inv-loop μ-loop
-mul-quiet-3 c = search needs
+mul-is-small-3 : tie.Need-mul-is-small-3 Inv-loop μ-loop
+mul-is-small-3 c = search needs
 
-shared-slice-copy-out-quiet-2 : tie.Need-shared-slice-copy-out-quiet-2 Inv-loop μ-loop
-shared-slice-copy-out-quiet-2 c = search needs
+shared-slice-copy-out-is-small-2 : tie.Need-shared-slice-copy-out-is-small-2 Inv-loop μ-loop
+shared-slice-copy-out-is-small-2 c = search needs
 
-mul-quiet-4 : tie.Need-mul-quiet-4 Inv-loop μ-loop
-mul-quiet-4 c = search needs
+mul-is-small-4 : tie.Need-mul-is-small-4 Inv-loop μ-loop
+mul-is-small-4 c = search needs
 
-shared-slice-read-quiet-2 : tie.Need-shared-slice-read-quiet-2 Inv-loop μ-loop
-shared-slice-read-quiet-2 c = search needs
+shared-slice-read-is-small-2 : tie.Need-shared-slice-read-is-small-2 Inv-loop μ-loop
+shared-slice-read-is-small-2 c = search needs
 
-quiet-requires-2 : tie.Need-quiet-requires-2 Inv-loop μ-loop
-quiet-requires-2 c κs = search needs
+is-small-requires-2 : tie.Need-is-small-requires-2 Inv-loop μ-loop
+is-small-requires-2 c κs = search needs
 
-add-loud-2 : tie.Need-add-loud-2 Inv-loop μ-loop
-add-loud-2 c = record { fits = omega (arith, first-counted (c .before .before .before .before .before)) }
+add-large-2 : tie.Need-add-large-2 Inv-loop μ-loop
+add-large-2 c = record { fits = omega (arith, first-counted (c .before .before .before .before .before)) }
 
 add-i : tie.Need-add-i Inv-loop μ-loop
 add-i c = search needs
@@ -117,25 +117,25 @@ returns c =
     let end : c .before .loop .i ≡ length (now (c .before .before .before .before .args .counts)) = omega arith in
     rw end at (c .before .loop .inv .2)
 
-pub all-quiet-spec : {M : Type 1} → statement M
-all-quiet-spec =
+pub all-small-spec : {M : Type 1} → statement M
+all-small-spec =
     tie.close
     (tie.spec
     Inv-loop
     μ-loop
     loop-holds
-    mul-quiet
-    shared-slice-copy-out-quiet
-    mul-quiet-2
-    shared-slice-read-quiet
-    quiet-requires
-    add-loud
-    mul-quiet-3
-    shared-slice-copy-out-quiet-2
-    mul-quiet-4
-    shared-slice-read-quiet-2
-    quiet-requires-2
-    add-loud-2
+    mul-is-small
+    shared-slice-copy-out-is-small
+    mul-is-small-2
+    shared-slice-read-is-small
+    is-small-requires
+    add-large
+    mul-is-small-3
+    shared-slice-copy-out-is-small-2
+    mul-is-small-4
+    shared-slice-read-is-small-2
+    is-small-requires-2
+    add-large-2
     add-i
     loop-less
     loop-again

@@ -8,8 +8,8 @@ use mir.Val.{SFits, toZ, ofZ}
 use Rattle.field.proofs.Casts.{widened, widens}
 use Rattle.buckets.specs.Buckets.{plusMinus}
 use Rattle.buckets.proofs.Limits.{wide}
-use Rattle.buckets.proofs.moved.Statement.{statement}
-use Rattle.buckets.proofs.moved.Tie as tie
+use Rattle.buckets.proofs.plus_minus.Statement.{statement}
+use Rattle.buckets.proofs.plus_minus.Tie as tie
 
 cast-result : tie.Need-cast-result
 cast-result c = widens (c .before .fits .c)
@@ -42,8 +42,8 @@ returns c = rw (c .if1 .taken) (toZ-ofZ (sub-result c) ∙ less c)
 returns-2 : tie.Need-returns-2
 returns-2 c = rw (c .if1 .left) (toZ-ofZ (add-result c) ∙ more c)
 
-pub moved-spec : {M : Type 1} → statement M
-moved-spec =
+pub plus-minus-spec : {M : Type 1} → statement M
+plus-minus-spec =
     tie.close
     (tie.spec
     cast-result

@@ -6,12 +6,12 @@ use Prim.Native.Nat.{ℕ, _+_, _-_, _*_, _/_, _%_, _≤_, _<_}
 use lib.Dec.{eqb, ltb, leb}
 use lib.ListN.{getD}
 use Rattle.params.specs.declared.params.Params.{Params}
-use Rattle.params.specs.declared.answers.Why.the-variants.{Param, Flow}
+use Rattle.params.specs.declared.answers.Refusal.the-variants.{Param, Flow}
 use Rattle.params.specs.declared.answers.Answer.{Answer}
 use Rattle.params.specs.declared.answers.Answer.the-variants.{Done}
 use Rattle.params.specs.Answers.{refuseIf}
 use Rattle.params.specs.Lists.{touched}
-use Rattle.params.specs.Params.{primeOf, isFlow, goodSizes, goodParams}
+use Rattle.params.specs.Params.{primeOf, isFlow, goodDimensions, goodParams}
 
 -- where flow f stands in the array that i others stand before
 unfoldable pub stand : Params → ℕ → ℕ → ℕ
@@ -25,8 +25,8 @@ abbrev pub index : Params → ℕ → ℕ → ℕ
 index P i f = (i - 1) * P .m + position P i f
 
 -- what is judged before a position or an index is told
-unfoldable pub standAnswer : Params → ℕ → ℕ → Answer
-standAnswer P i f =
+unfoldable pub positionAnswer : Params → ℕ → ℕ → Answer
+positionAnswer P i f =
     refuseIf (not (goodParams P && (leb 1 i && leb i (P .d)))) Param 0
     (refuseIf (not (isFlow P f)) Flow 0
     Done)
@@ -40,15 +40,15 @@ abbrev pub stands : Params → ℕ → ℕ → Bool
 stands P f = standsIn (P .d) (P .m) (λ i. stand P i f)
 
 -- the list ks with a flow's place in each array where the sizes keep the rules; the rest is as it was
-unfoldable pub placesIn : Params → ℕ → List ℕ → List ℕ
-placesIn P f ks = touched (λ i. goodSizes P && ltb i (P .d)) (λ i k. stand P i f) ks
+unfoldable pub positionsIn : Params → ℕ → List ℕ → List ℕ
+positionsIn P f ks = touched (λ i. goodDimensions P && ltb i (P .d)) (λ i k. stand P i f) ks
 
 -- the list ks has a flow's place in each array
-pub record Placed (P : Params) (f : ℕ) (ks : List ℕ) : Type 0 where
+pub record Positioned (P : Params) (f : ℕ) (ks : List ℕ) : Type 0 where
   pub at : (i : ℕ) → i < P .d → getD ks i 0 ≡ stand P i f
 
 -- d arrays of m buckets, and a place within each, over slices of these lengths
-pub record Reached (d m : ℕ) (ks : List ℕ) (counts idsums : ℕ) : Type 0 where
+pub record WithinArrays (d m : ℕ) (ks : List ℕ) (counts idsums : ℕ) : Type 0 where
   pub d-high : d ≤ 4
   pub m-low : 1 ≤ m
   pub m-high : m ≤ 16384

@@ -11,15 +11,15 @@ use borrow.Author.Needs.{needs}
 use borrow.Author.Tests.{not-true, not-false}
 use Rattle.field.proofs.Casts.{back}
 use Rattle.params.proofs.Searches.{below-fails, all-below}
-use Rattle.sketch.specs.Sketch.{sketch, quietAt}
+use Rattle.sketch.specs.Sketch.{sketch, smallAt}
 use Rattle.sketch.proofs.Standing.{Within, reach}
-use Rattle.sketch.proofs.packets.all_quiet.Statement.{statement}
-use Rattle.sketch.proofs.packets.all_quiet.Tie as tie
+use Rattle.sketch.proofs.packets.all_small.Statement.{statement}
+use Rattle.sketch.proofs.packets.all_small.Tie as tie
 
 abbrev Inv-loop : tie.InvT-loop
 Inv-loop d m ks counts idsums i₀ i =
     (i ≤ d)
-    × ((j : ℕ) → j < i → quietAt (sketch counts idsums) (j * m + getD ks j 0) ≡ true)
+    × ((j : ℕ) → j < i → smallAt (sketch counts idsums) (j * m + getD ks j 0) ≡ true)
 
 abbrev μ-loop : tie.MeasureT-loop
 μ-loop d m ks counts idsums i₀ i = d - i
@@ -28,9 +28,9 @@ abbrev μ-loop : tie.MeasureT-loop
 within : (c : tie.In-loop Inv-loop μ-loop) → Within (c .before .before .before .args .d) (c .before .before .before .args .m) (c .before .loop .i) (getD (now (c .before .before .before .args .ks)) (c .before .loop .i) 0)
 within c = reach (c .before .loop .i) (c .before .before .before .pre) (c .loop-test .taken)
 
-judged : (c : tie.After-quiet Inv-loop μ-loop)
-    → quietAt (sketch (now (c .before .before .before .before .before .before .before .args .counts)) (now (c .before .before .before .before .before .before .before .args .idsums))) (c .before .before .before .before .before .loop .i * c .before .before .before .before .before .before .before .args .m + getD (now (c .before .before .before .before .before .before .before .args .ks)) (c .before .before .before .before .before .loop .i) 0) ≡ c .quiet .result
-judged c = sym (rw (back w32 _ (c .before .before .quiet-arg .given)) at (c .quiet .ensures))
+judged : (c : tie.After-is-small Inv-loop μ-loop)
+    → smallAt (sketch (now (c .before .before .before .before .before .before .before .args .counts)) (now (c .before .before .before .before .before .before .before .args .idsums))) (c .before .before .before .before .before .loop .i * c .before .before .before .before .before .before .before .args .m + getD (now (c .before .before .before .before .before .before .before .args .ks)) (c .before .before .before .before .before .loop .i) 0) ≡ c .is-small .result
+judged c = sym (rw (back w32 _ (c .before .before .is-small-arg .given)) at (c .is-small .ensures))
 
 loop-holds : tie.Need-loop-holds Inv-loop μ-loop
 loop-holds c = (search needs, λ j h. absurd (omega arith))
@@ -47,20 +47,20 @@ element-copy-out-k c = within c .few
 add-k : tie.Need-add-k Inv-loop μ-loop
 add-k c = omega (arith, within (c .before))
 
-mul-quiet : tie.Need-mul-quiet Inv-loop μ-loop
-mul-quiet c = omega (arith, within (c .before))
+mul-is-small : tie.Need-mul-is-small Inv-loop μ-loop
+mul-is-small c = omega (arith, within (c .before))
 
-shared-slice-copy-out-quiet : tie.Need-shared-slice-copy-out-quiet Inv-loop μ-loop
-shared-slice-copy-out-quiet c = omega (arith, within (c .before), c .before .before .before .before .pre)
+shared-slice-copy-out-is-small : tie.Need-shared-slice-copy-out-is-small Inv-loop μ-loop
+shared-slice-copy-out-is-small c = omega (arith, within (c .before), c .before .before .before .before .pre)
 
-mul-quiet-2 : tie.Need-mul-quiet-2 Inv-loop μ-loop
-mul-quiet-2 c = omega (arith, within (c .before .before))
+mul-is-small-2 : tie.Need-mul-is-small-2 Inv-loop μ-loop
+mul-is-small-2 c = omega (arith, within (c .before .before))
 
-shared-slice-read-quiet : tie.Need-shared-slice-read-quiet Inv-loop μ-loop
-shared-slice-read-quiet c = omega (arith, within (c .before .before .before), c .before .before .before .before .before .before .pre)
+shared-slice-read-is-small : tie.Need-shared-slice-read-is-small Inv-loop μ-loop
+shared-slice-read-is-small c = omega (arith, within (c .before .before .before), c .before .before .before .before .before .before .pre)
 
-quiet-requires : tie.Need-quiet-requires Inv-loop μ-loop
-quiet-requires c κs = search needs
+is-small-requires : tie.Need-is-small-requires Inv-loop μ-loop
+is-small-requires c κs = search needs
 
 returns : tie.Need-returns Inv-loop μ-loop
 returns c =
@@ -83,8 +83,8 @@ loop-again c =
 returns-2 : tie.Need-returns-2 Inv-loop μ-loop
 returns-2 c = sym (all-below _ _ (λ j h. c .before .loop .inv .1 j (omega arith)))
 
-pub all-quiet-spec : {M : Type 1} → statement M
-all-quiet-spec =
+pub all-small-spec : {M : Type 1} → statement M
+all-small-spec =
     tie.close
     (tie.spec
     Inv-loop
@@ -94,11 +94,11 @@ all-quiet-spec =
     mul-k-2
     element-copy-out-k
     add-k
-    mul-quiet
-    shared-slice-copy-out-quiet
-    mul-quiet-2
-    shared-slice-read-quiet
-    quiet-requires
+    mul-is-small
+    shared-slice-copy-out-is-small
+    mul-is-small-2
+    shared-slice-read-is-small
+    is-small-requires
     returns
     add-i
     loop-less

@@ -4,12 +4,12 @@ use mathlib.Core.Bool.{true}
 use borrow.Author.Needs.{needs}
 use Rattle.params.specs.Answers.{first}
 use Rattle.params.specs.Params.{goodParams, sameParams, lengthsAnswer}
-use Rattle.sums.specs.Sums.{shapesAnswer}
+use Rattle.sums.specs.Sums.{bothLentAnswer}
 use Rattle.params.proofs.Searches.{test-held, test-failed}
 use Rattle.params.proofs.Judging.{first-refused}
 use Rattle.sums.proofs.TwoSketches.{lengths-left}
-use Rattle.sums.proofs.shapes.Statement.{statement}
-use Rattle.sums.proofs.shapes.Tie as tie
+use Rattle.sums.proofs.judge_both.Statement.{statement}
+use Rattle.sums.proofs.judge_both.Tie as tie
 
 -- what the tests that were passed tell
 good-first : (c : tie.Else1) → goodParams (c .before .before .args .p) ≡ true
@@ -22,34 +22,34 @@ alike : (c : tie.Else3) → sameParams (c .before .before .before .before .befor
 alike c = test-held (c .before .same .ensures) (c .if3 .left)
 
 -- the lengths of the first sketch
-lengths-is : (c : tie.After-sizes) → let a = c .before .before .before .before .before .before .before .args in c .sizes .result ≡ lengthsAnswer (a .p) (a .c) (a .s)
-lengths-is c = c .sizes .ensures ∙ lengths-left _ _ _ (good-first (c .before .before .before .before .before))
+lengths-is : (c : tie.After-judge-dimensions) → let a = c .before .before .before .before .before .before .before .args in c .judge-dimensions .result ≡ lengthsAnswer (a .p) (a .c) (a .s)
+lengths-is c = c .judge-dimensions .ensures ∙ lengths-left _ _ _ (good-first (c .before .before .before .before .before))
 
 check-requires : tie.Need-check-requires
 check-requires c κs = search needs
 
 returns : tie.Need-returns
-unfolding shapesAnswer
+unfolding bothLentAnswer
 returns c = rw (test-failed (c .before .check .ensures) (c .if1 .taken))
 
 check-requires-2 : tie.Need-check-requires-2
 check-requires-2 c κs = search needs
 
 returns-2 : tie.Need-returns-2
-unfolding shapesAnswer
+unfolding bothLentAnswer
 returns-2 c = rw (good-first (c .before .before), test-failed (c .before .check2 .ensures) (c .if2 .taken))
 
 same-requires : tie.Need-same-requires
 same-requires c κs = search needs
 
 returns-3 : tie.Need-returns-3
-unfolding shapesAnswer
+unfolding bothLentAnswer
 returns-3 c =
     let s = c .before .before in
     rw (good-first (s .before .before), good-second s, test-failed (c .before .same .ensures) (c .if3 .taken))
 
-sizes-requires : tie.Need-sizes-requires
-sizes-requires c κs = search needs
+judge-dimensions-requires : tie.Need-judge-dimensions-requires
+judge-dimensions-requires c κs = search needs
 
 enum-told : tie.Need-enum-told
 enum-told c = search needs
@@ -58,22 +58,22 @@ enum-told-2 : tie.Need-enum-told-2
 enum-told-2 c = search needs
 
 returns-4 : tie.Need-returns-4
-unfolding shapesAnswer
+unfolding bothLentAnswer
 returns-4 c =
     let s = c .before .before .before in
     rw (good-first (s .before .before .before .before), good-second (s .before .before), alike s) (first-refused _ _ _ (lengths-is (c .before .before)) (c .before .match .keys2))
 
-sizes-requires-2 : tie.Need-sizes-requires-2
-sizes-requires-2 c κs = search needs
+judge-dimensions-requires-2 : tie.Need-judge-dimensions-requires-2
+judge-dimensions-requires-2 c κs = search needs
 
 returns-5 : tie.Need-returns-5
-unfolding shapesAnswer first
+unfolding bothLentAnswer first
 returns-5 c =
     let s = c .before .before .before .before in
-    rw (good-first (s .before .before .before .before), good-second (s .before .before), alike s, sym (lengths-is (c .before .before .before)) ∙ c .before .enum-told .given .1) (c .sizes2 .ensures ∙ lengths-left _ _ _ (good-first (s .before .before .before .before)))
+    rw (good-first (s .before .before .before .before), good-second (s .before .before), alike s, sym (lengths-is (c .before .before .before)) ∙ c .before .enum-told .given .1) (c .judge-dimensions2 .ensures ∙ lengths-left _ _ _ (good-first (s .before .before .before .before)))
 
-pub shapes-spec : {M : Type 1} → statement M
-shapes-spec =
+pub judge-both-spec : {M : Type 1} → statement M
+judge-both-spec =
     tie.close
     (tie.spec
     check-requires
@@ -82,9 +82,9 @@ shapes-spec =
     returns-2
     same-requires
     returns-3
-    sizes-requires
+    judge-dimensions-requires
     enum-told
     enum-told-2
     returns-4
-    sizes-requires-2
+    judge-dimensions-requires-2
     returns-5)

@@ -1,12 +1,12 @@
 -- `params::params::Params::shape` meets its contract: the parameters, then the lengths.
 use mathlib.Core.Path.{_≡_}
 use mathlib.Core.Bool.{true}
-use Rattle.params.specs.Params.{goodParams, shapeAnswer}
+use Rattle.params.specs.Params.{goodParams, lentAnswer}
 use Rattle.params.proofs.Searches.{test-held, test-failed}
-use Rattle.params.proofs.Rules.{good-sized}
+use Rattle.params.proofs.Rules.{good-dimensions}
 use borrow.Author.Needs.{needs}
-use Rattle.params.proofs.params.Params.shape.Statement.{statement}
-use Rattle.params.proofs.params.Params.shape.Tie as tie
+use Rattle.params.proofs.params.Params.judge_lent.Statement.{statement}
+use Rattle.params.proofs.params.Params.judge_lent.Tie as tie
 
 passed : (c : tie.Else1) → goodParams (c .before .before .args .self) ≡ true
 passed c = test-held (c .before .check .ensures) (c .if1 .left)
@@ -15,15 +15,15 @@ check-requires : tie.Need-check-requires
 check-requires c κs = search needs
 
 returns : tie.Need-returns
-unfolding shapeAnswer
+unfolding lentAnswer
 returns c = simp (test-failed (c .before .check .ensures) (c .if1 .taken))
 
 lengths-requires : tie.Need-lengths-requires
-lengths-requires c κs = good-sized _ (passed c)
+lengths-requires c κs = good-dimensions _ (passed c)
 
 returns-2 : tie.Need-returns-2
-unfolding shapeAnswer
+unfolding lentAnswer
 returns-2 c = simp (passed (c .before)) (c .lengths .ensures)
 
-pub shape-spec : {M : Type 1} → statement M
-shape-spec = tie.close (tie.spec check-requires returns lengths-requires returns-2)
+pub judge-lent-spec : {M : Type 1} → statement M
+judge-lent-spec = tie.close (tie.spec check-requires returns lengths-requires returns-2)

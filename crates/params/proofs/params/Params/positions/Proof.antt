@@ -6,20 +6,20 @@ use Prim.Native.Nat.{_≤_, _<_}
 use native.Mathlib.Omega.{arith}
 use lib.ListN.{set}
 use Rattle.params.specs.Lists.{touched}
-use Rattle.params.specs.Params.{Sized, goodSizes}
-use Rattle.params.specs.Places.{stand}
+use Rattle.params.specs.Params.{Dimensions, goodDimensions}
+use Rattle.params.specs.Positions.{stand}
 use Rattle.params.proofs.Searches.{test-held, test-failed}
 use Rattle.params.proofs.Changes.{upTo, each-none, store-next}
-use Rattle.params.proofs.Rules.{sized, no-places, all-places}
+use Rattle.params.proofs.Rules.{dimensions, no-positions, all-positions}
 use borrow.Author.Needs.{needs}
-use Rattle.params.proofs.params.Params.places.Statement.{statement}
-use Rattle.params.proofs.params.Params.places.Tie as tie
+use Rattle.params.proofs.params.Params.positions.Statement.{statement}
+use Rattle.params.proofs.params.Params.positions.Tie as tie
 
-passed : (c : tie.Else1) → goodSizes (c .before .before .args .self) ≡ true
-passed c = test-held (c .before .sized .ensures) (c .if1 .left)
+passed : (c : tie.Else1) → goodDimensions (c .before .before .args .self) ≡ true
+passed c = test-held (c .before .good-dimensions .ensures) (c .if1 .left)
 
-sizes : (c : tie.Else1) → Sized (c .before .before .args .self)
-sizes c = sized _ (passed c)
+sizes : (c : tie.Else1) → Dimensions (c .before .before .args .self)
+sizes c = dimensions _ (passed c)
 
 two-placed : (c : tie.After-place2) → let s = c .before .before .before .before .before .before .args in
     set (set (s .ks .now) 0 (c .before .place .result)) 1 (c .place2 .result) ≡ touched (upTo 2) (λ j k. stand (s .self) j (s .f)) (s .ks .now)
@@ -41,11 +41,11 @@ three-placed c =
     (λ w. inr (w .0 .left, rw (w .1) (two-placed (c .before))))
     (c .if2 .came)
 
-sized-requires : tie.Need-sized-requires
-sized-requires c κs = search needs
+good-dimensions-requires : tie.Need-good-dimensions-requires
+good-dimensions-requires c κs = search needs
 
 returns : tie.Need-returns
-returns c = no-places _ _ _ (test-failed (c .before .sized .ensures) (c .if1 .taken))
+returns c = no-positions _ _ _ (test-failed (c .before .good-dimensions .ensures) (c .if1 .taken))
 
 array-read-place : tie.Need-array-read-place
 array-read-place c = search needs
@@ -101,7 +101,7 @@ returns-2 c =
     let s = c .before .before .before .before .before .before .before in
     let a = s .before .before .args in
     ⊎-elim
-    (λ w. all-places _ _ _ 4 (passed s) (omega (arith, sizes s)) (store-next 0 (λ j. stand (a .self) j (a .f)) (a .ks .now) _ 3 (w .1) (c .place4 .ensures .0)))
+    (λ w. all-positions _ _ _ 4 (passed s) (omega (arith, sizes s)) (store-next 0 (λ j. stand (a .self) j (a .f)) (a .ks .now) _ 3 (w .1) (c .place4 .ensures .0)))
     (λ w. absurd (omega (arith, w .0)))
     (three-placed (c .before .before))
 
@@ -109,15 +109,15 @@ returns-3 : tie.Need-returns-3
 returns-3 c =
     let s = c .before .before .before .before .before .before in
     ⊎-elim
-    (λ w. all-places _ _ _ 3 (passed s) (omega (arith, w .0)) (w .1))
-    (λ w. all-places _ _ _ 2 (passed s) (omega (arith, sizes s, w .0)) (w .1))
+    (λ w. all-positions _ _ _ 3 (passed s) (omega (arith, w .0)) (w .1))
+    (λ w. all-positions _ _ _ 2 (passed s) (omega (arith, sizes s, w .0)) (w .1))
     (three-placed (c .before))
 
-pub places-spec : {M : Type 1} → statement M
-places-spec =
+pub positions-spec : {M : Type 1} → statement M
+positions-spec =
     tie.close
     (tie.spec
-    sized-requires
+    good-dimensions-requires
     returns
     array-read-place
     array-read-place-2
