@@ -32,7 +32,7 @@ idsum-plus-minus-back x w l =
     ∙ ap (residue prime) (+ℤ-negℤ-cancel (pos x) (pos w))
     ∙ residue-own prime prime-pos x l
 
--- the sum and the difference of two numbers below p by one comparison, and that `wound` is the residue of either
+-- the sum and the difference of two numbers below p by one comparison, and that `idsumPlusMinus` is the residue of either
 added-once : (s t : ℕ) → s < prime → t < prime → (b : Bool) → ltb (s + t) prime ≡ b → cond b (s + t) (s + t - prime) ≡ residue prime (pos (s + t))
 added-once s t h k true e = sym (residue-own prime prime-pos (s + t) (ltb-true (s + t) prime e))
 added-once s t h k false e =

@@ -12,7 +12,7 @@ use mir.Facts.{toZ-ofZ}
 use mir.Val.{SFits, toZ, ofZ}
 use Rattle.field.proofs.Parts.{sfits-of-abs, abs-of-sfits, abs-add, abs-sub}
 use Rattle.params.specs.Params.{prime}
-use Rattle.buckets.specs.Buckets.{inLimits, damaged, isSmall, plusMinus}
+use Rattle.buckets.specs.Buckets.{inLimits, isNumber, damaged, isSmall, plusMinus}
 use Rattle.params.proofs.Searches.{and-true}
 
 -- the code's two comparisons, with a bound and its opposite, are one of the number's size
@@ -32,6 +32,15 @@ limits-size z e = leb-true (natAbs z) 2147483646 e
 pub limits-fit : (z : ℤ) → inLimits z ≡ true → SFits w32 z
 limits-fit z e = sfits-of-abs w32 z (omega (arith, limits-size z e))
 
+-- a number of packets, by its test, and back
+pub number-within : (n : ℕ) → isNumber n ≡ true → (1 ≤ n) × (n < prime)
+unfolding isNumber
+number-within n e = let q = and-true (leb 1 n) (leb n 2147483646) e in (leb-true 1 n (q .0), omega (arith, leb-true n 2147483646 (q .1)))
+
+pub number-back : (n : ℕ) → 1 ≤ n → n < prime → isNumber n ≡ true
+unfolding isNumber
+number-back n l h = rw (le-leb 1 n l, le-leb n 2147483646 (omega arith))
+
 -- a bucket within its limits, by its test, and back
 pub whole : (c : ℤ) (s : ℕ) → damaged c s ≡ false → (inLimits c ≡ true) × (s < prime)
 whole c s e = let q = and-true (inLimits c) (ltb s prime) (not-false _ e) in (q .0, ltb-true s prime (q .1))
@@ -39,7 +48,7 @@ whole c s e = let q = and-true (inLimits c) (ltb s prime) (not-false _ e) in (q 
 pub whole-back : (c : ℤ) (s : ℕ) → inLimits c ≡ true → s < prime → damaged c s ≡ false
 whole-back c s e l = rw (e, lt-ltb s prime l)
 
--- a quiet bucket is within its limits, and stays there with a count no larger than a quiet one's
+-- a small bucket is within its limits, and stays there with a count no larger than a small one's
 pub small-whole : (c : ℤ) (s : ℕ) → isSmall c s ≡ true → damaged c s ≡ false
 unfolding isSmall inLimits
 small-whole c s e =

@@ -12,6 +12,10 @@ use Rattle.params.specs.Params.{prime}
 unfoldable pub inLimits : ℤ → Bool
 inLimits z = leb (natAbs z) 2147483646
 
+-- a number of packets: from 1 to 2147483646
+unfoldable pub isNumber : ℕ → Bool
+isNumber n = leb 1 n && leb n 2147483646
+
 -- a bucket outside its limits
 abbrev pub damaged : ℤ → ℕ → Bool
 damaged c s = not (inLimits c && ltb s prime)

@@ -6,7 +6,7 @@ ghost use lib.Dec.{ltb, eqb};
 ghost use lib.ListN.{length};
 ghost use Rattle.params.specs.Lists.{least};
 ghost use Rattle.params.specs.Params.{prime};
-ghost use Rattle.buckets.specs.Buckets.{inLimits, damagedOf, plusMinus, idsumPlusMinus, isSmall, weight as «weight-of», allZero};
+ghost use Rattle.buckets.specs.Buckets.{inLimits, isNumber, damagedOf, plusMinus, idsumPlusMinus, isSmall, weight as «weight-of», allZero};
 use params::PRIME;
 
 // Whether a number lies within a count's limits.
@@ -14,6 +14,16 @@ pub fn within(z: i64) -> bool
     ensures { λ r. ⌜ r ≡ inLimits z ⌝ }
 {
     -2147483646 <= z && z <= 2147483646
+}
+
+// Whether a number is one of packets.
+pub fn is_number(n: u32) -> bool
+    ensures { λ r. ⌜ r ≡ isNumber n ⌝ }
+{
+    if n < 1 {
+        return false;
+    }
+    n <= 2147483646
 }
 
 // Whether a bucket lies within its limits.

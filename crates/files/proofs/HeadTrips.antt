@@ -25,7 +25,7 @@ use Rattle.files.proofs.RoundTrips.{digits-make, byte-then, word-then}
 use Rattle.files.proofs.RecordTrips.{record-whole, record-read}
 
 -- the numbers of good parameters have four bytes
-pair-small : (used : Bool) (a b : ℕ) → pairOk used a b ≡ true → (a < 4294967296) × (b < 4294967296)
+pair-small : (used : Bool) (a b : ℕ) → pairOk prime used a b ≡ true → (a < 4294967296) × (b < 4294967296)
 pair-small true a b e =
     let h = and-true (leb 1 a && ltb a prime) (ltb b prime) e in
     let k = and-true (leb 1 a) (ltb a prime) (h .0) in
@@ -37,8 +37,8 @@ pair-small false a b e =
 good-pair : (P : Params) (i : ℕ) → goodParams P ≡ true → i < 4 → (getD (P .a) i 0 < 4294967296) × (getD (P .b) i 0 < 4294967296)
 unfolding goodParams pairAt
 good-pair P i g l =
-    let h = and-true (goodDimensions P) _ (and-true (goodDimensions P && below 4 (pairAt (P .d) (P .a) (P .b))) _ g .0) .1 in
-    pair-small (ltb i (P .d)) (getD (P .a) i 0) (getD (P .b) i 0) (below-at 4 i (pairAt (P .d) (P .a) (P .b)) h l)
+    let h = and-true (goodDimensions P) _ (and-true (goodDimensions P && below 4 (pairAt prime (P .d) (P .a) (P .b))) _ g .0) .1 in
+    pair-small (ltb i (P .d)) (getD (P .a) i 0) (getD (P .b) i 0) (below-at 4 i (pairAt prime (P .d) (P .a) (P .b)) h l)
 
 -- all that a head can say of parameters: their first four pairs
 abbrev fourPairs : Params → Params

@@ -1,5 +1,5 @@
 -- Refusals come in the order of the table: of the faults that apply the first decides the number, and the index is 0 unless a bucket is at fault.
--- The laws for every answer, and what they say of a shape, a position and an index.
+-- The laws for every answer, and what they say of lent lengths, a position and an index.
 use mathlib.Core.Path.{_≡_, refl, sym, ap, _∙_}
 use mathlib.Core.Bool.{Bool, true, false, not, cond, _&&_, _||_}
 use mathlib.Core.Logic.{_⊎_, inl, inr, ⊎-elim}
@@ -18,18 +18,10 @@ use Rattle.params.specs.declared.answers.Located.{Located}
 use Rattle.params.specs.Lists.{below, least}
 use Rattle.params.specs.Answers.{numberOf, numberIn, indexIn, refuseIf, refuseAt, first, locatedOf, locatedNumber, locatedIndex, locatedAt}
 use Rattle.params.specs.Params.{isFlow, size, goodParams, lengthsAnswer, lentAnswer}
+use Rattle.params.specs.Faults.{order, firstOf, somewhere, lentFault, positionFault}
 use Rattle.params.specs.Positions.{positionAnswer}
 use Rattle.params.proofs.Searches.{and-true, all-below, below-fails, none-found}
 use Rattle.params.proofs.Lowest.{least-lowest}
-
--- the order in which faults are judged: that of their numbers, save that Mismatch comes after Param
-abbrev pub order : List Refusal
-order = Param ∷ Mismatch ∷ Length ∷ Flow ∷ Count ∷ Damage ∷ Range ∷ Form ∷ []
-
--- the number of the first that applies, 0 where none does
-abbrev pub firstOf : List Refusal → (Refusal → Bool) → ℕ
-firstOf [] applies = 0
-firstOf (w ∷ ws) applies = cond (applies w) (numberOf w) (firstOf ws applies)
 
 -- where no parameters differ that is the lowest number: `rising` has them as the table does
 abbrev rising : List Refusal
@@ -62,15 +54,11 @@ rising-lowest applies Form h = before (take 7 rising) (drop 7 rising) applies 8 
 pub lowest-first : (applies : Refusal → Bool) → applies Mismatch ≡ false → (w : Refusal) → applies w ≡ true → firstOf order applies ≤ numberOf w
 lowest-first applies e w h = rw e (rw e at (rising-lowest applies w h))
 
--- the test holds at some number below n
-abbrev pub some : ℕ → (ℕ → Bool) → Bool
-some n t = not (below n (λ k. not (t k)))
-
-found-some : (n : ℕ) (t : ℕ → Bool) (b : Bool) → ltb (least 0 n t) n ≡ b → b ≡ some n t
-found-some n t true e =
+found-somewhere : (n : ℕ) (t : ℕ → Bool) (b : Bool) → ltb (least 0 n t) n ≡ b → b ≡ somewhere n t
+found-somewhere n t true e =
     let l = least-lowest n t (ltb-true _ _ e) in
     sym (ap not (below-fails n (least 0 n t) (λ k. not (t k)) (l .inside) (ap not (l .here))))
-found-some n t false e =
+found-somewhere n t false e =
     sym (ap not (all-below n (λ k. not (t k)) (λ k l. ap not (none-found n t e k l))))
 
 -- the number of an answer, fault by fault
@@ -78,10 +66,10 @@ pub refuse-number : (b : Bool) (w : Refusal) (k : ℕ) (next : Answer) → numbe
 refuse-number true w k next = refl
 refuse-number false w k next = refl
 
-pub refuse-at-number : (n : ℕ) (t : ℕ → Bool) (w : Refusal) (next : Answer) → numberIn (refuseAt n t w next) ≡ cond (some n t) (numberOf w) (numberIn next)
+pub refuse-at-number : (n : ℕ) (t : ℕ → Bool) (w : Refusal) (next : Answer) → numberIn (refuseAt n t w next) ≡ cond (somewhere n t) (numberOf w) (numberIn next)
 unfolding refuseAt
 refuse-at-number n t w next =
-    refuse-number (ltb (least 0 n t) n) w (least 0 n t) next ∙ ap (λ (b : Bool). cond b (numberOf w) (numberIn next)) (found-some n t _ refl)
+    refuse-number (ltb (least 0 n t) n) w (least 0 n t) next ∙ ap (λ (b : Bool). cond b (numberOf w) (numberIn next)) (found-somewhere n t _ refl)
 
 pub first-refuse : (b : Bool) (w : Refusal) (k : ℕ) (r next : Answer) → first (refuseIf b w k r) next ≡ refuseIf b w k (first r next)
 unfolding first
@@ -97,38 +85,21 @@ pub cond-within : (s t : Bool) (n k : ℕ) → (s ≡ true → t ≡ true) → c
 cond-within true t n k h = rw (h refl)
 cond-within false t n k h = refl
 
--- where no more than the parameters, a length and a flow are judged
-abbrev pub early : (param length flow : Bool) → Refusal → Bool
-early p l f Param = p
-early p l f Length = l
-early p l f Flow = f
-early p l f Count = false
-early p l f Damage = false
-early p l f Range = false
-early p l f Mismatch = false
-early p l f Form = false
-
-abbrev pub lentFault : Params → ℕ → ℕ → Refusal → Bool
-lentFault P c s = early (not (goodParams P)) (not (eqb c (size P) && eqb s (size P))) false
-
-abbrev pub standFault : Params → ℕ → ℕ → Refusal → Bool
-standFault P i f = early (not (goodParams P && (leb 1 i && leb i (P .d)))) false (not (isFlow P f))
-
 pub lent-number : (P : Params) (c s : ℕ) → numberIn (lentAnswer P c s) ≡ firstOf order (lentFault P c s)
 unfolding lentAnswer lengthsAnswer
 lent-number P c s = simp refuse-number
 
--- a position or an index, k, is told, or 0 with the number of the first fault; the index at fault is always 0
-pub record LocatedTold (P : Params) (i f k : ℕ) (r : Located) : Type 0 where
-  pub number : locatedNumber r ≡ firstOf order (standFault P i f)
+-- a position or an index, k, is given, or 0 with the number of the first fault; the index at fault is always 0
+pub record LocatedInOrder (P : Params) (i f k : ℕ) (r : Located) : Type 0 where
+  pub number : locatedNumber r ≡ firstOf order (positionFault P i f)
   pub index : locatedIndex r ≡ 0
   pub place : locatedAt r ≡ cond (eqb (locatedNumber r) 0) k 0
 
-pub located-told : (P : Params) (i f k : ℕ) → LocatedTold P i f k (locatedOf (positionAnswer P i f) k)
+pub located-in-order : (P : Params) (i f k : ℕ) → LocatedInOrder P i f k (locatedOf (positionAnswer P i f) k)
 unfolding positionAnswer
-located-told P i f k = by-tests (not (goodParams P && (leb 1 i && leb i (P .d)))) (not (isFlow P f)) refl refl
+located-in-order P i f k = by-tests (not (goodParams P && (leb 1 i && leb i (P .d)))) (not (isFlow P f)) refl refl
   where
-    by-tests : (s t : Bool) → s ≡ not (goodParams P && (leb 1 i && leb i (P .d))) → t ≡ not (isFlow P f) → LocatedTold P i f k (locatedOf (refuseIf s Param 0 (refuseIf t Flow 0 Done)) k)
+    by-tests : (s t : Bool) → s ≡ not (goodParams P && (leb 1 i && leb i (P .d))) → t ≡ not (isFlow P f) → LocatedInOrder P i f k (locatedOf (refuseIf s Param 0 (refuseIf t Flow 0 Done)) k)
     by-tests true t e h = record { number = rw (← e); index = refl; place = refl }
     by-tests false true e h = record { number = rw (← e, ← h); index = refl; place = refl }
     by-tests false false e h = record { number = rw (← e, ← h); index = refl; place = refl }

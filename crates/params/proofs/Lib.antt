@@ -2,7 +2,7 @@
 pub mod Searches
 pub mod Changes
 pub mod Judging
-pub mod Sizes
+pub mod BucketNumbers
 pub mod Rules
 pub mod Standing
 pub mod Lowest

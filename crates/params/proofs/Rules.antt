@@ -1,4 +1,4 @@
--- Laws of the rules that parameters obey, of what follows where nothing was refused, and of a flow's places.
+-- Laws of the rules that parameters obey, of what follows where nothing was refused, and of a flow's positions.
 use mathlib.Core.Path.{_≡_, sym, ap, ap₂, _∙_}
 use mathlib.Core.List.{List}
 use mathlib.Core.Bool.{Bool, true, false, not, _&&_}
@@ -20,7 +20,7 @@ use Rattle.params.specs.Positions.{stand, positionAnswer, positionsIn, P
 use Rattle.params.proofs.Searches.{and-true, below-fails}
 use Rattle.params.proofs.Changes.{length-touched, getD-touched, touched-none, upTo}
 use Rattle.params.proofs.Judging.{refuse-done}
-use Rattle.params.proofs.Sizes.{stretch-within, small}
+use Rattle.params.proofs.BucketNumbers.{stretch-within, small}
 
 pub dimensions : (P : Params) → goodDimensions P ≡ true → Dimensions P
 unfolding goodDimensions
@@ -60,7 +60,7 @@ pub last-apart : (t : ℕ → ℕ → Bool) {p q r s u v : Bool} → p ≡ t 1 0
 unfolding below
 last-apart t e e₁ h h₁ k k₁ l l₁ m m₁ n = simp (sym e ∙ e₁, sym h ∙ h₁, sym k ∙ k₁, sym l ∙ l₁, sym m ∙ m₁) (ap not n)
 
--- of the sizes' tests the last is left
+-- of the dimensions' tests the last is left
 pub last-size : (P : Params) → 2 ≤ P .d → P .d ≤ 4 → 1 ≤ P .m → leb (P .m) 16384 ≡ goodDimensions P
 unfolding goodDimensions
 last-size P h k l = simp (le-leb 2 _ h, le-leb _ 4 k, le-leb 1 _ l)
@@ -68,7 +68,7 @@ last-size P h k l = simp (le-leb 2 _ h, le-leb _ 4 k, le-leb 1 _ l)
 pub dimensions-good : {P : Params} → Dimensions P → goodDimensions P ≡ true
 dimensions-good {P} z = sym (last-size P (z .d-low) (z .d-high) (z .m-low)) ∙ le-leb _ _ (z .m-high)
 
--- where the sizes are the same, the pairs decide
+-- where the dimensions are the same, the pairs decide
 pub pairs-decide : (P Q : Params) → P .d ≡ Q .d → P .m ≡ Q .m → below 4 (samePair P Q) ≡ sameParams P Q
 unfolding sameParams
 pairs-decide P Q h k = simp (eq-eqb _ _ h, eq-eqb _ _ k)
@@ -123,7 +123,7 @@ module _ (P : Params) where
   unfolding positionAnswer
   asked-done i f e = asked i (refuse-done (not (goodParams P && (leb 1 i && leb i (P .d)))) Param 0 _ e .0)
 
--- what a caller is told of a place
+-- a position or an index as it is given
 pub located-at : (r answer : Answer) (k j : ℕ) → r ≡ answer → r ≡ Done → k ≡ j → At k ≡ locatedOf answer j
 located-at r answer k j e h q = rw (← e, h, q)
 
@@ -131,7 +131,7 @@ pub not-located : (r answer : Answer) (w : Refusal) (i j : ℕ) → r ≡ answer
 not-located r answer w i j e h = rw (← e, h)
 
 module _ (P : Params) (f : ℕ) (ks : List ℕ) where
-  -- a flow's places in a list that is as long as there can be arrays
+  -- a flow's positions in a list that is as long as there can be arrays
   pub positions-found : Dimensions P → length ks ≡ 4 → Positioned P f (positionsIn P f ks)
   unfolding positionsIn
   positions-found z e =
@@ -143,7 +143,7 @@ module _ (P : Params) (f : ℕ) (ks : List ℕ) where
   unfolding positionsIn
   positions-long = length-touched _ _ ks
 
-  -- nothing is written where the sizes break a rule, and d places where they keep it
+  -- nothing is written where the dimensions break a rule, and d positions where they keep it
   pub no-positions : goodDimensions P ≡ false → ks ≡ positionsIn P f ks
   unfolding positionsIn
   no-positions e = rw e (sym (touched-none (λ j k. stand P j f) ks 0))

@@ -1,4 +1,4 @@
--- Laws of `standsIn`: one bucket an array. They hold of any places g, a flow's or those that the code keeps.
+-- Laws of `standsIn`: one bucket an array. They hold of any positions g, a flow's or those that the code keeps.
 use mathlib.Core.Path.{_≡_, sym, ap, _∙_}
 use mathlib.Core.Bool.{true, false, _&&_}
 use Prim.Native.Nat.{ℕ, _+_, _*_, _/_, _%_, _≤_, _<_}
@@ -16,7 +16,7 @@ use Rattle.params.proofs.Rules.{dimensions}
 array-of : (m i k : ℕ) → i * m ≤ k → k < i * m + m → k / m ≡ i
 array-of m i k h l = div-eq-of-lt-le {k = i} m {m = k} h (omega (arith, suc-mul i m))
 
--- within the array that i others stand before, the one bucket is at its place
+-- within the array that i others stand before, the one bucket is at its position
 pub standing-in : (d m : ℕ) (g : ℕ → ℕ) (i k : ℕ) → i < d → i * m ≤ k → k < i * m + m → standsIn d m g k ≡ eqb k (i * m + g i)
 unfolding standsIn
 standing-in d m g i k low h l = rw (array-of m i k h l, lt-ltb i d low) (go (ℕ-discrete k (i * m + g i)))
@@ -33,7 +33,7 @@ pub standing-past : (d m : ℕ) (g : ℕ → ℕ) (k : ℕ) → 1 ≤ m → d * 
 unfolding standsIn
 standing-past d m g k low h = rw (le-ltb (k / m) d (le-div-iff-mul-le low .1 h))
 
--- the two as the code finds them, where the sizes keep the rules: t is the bucket of flow f in the array that i others stand before
+-- the two as the code finds them, where the dimensions keep the rules: t is the bucket of flow f in the array that i others stand before
 module _ (P : Params) (f k i : ℕ) (good : goodDimensions P ≡ true) where
   pub stands-in : {t : ℕ} → i < P .d → i * P .m ≤ k → k < i * P .m + P .m → t ≡ i * P .m + stand P i f → eqb k t ≡ (goodDimensions P && stands P f k)
   stands-in low h l e = rw (good, e) (sym (standing-in (P .d) (P .m) (λ j. stand P j f) i k low h l))

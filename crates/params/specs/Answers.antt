@@ -49,12 +49,12 @@ unfoldable pub kept : {A : Type 0} → Answer → A → A → A
 kept Done old new = new
 kept (Refused w k) old new = old
 
--- a place, or why there is none
+-- a position or an index, or why there is none
 abbrev pub locatedOf : Answer → ℕ → Located
 locatedOf Done k = At k
 locatedOf (Refused w j) k = NotLocated w j
 
--- the number, the index and the place that a caller is told, each 0 where there is none
+-- the number, the index at fault, and the position or index that a caller gets, each 0 where there is none
 abbrev pub locatedNumber : Located → ℕ
 locatedNumber (At k) = 0
 locatedNumber (NotLocated w j) = numberOf w

@@ -3,3 +3,4 @@ pub mod Lists
 pub mod Answers
 pub mod Params
 pub mod Positions
+pub mod Faults

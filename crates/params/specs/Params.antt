@@ -27,13 +27,13 @@ isFlow P f = ltb f (primeOf P)
 abbrev pub size : Params → ℕ
 size P = P .d * P .m
 
--- a pair that is in use, and one that is not
-abbrev pub pairOk : Bool → ℕ → ℕ → Bool
-pairOk used a b = cond used (leb 1 a && ltb a prime && ltb b prime) (eqb a 0 && eqb b 0)
+-- a pair that is in use, modulo p, and one that is not
+abbrev pub pairOk : ℕ → Bool → ℕ → ℕ → Bool
+pairOk p used a b = cond used (leb 1 a && ltb a p && ltb b p) (eqb a 0 && eqb b 0)
 
--- pair i of the lists a and b, counted from 0, keeps the rule of its place
-unfoldable pub pairAt : ℕ → List ℕ → List ℕ → ℕ → Bool
-pairAt d a b i = pairOk (ltb i d) (getD a i 0) (getD b i 0)
+-- pair i of the lists a and b, counted from 0, keeps the rule of its place: of d that are in use, or past them
+unfoldable pub pairAt : ℕ → ℕ → List ℕ → List ℕ → ℕ → Bool
+pairAt p d a b i = pairOk p (ltb i d) (getD a i 0) (getD b i 0)
 
 -- pairs i and j are equal, and the later, i, is in use
 unfoldable pub twins : ℕ → List ℕ → List ℕ → ℕ → ℕ → Bool
@@ -46,7 +46,7 @@ goodDimensions P = leb 2 (P .d) && leb (P .d) 4 && leb 1 (P .m) && leb (P .m) 16
 unfoldable pub goodParams : Params → Bool
 goodParams P =
     goodDimensions P
-    && below 4 (pairAt (P .d) (P .a) (P .b))
+    && below 4 (pairAt (primeOf P) (P .d) (P .a) (P .b))
     && below 4 (λ i. below i (λ j. not (twins (P .d) (P .a) (P .b) i j)))
 
 -- what `goodSizes` says of the numbers
@@ -67,7 +67,7 @@ sameParams P Q = eqb (P .d) (Q .d) && eqb (P .m) (Q .m) && below 4 (samePair P Q
 unfoldable pub lengthsAnswer : Params → ℕ → ℕ → Answer
 lengthsAnswer P c s = refuseIf (not (eqb c (size P) && eqb s (size P))) Length 0 Done
 
--- the sizes, or all of the parameters, then the lengths
+-- the dimensions, or all of the parameters, then the lengths
 unfoldable pub dimensionsAnswer : Params → ℕ → ℕ → Answer
 dimensionsAnswer P c s = refuseIf (not (goodDimensions P)) Param 0 (lengthsAnswer P c s)
 

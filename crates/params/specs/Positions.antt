@@ -24,14 +24,14 @@ position P i f = stand P (i - 1) f
 abbrev pub index : Params → ℕ → ℕ → ℕ
 index P i f = (i - 1) * P .m + position P i f
 
--- what is judged before a position or an index is told
+-- what is judged before a position or an index is given
 unfoldable pub positionAnswer : Params → ℕ → ℕ → Answer
 positionAnswer P i f =
     refuseIf (not (goodParams P && (leb 1 i && leb i (P .d)))) Param 0
     (refuseIf (not (isFlow P f)) Flow 0
     Done)
 
--- bucket k is at place k % m of the array that k / m others stand before; of d arrays, g tells the place that is meant in each
+-- bucket k is at position k % m of the array that k / m others stand before; of d arrays, g gives the position that is meant in each
 unfoldable pub standsIn : ℕ → ℕ → (ℕ → ℕ) → ℕ → Bool
 standsIn d m g k = ltb (k / m) d && eqb (g (k / m)) (k % m)
 
@@ -39,15 +39,15 @@ standsIn d m g k = ltb (k / m) d && eqb (g (k / m)) (k % m)
 abbrev pub stands : Params → ℕ → ℕ → Bool
 stands P f = standsIn (P .d) (P .m) (λ i. stand P i f)
 
--- the list ks with a flow's place in each array where the sizes keep the rules; the rest is as it was
+-- the list ks with a flow's position in each array where the dimensions keep the rules; the rest is as it was
 unfoldable pub positionsIn : Params → ℕ → List ℕ → List ℕ
 positionsIn P f ks = touched (λ i. goodDimensions P && ltb i (P .d)) (λ i k. stand P i f) ks
 
--- the list ks has a flow's place in each array
+-- the list ks has a flow's position in each array
 pub record Positioned (P : Params) (f : ℕ) (ks : List ℕ) : Type 0 where
   pub at : (i : ℕ) → i < P .d → getD ks i 0 ≡ stand P i f
 
--- d arrays of m buckets, and a place within each, over slices of these lengths
+-- d arrays of m buckets, and a position within each, over slices of these lengths
 pub record WithinArrays (d m : ℕ) (ks : List ℕ) (counts idsums : ℕ) : Type 0 where
   pub d-high : d ≤ 4
   pub m-low : 1 ≤ m

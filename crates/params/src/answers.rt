@@ -1,4 +1,4 @@
-// What a caller is told. `numberOf` of specs/Answers.antt gives a refusal its number.
+// What a call answers. `numberOf` of specs/Answers.antt gives a refusal its number.
 ghost use mathlib.Core.Path.{_≡_};
 ghost use Rattle.params.specs.Answers.{numberOf};
 
@@ -14,7 +14,7 @@ pub enum Refusal {
 }
 
 impl Refusal {
-    // The refusal's number, for callers that are told numbers alone.
+    // The refusal's number, for callers that take numbers alone.
     pub fn number(self) -> u32
         ensures { λ r. ⌜ r ≡ numberOf self ⌝ }
     {

@@ -4,7 +4,7 @@ ghost use mathlib.Core.Bool.{_&&_, not, cond};
 ghost use Prim.Native.Nat.{_+_, _-_, _*_, _%_, _<_, _≤_};
 ghost use lib.Dec.{eqb, leb};
 ghost use Rattle.params.specs.Lists.{below};
-ghost use Rattle.params.specs.Params.{prime, size as «size-of», Dimensions, pairOk, pairAt, twins, goodDimensions, goodParams, sameParams};
+ghost use Rattle.params.specs.Params.{prime, isFlow, size as «size-of», Dimensions, pairOk, pairAt, twins, goodDimensions, goodParams, sameParams};
 ghost use Rattle.params.specs.Positions.{stand as «stand-of», stands as «stands-of», position as «position-of», index as «index-of», positionsIn};
 ghost use Rattle.params.specs.Answers.{locatedOf};
 ghost use Rattle.params.specs.Params.{lengthsAnswer, dimensionsAnswer, lentAnswer};
@@ -26,7 +26,7 @@ pub struct Params {
 
 // Whether a pair keeps the rule of its place: in use, or zero.
 fn pair_ok(used: bool, a: u32, b: u32) -> bool
-    ensures { λ r. ⌜ r ≡ pairOk used a b ⌝ }
+    ensures { λ r. ⌜ r ≡ pairOk prime used a b ⌝ }
 {
     if used {
         if a < 1 {
@@ -47,7 +47,7 @@ fn pair_ok(used: bool, a: u32, b: u32) -> bool
 // The checks over pairs are written out, with no loop, so that the optimiser can lift them out of a caller's loop that inserts
 // packets.
 fn pairs_ok(d: usize, a: [u32; 4], b: [u32; 4]) -> bool
-    ensures { λ r. ⌜ r ≡ below 4 (pairAt d a b) ⌝ }
+    ensures { λ r. ⌜ r ≡ below 4 (pairAt prime d a b) ⌝ }
 {
     if !pair_ok(0 < d, a[0], b[0]) {
         return false;
@@ -98,8 +98,8 @@ fn pairs_apart(d: usize, a: [u32; 4], b: [u32; 4]) -> bool
     !twin(3 < d, a[3], b[3], a[2], b[2])
 }
 
-// Where a flow stands in an array with the pair a, b.
-fn place(a: u32, b: u32, m: usize, f: u32) -> usize
+// The position of a flow in an array with the pair a, b.
+fn position_by(a: u32, b: u32, m: usize, f: u32) -> usize
     requires { ⌜ 1 ≤ m ⌝ }
     ensures { λ r. ⌜ (r ≡ (a * f + b) % prime % m) × (r < m) ⌝ }
 {
@@ -107,7 +107,7 @@ fn place(a: u32, b: u32, m: usize, f: u32) -> usize
 }
 
 impl Params {
-    // Whether the sizes keep the rules: what the code needs so that every index is one.
+    // Whether the dimensions keep the rules: what the code needs so that every index is one.
     fn good_dimensions(self) -> bool
         ensures { λ r. ⌜ r ≡ goodDimensions self ⌝ }
     {
@@ -175,7 +175,7 @@ impl Params {
         self.d * self.m
     }
 
-    // The two slices of a sketch have its size.
+    // The two slices of a sketch have d * m numbers.
     fn lengths(self, counts: usize, idsums: usize) -> Answer
         requires { ⌜ Dimensions self ⌝ }
         ensures { λ r. ⌜ r ≡ lengthsAnswer self counts idsums ⌝ }
@@ -190,7 +190,7 @@ impl Params {
         Answer::Done
     }
 
-    // The sizes keep the rules, and the two slices have them.
+    // The dimensions keep the rules, and the two slices have d * m numbers.
     pub fn judge_dimensions(self, counts: usize, idsums: usize) -> Answer
         ensures { λ r. ⌜ r ≡ dimensionsAnswer self counts idsums ⌝ }
     {
@@ -200,7 +200,7 @@ impl Params {
         self.lengths(counts, idsums)
     }
 
-    // The parameters keep the rules, and the two slices have their sizes.
+    // The parameters keep the rules, and the two slices have d * m numbers.
     pub fn judge_lent(self, counts: usize, idsums: usize) -> Answer
         ensures { λ r. ⌜ r ≡ lentAnswer self counts idsums ⌝ }
     {
@@ -208,6 +208,13 @@ impl Params {
             return Answer::Refused(Refusal::Param, 0);
         }
         self.lengths(counts, idsums)
+    }
+
+    // Whether a number is that of a flow.
+    pub fn is_flow(self, f: u32) -> bool
+        ensures { λ r. ⌜ r ≡ isFlow self f ⌝ }
+    {
+        f < PRIME
     }
 
     // The parameters, the array and the flow are right.
@@ -223,7 +230,7 @@ impl Params {
         if self.d < i {
             return Answer::Refused(Refusal::Param, 0);
         }
-        if PRIME <= f {
+        if !self.is_flow(f) {
             return Answer::Refused(Refusal::Flow, 0);
         }
         Answer::Done
@@ -258,10 +265,10 @@ impl Params {
     {
         let a = self.a;
         let b = self.b;
-        place(a[i], b[i], self.m, f)
+        position_by(a[i], b[i], self.m, f)
     }
 
-    // Whether a flow stands in bucket k; in no bucket where the sizes break a rule. Written out, as the checks are: with an index that
+    // Whether a flow stands in bucket k; in no bucket where the dimensions break a rule. Written out, as the checks are: with an index that
     // is not a constant, both arrays of pairs would be copied at every call.
     pub fn stands(self, f: u32, k: usize) -> bool
         ensures { λ r. ⌜ r ≡ (goodDimensions self && «stands-of» self f k) ⌝ }
@@ -274,27 +281,27 @@ impl Params {
         let a = self.a;
         let b = self.b;
         if k < m {
-            return k == place(a[0], b[0], m, f);
+            return k == position_by(a[0], b[0], m, f);
         }
         if k < 2 * m {
-            return k == m + place(a[1], b[1], m, f);
+            return k == m + position_by(a[1], b[1], m, f);
         }
         if d <= 2 {
             return false;
         }
         if k < 3 * m {
-            return k == 2 * m + place(a[2], b[2], m, f);
+            return k == 2 * m + position_by(a[2], b[2], m, f);
         }
         if d <= 3 {
             return false;
         }
         if k < 4 * m {
-            return k == 3 * m + place(a[3], b[3], m, f);
+            return k == 3 * m + position_by(a[3], b[3], m, f);
         }
         false
     }
 
-    // A flow's place in each array, found once for all that a caller does with them. Where the sizes break a rule nothing is written.
+    // A flow's position in each array, found once for all that a caller does with them. Where the dimensions break a rule nothing is written.
     // Written out, as the checks are.
     pub fn positions(self, f: u32, ks: &mut [usize; 4])
         ensures { λ r. ⌜ now (ks .exit) ≡ positionsIn self f (now (ks .entry)) ⌝ }
@@ -306,13 +313,13 @@ impl Params {
         let m = self.m;
         let a = self.a;
         let b = self.b;
-        ks[0] = place(a[0], b[0], m, f);
-        ks[1] = place(a[1], b[1], m, f);
+        ks[0] = position_by(a[0], b[0], m, f);
+        ks[1] = position_by(a[1], b[1], m, f);
         if 2 < d {
-            ks[2] = place(a[2], b[2], m, f);
+            ks[2] = position_by(a[2], b[2], m, f);
         }
         if 3 < d {
-            ks[3] = place(a[3], b[3], m, f);
+            ks[3] = position_by(a[3], b[3], m, f);
         }
     }
 }

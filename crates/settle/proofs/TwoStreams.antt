@@ -14,7 +14,7 @@ use Rattle.params.specs.Answers.{kept}
 use Rattle.sketch.specs.Sketch.{Sketch, Entry, zeros, Freshened}
 use Rattle.sketch.specs.Packets.{entriesOf}
 use Rattle.sums.specs.Sums.{combineAnswer, combined}
-use Rattle.sums.specs.History.{History, freshly, net}
+use Rattle.sums.specs.History.{History, freshly, netCount}
 use Rattle.sums.proofs.Histories.{difference-by-nets}
 use Rattle.walk.proofs.Promises.{Whole}
 use Rattle.streamfile.specs.Streams.{flowsIn, numbersIn, StreamRead}
@@ -59,7 +59,7 @@ abbrev pub packetsOf : List ℕ → List Entry
 packetsOf bs = entriesOf (flowsIn bs) (numbersIn bs)
 
 abbrev pub lost : List ℕ → List ℕ → ℕ → ℤ
-lost a b f = net (packetsOf a) f -ℤ net (packetsOf b) f
+lost a b f = netCount (packetsOf a) f -ℤ netCount (packetsOf b) f
 
 -- a stream that was read into a fresh sketch is the history of its packets
 fresh-history : {P : Params} {bs : List ℕ} {S : Sketch} → StreamRead P bs (zeros P) Done S → History P (packetsOf bs) S

@@ -16,7 +16,7 @@ use Rattle.sketch.proofs.Standing.{standing-none, standing-next}
 pub turns-start : {A : Type 0} (d : A) (m : ℕ) (g : ℕ → ℕ) (h : ℕ → A → A) (xs : List A) → xs ≡ touched (standsIn 0 m g) h xs
 turns-start d m g h xs = sym (ap (λ (t : ℕ → Bool). touched t h xs) (standing-none m g) ∙ touched-none h xs d)
 
--- ys is xs as it was changed in the first i arrays; g i is the place in the stretch that is lent now
+-- ys is xs as it was changed in the first i arrays; g i is the position in the stretch that is lent now
 module _ {A : Type 0} (d : A) (m : ℕ) (g : ℕ → ℕ) (i : ℕ) (h : ℕ → A → A) (xs ys : List A) (low : 1 ≤ m) (long : i * m + m ≤ length xs) (small : g i < m) (before : ys ≡ touched (standsIn i m g) h xs) where
   -- what is lent
   abbrev lent : List A

@@ -3,7 +3,7 @@ use mathlib.Core.Path.{_≡_, refl}
 use mathlib.Core.Bool.{Bool, true, false, not, _&&_}
 use mathlib.Core.List.{List, [], _∷_}
 use Prim.Native.Nat.{ℕ, _≤_}
-use lib.Dec.{eqb, ltb, leb}
+use lib.Dec.{eqb, leb}
 use lib.IntN.{pos}
 use lib.ListN.{length}
 use Rattle.params.specs.declared.params.Params.{Params}
@@ -11,28 +11,16 @@ use Rattle.params.specs.declared.answers.Refusal.{Refusal}
 use Rattle.params.specs.declared.answers.Refusal.the-variants.{Param, Length, Flow, Count, Damage, Range, Mismatch, Form}
 use Rattle.params.specs.declared.answers.Answer.the-variants.{Done}
 use Rattle.params.specs.Answers.{numberOf, numberIn, first}
-use Rattle.params.specs.Params.{prime, isFlow, size, goodDimensions, goodParams, lengthsAnswer, dimensionsAnswer}
+use Rattle.params.specs.Params.{isFlow, size, goodDimensions, goodParams, lengthsAnswer, dimensionsAnswer}
 use Rattle.params.specs.Positions.{stands}
+use Rattle.buckets.specs.Buckets.{isNumber}
 use Rattle.sketch.specs.Arrays.{arrayAnswer}
 use Rattle.sketch.specs.Sketch.{Sketch, damagedIn, leavesIn, flowBucketsAnswer}
+use Rattle.sketch.specs.Faults.{moveFault, arrayFault}
 use Rattle.sketch.specs.Packets.{packetAnswer, entryAnswer, stepAnswer, moveAnswer, packetsAnswer, allAnswer, changed}
+use Rattle.params.specs.Faults.{order, firstOf}
 use Rattle.params.proofs.Rules.{good-has-dimensions}
-use Rattle.params.proofs.InOrder.{order, firstOf, lowest-first, some, refuse-number, refuse-at-number, first-refuse, cond-within, early, IndexZero, done-index, refuse-index, first-index, buckets-index, lengths-index, lent-index}
-
--- a slice of the sketch has a length other than stated
-abbrev pub wrongLength : Params → Sketch → Bool
-wrongLength P S = not (eqb (length (S .counts)) (size P) && eqb (length (S .idsums)) (size P))
-
--- inserting n packets of flow f, or withdrawing them where `minus` holds: which faults apply
-abbrev pub moveFault : Params → Bool → ℕ → ℕ → Sketch → Refusal → Bool
-moveFault P minus f n S Param = not (goodParams P)
-moveFault P minus f n S Length = wrongLength P S
-moveFault P minus f n S Flow = not (isFlow P f)
-moveFault P minus f n S Count = not (leb 1 n && ltb n prime)
-moveFault P minus f n S Damage = some (size P) (damagedIn (stands P f) S)
-moveFault P minus f n S Range = some (size P) (leavesIn (stands P f) minus (pos n) (S .counts))
-moveFault P minus f n S Mismatch = false
-moveFault P minus f n S Form = false
+use Rattle.params.proofs.InOrder.{lowest-first, refuse-number, refuse-at-number, first-refuse, cond-within, IndexZero, done-index, refuse-index, first-index, buckets-index, lengths-index, lent-index}
 
 pub move-number : (P : Params) (minus : Bool) (f n : ℕ) (S : Sketch) → numberIn (moveAnswer P minus f n S) ≡ firstOf order (moveFault P minus f n S)
 unfolding moveAnswer stepAnswer entryAnswer dimensionsAnswer lengthsAnswer packetAnswer flowBucketsAnswer first
@@ -44,9 +32,6 @@ pub move-lowest : (P : Params) (minus : Bool) (f n : ℕ) (S : Sketch) (w : Refu
 move-lowest P minus f n S w h = rw (move-number P minus f n S) (lowest-first (moveFault P minus f n S) refl w h)
 
 -- an array's own stretch
-abbrev pub arrayFault : Params → ℕ → ℕ → Refusal → Bool
-arrayFault P i n = early (not (goodParams P && (leb 1 i && leb i (P .d)))) (not (eqb n (size P))) false
-
 pub array-number : (P : Params) (i n : ℕ) → numberIn (arrayAnswer P i n) ≡ firstOf order (arrayFault P i n)
 unfolding arrayAnswer
 array-number P i n = simp refuse-number
@@ -61,7 +46,7 @@ unfolding stepAnswer entryAnswer dimensionsAnswer packetAnswer flowBucketsAnswer
 step-index P minus f n S =
     first-index _ _
     (first-index _ _ (refuse-index (not (goodDimensions P)) Param _ (lengths-index P _ _))
-    (refuse-index (not (isFlow P f)) Flow _ (refuse-index (not (leb 1 n && ltb n prime)) Count Done done-index)))
+    (refuse-index (not (isFlow P f)) Flow _ (refuse-index (not (isNumber n)) Count Done done-index)))
     (buckets-index _ _ _)
 
 pub move-index : (P : Params) (minus : Bool) (f n : ℕ) (S : Sketch) → IndexZero (moveAnswer P minus f n S)

@@ -13,9 +13,9 @@ use Rattle.params.specs.declared.answers.Refusal.the-variants.{Param, Length, F
 use Rattle.params.specs.declared.answers.Answer.{Answer}
 use Rattle.params.specs.declared.answers.Answer.the-variants.{Done, Refused}
 use Rattle.params.specs.Answers.{refuseIf, refuseAt, first}
-use Rattle.params.specs.Params.{prime, size, goodDimensions, goodParams, lengthsAnswer, dimensionsAnswer}
+use Rattle.params.specs.Params.{isFlow, size, goodDimensions, goodParams, lengthsAnswer, dimensionsAnswer}
 use Rattle.params.specs.Positions.{stands}
-use Rattle.buckets.specs.Buckets.{inLimits, damaged, plusMinus}
+use Rattle.buckets.specs.Buckets.{inLimits, isNumber, damaged, plusMinus}
 use Rattle.sketch.specs.Sketch.{Sketch, countIn, idsumIn, damagedIn, leavesIn, flowBucketsAnswer}
 use Rattle.sketch.specs.Packets.{packetAnswer, entryAnswer, stepAnswer, moveAnswer}
 use Rattle.params.proofs.Searches.{and-true, and-rest}
@@ -78,7 +78,7 @@ entry-early : (P : Params) (c s f n : ℕ) → bucketsTold (entryAnswer P c s f 
 unfolding entryAnswer dimensionsAnswer packetAnswer
 entry-early P c s f n =
     first-early _ _ (refuse-early (not (goodDimensions P)) Param 0 _ refl (lengths-early P c s))
-    (refuse-early (not (ltb f prime)) Flow 0 _ refl (refuse-early (not (leb 1 n && ltb n prime)) Count 0 Done refl refl))
+    (refuse-early (not (isFlow P f)) Flow 0 _ refl (refuse-early (not (isNumber n)) Count 0 Done refl refl))
 
 -- bucket k is at fault and is one of those that are meant, of n in all, and no lower one of them is
 pub record LowestOf (n : ℕ) (on fault : ℕ → Bool) (k : ℕ) : Type 0 where

@@ -90,9 +90,9 @@ unwind P fs ns S i r T T' low h l a e s =
     let before : i ≡ suc (i - 1) = omega arith in
     unwind-last P fs ns S (i - 1) r T T' (omega arith) (omega arith) (λ j m. a j (omega arith)) (rw before at e) s
 
--- the stages of many packets at once: a wrong shape, lists of different lengths, and the packets in turn
+-- the stages of many packets at once: wrong parameters or lengths, lists of different lengths, and the packets in turn
 module _ (P : Params) (fs ns : List ℕ) (S : Sketch) where
-  -- what is judged after the shape
+  -- what is judged after these
   abbrev inTurn : Answer
   inTurn = refuseIf (not (eqb (length fs) (length ns))) Length 0 (packetsAnswer P fs ns S)
 

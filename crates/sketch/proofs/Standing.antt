@@ -1,4 +1,4 @@
--- Laws of `standsIn`, array by array. They hold of any places g, a flow's or those that the code keeps.
+-- Laws of `standsIn`, array by array. They hold of any positions g, a flow's or those that the code keeps.
 use mathlib.Core.Path.{_≡_, refl, sym, ap, _∙_, fun-ext}
 use mathlib.Core.Bool.{Bool, true, false, cond, _&&_}
 use mathlib.Core.List.{List}
@@ -13,7 +13,7 @@ use lib.ListN.{getD}
 use Rattle.params.specs.Lists.{least}
 use Rattle.params.specs.Positions.{standsIn, WithinArrays}
 use Rattle.params.proofs.Searches.{and-false, least-here, least-skip}
-use Rattle.params.proofs.Sizes.{stretch-within, small}
+use Rattle.params.proofs.BucketNumbers.{stretch-within, small}
 use Rattle.params.proofs.Standing.{standing-in, standing-past}
 
 -- one array more
@@ -40,7 +40,7 @@ pub standing-none : (m : ℕ) (g : ℕ → ℕ) → standsIn 0 m g ≡ (λ k. fa
 unfolding standsIn
 standing-none m g = fun-ext (λ k. rw (le-ltb (k / m) 0 (omega arith)))
 
--- places that agree in every array
+-- positions that agree in every array
 pub standing-same : (d m : ℕ) (g h : ℕ → ℕ) → ((i : ℕ) → i < d → g i ≡ h i) → standsIn d m g ≡ standsIn d m h
 unfolding standsIn
 standing-same d m g h e = fun-ext (λ k. at k (decLt (k / m) d))
@@ -49,7 +49,7 @@ standing-same d m g h e = fun-ext (λ k. at k (decLt (k / m) d))
     at k (yes l) = rw (e (k / m) l)
     at k (no l) = rw (le-ltb (k / m) d (omega arith))
 
--- what fails at the place in each array fails at every bucket that stands there
+-- what fails at the position in each array fails at every bucket that stands there
 pub none-standing : (d m : ℕ) (g : ℕ → ℕ) (q : ℕ → Bool) → ((i : ℕ) → i < d → q (i * m + g i) ≡ false) → (k : ℕ) → (standsIn d m g k && q k) ≡ false
 unfolding standsIn
 none-standing d m g q h k = at (decLt (k / m) d) (ℕ-discrete (g (k / m)) (k % m))
@@ -61,7 +61,7 @@ none-standing d m g q h k = at (decLt (k / m) d) (ℕ-discrete (g (k / m)) (k % 
     at (yes l) (no e) = rw (lt-ltb (k / m) d l, ne-eqb (g (k / m)) (k % m) e)
     at (no l) e = rw (le-ltb (k / m) d (omega arith))
 
--- where the code reaches: each of the d places is a bucket, and no index is large
+-- where the code reaches: each of the d positions is a bucket, and no index is large
 pub record Within (d m i k : ℕ) : Type 0 where
   pub few : i < 4
   pub start : i * m + m ≤ d * m

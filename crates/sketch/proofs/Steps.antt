@@ -5,8 +5,7 @@ use mathlib.Core.List.{List}
 use Prim.Native.Nat.{ℕ, _+_, _*_, _%_, _≤_, _<_}
 use native.Mathlib.Nat.{mod-lt}
 use native.Mathlib.Omega.{arith}
-use borrow.Author.Tests.{leb-true, ltb-true, not-false, eq-eqb}
-use lib.Dec.{leb, ltb}
+use borrow.Author.Tests.{not-false, eq-eqb}
 use lib.IntN.{ℤ, pos, natAbs}
 use lib.ListN.{length, getD}
 use Rattle.params.specs.declared.params.Params.{Params}
@@ -15,24 +14,24 @@ use Rattle.params.specs.declared.answers.Answer.{Answer}
 use Rattle.params.specs.declared.answers.Answer.the-variants.{Done, Refused}
 use Rattle.params.specs.Answers.{kept}
 use Rattle.params.specs.Lists.{below}
-use Rattle.params.specs.Params.{prime, primeOf, size, Dimensions, goodParams, dimensionsAnswer}
+use Rattle.params.specs.Params.{prime, primeOf, isFlow, size, Dimensions, goodParams, dimensionsAnswer}
 use Rattle.params.specs.Positions.{stand, standsIn, stands, Positioned, WithinArrays}
-use Rattle.buckets.specs.Buckets.{inLimits, damaged, plusMinus, weight}
+use Rattle.buckets.specs.Buckets.{inLimits, isNumber, damaged, plusMinus, weight}
 use Rattle.sketch.specs.Sketch.{Sketch, countIn, idsumIn, damagedAt, leavesAt, smallAt, damagedIn, leavesIn, flowBucketsAnswer, changedIn}
 use Rattle.sketch.specs.Packets.{packetAnswer, entryAnswer, stepAnswer, changed, Stepped, moveAnswer, Moved}
 use Rattle.params.proofs.Judging.{Refuses, first-refused, first-passed, first-done, kept-old, kept-new, refuse-done, refuse-none, refuse-at-done}
 use Rattle.params.proofs.Rules.{dimensions-done}
 use Rattle.params.proofs.Searches.{and-true, and-rest, below-at}
 use Rattle.params.proofs.Standing.{standing-in}
-use Rattle.buckets.proofs.Limits.{whole, small-whole, small-size, small-stays}
+use Rattle.buckets.proofs.Limits.{number-within, whole, small-whole, small-size, small-stays}
 use Rattle.sketch.proofs.Standing.{standing-same, none-standing}
 
--- what an entry that was let in says of its sizes and its packet
+-- what an entry that was let in says of its dimensions and its packet
 pub record Let (P : Params) (c s f n : ℕ) : Type 0 where
   pub dimensions : Dimensions P
   pub counts : c ≡ P .d * P .m
   pub idsums : s ≡ P .d * P .m
-  pub flow : f < prime
+  pub flow : isFlow P f ≡ true
   pub low : 1 ≤ n
   pub high : n < prime
 
@@ -41,18 +40,18 @@ unfolding entryAnswer packetAnswer
 entry-done P c s f n e =
     let h = first-done (dimensionsAnswer P c s) _ e in
     let k = dimensions-done P c s (h .0) in
-    let l = refuse-done (not (ltb f prime)) Flow 0 _ (h .1) in
-    let m = and-true (leb 1 n) _ (not-false _ (refuse-done (not (leb 1 n && ltb n prime)) Count 0 _ (l .1) .0)) in
+    let l = refuse-done (not (isFlow P f)) Flow 0 _ (h .1) in
+    let m = number-within n (not-false _ (refuse-done (not (isNumber n)) Count 0 _ (l .1) .0)) in
     record {
       dimensions = k .0;
       counts = k .1;
       idsums = k .2;
-      flow = ltb-true _ _ (not-false _ (l .0));
-      low = leb-true _ _ (m .0);
-      high = ltb-true _ _ (m .1);
+      flow = not-false _ (l .0);
+      low = m .0;
+      high = m .1;
     }
 
--- a flow's place lies within its array
+-- a flow's position lies within its array
 pub stand-below : (P : Params) (i f : ℕ) → 1 ≤ P .m → stand P i f < P .m
 unfolding stand
 stand-below P i f h = mod-lt ((getD (P .a) i 0 * f + getD (P .b) i 0) % primeOf P) h
@@ -68,7 +67,7 @@ reached {P} {f} h e q p =
       idsums-long = q;
     }
 
--- the places that the code keeps are the flow's
+-- the positions that the code keeps are the flow's
 pub placed : {P : Params} {f : ℕ} {ks : List ℕ} → Positioned P f ks → standsIn (P .d) (P .m) (λ i. getD ks i 0) ≡ stands P f
 placed {P} {f} {ks} p = standing-same (P .d) (P .m) (λ i. getD ks i 0) (λ i. stand P i f) (p .at)
 
@@ -103,7 +102,7 @@ has-room d m g minus n S e i h l end =
     in
     (b .1, whole _ _ (b .0) .1)
 
--- where each of them is quiet, and what is moved is as small, none is at fault
+-- where each of them is small, and the number is as small, none is at fault
 pub small-done : (d m : ℕ) (g : ℕ → ℕ) (minus : Bool) (n : ℤ) (S : Sketch) → natAbs n ≤ 1000000000 → below d (λ i. smallAt S (i * m + g i)) ≡ true
     → flowBucketsAnswer (d * m) (standsIn d m g) minus n S ≡ Done
 unfolding flowBucketsAnswer damagedIn leavesIn

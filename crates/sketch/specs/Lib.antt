@@ -2,3 +2,4 @@
 pub mod Sketch
 pub mod Packets
 pub mod Arrays
+pub mod Faults

@@ -1,33 +1,33 @@
 -- What putting packets in and taking them out answers and leaves.
-use mathlib.Core.Bool.{Bool, true, false, not, _&&_}
+use mathlib.Core.Bool.{Bool, true, false, not}
 use mathlib.Core.Path.{_≡_}
 use mathlib.Core.List.{List, [], _∷_}
 use Prim.Native.Nat.{ℕ, _<_}
 use lib.IntN.{pos}
-use lib.Dec.{leb, ltb, eqb}
+use lib.Dec.{eqb}
 use lib.ListN.{length, getD, take}
 use Rattle.params.specs.declared.params.Params.{Params}
 use Rattle.params.specs.declared.answers.Refusal.the-variants.{Param, Length, Flow, Count}
 use Rattle.params.specs.declared.answers.Answer.{Answer}
 use Rattle.params.specs.declared.answers.Answer.the-variants.{Done}
 use Rattle.params.specs.Answers.{refuseIf, first, kept}
-use Rattle.params.specs.Params.{prime, size, goodParams, dimensionsAnswer, lentAnswer}
+use Rattle.params.specs.Params.{isFlow, size, goodParams, dimensionsAnswer, lentAnswer}
 use Rattle.params.specs.Positions.{stands}
-use Rattle.buckets.specs.Buckets.{weight}
+use Rattle.buckets.specs.Buckets.{isNumber, weight}
 use Rattle.sketch.specs.Sketch.{Sketch, Entry, by, flowBucketsAnswer, changedIn}
 
--- a packet's flow, and its number, from 1 to p - 1
-unfoldable pub packetAnswer : ℕ → ℕ → Answer
-packetAnswer f n =
-    refuseIf (not (ltb f prime)) Flow 0
-    (refuseIf (not (leb 1 n && ltb n prime)) Count 0
+-- a packet's flow and its number
+unfoldable pub packetAnswer : Params → ℕ → ℕ → Answer
+packetAnswer P f n =
+    refuseIf (not (isFlow P f)) Flow 0
+    (refuseIf (not (isNumber n)) Count 0
     Done)
 
--- the sizes, the lengths and the packet
+-- the dimensions, the lengths and the packet
 unfoldable pub entryAnswer : Params → ℕ → ℕ → ℕ → ℕ → Answer
-entryAnswer P c s f n = first (dimensionsAnswer P c s) (packetAnswer f n)
+entryAnswer P c s f n = first (dimensionsAnswer P c s) (packetAnswer P f n)
 
--- n packets of f go in, or come out where `minus` holds: what is judged, of the parameters the sizes alone, and what is left
+-- n packets of f go in, or come out where `minus` holds: what is judged, of the parameters the dimensions alone, and what is left
 unfoldable pub stepAnswer : Params → Bool → ℕ → ℕ → Sketch → Answer
 stepAnswer P minus f n S =
     first (entryAnswer P (length (S .counts)) (length (S .idsums)) f n)

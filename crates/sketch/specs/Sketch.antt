@@ -37,7 +37,7 @@ damagedAt S = damagedOf (S .counts) (S .idsums)
 abbrev pub leavesAt : Bool → ℤ → List ℤ → ℕ → Bool
 leavesAt minus n cs k = not (inLimits (plusMinus minus (getD cs k (pos 0)) n))
 
--- bucket k is quiet
+-- bucket k is small
 abbrev pub smallAt : Sketch → ℕ → Bool
 smallAt S k = isSmall (countIn S k) (idsumIn S k)
 

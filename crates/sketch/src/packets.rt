@@ -12,13 +12,13 @@ ghost use Rattle.buckets.specs.Buckets.{inLimits, plusMinus};
 ghost use Rattle.sketch.specs.Sketch.{sketch, smallAt, damagedIn, leavesIn, flowBucketsAnswer, changedIn, Freshened};
 ghost use Rattle.sketch.specs.Packets.{packetAnswer, entryAnswer, Stepped, Inserted, Withdrawn, Unwound, PacketsInserted, AllInserted};
 use buckets::plus_minus;
+use buckets::is_number;
 use buckets::is_small;
 use buckets::sound;
 use buckets::weight;
 use buckets::within;
 use buckets::idsum_plus_minus;
 use params::Answer;
-use params::PRIME;
 use params::Params;
 use params::Refusal;
 
@@ -48,16 +48,13 @@ pub fn fresh(p: Params, counts: &mut [i32], idsums: &mut [u32]) -> Answer
 }
 
 // A packet's flow and number are right.
-fn packet(f: u32, n: u32) -> Answer
-    ensures { λ r. ⌜ r ≡ packetAnswer f n ⌝ }
+fn packet(p: Params, f: u32, n: u32) -> Answer
+    ensures { λ r. ⌜ r ≡ packetAnswer p f n ⌝ }
 {
-    if PRIME <= f {
+    if !p.is_flow(f) {
         return Answer::Refused(Refusal::Flow, 0);
     }
-    if n < 1 {
-        return Answer::Refused(Refusal::Count, 0);
-    }
-    if PRIME <= n {
+    if !is_number(n) {
         return Answer::Refused(Refusal::Count, 0);
     }
     Answer::Done
@@ -71,10 +68,10 @@ fn entry(p: Params, counts: usize, idsums: usize, f: u32, n: u32) -> Answer
     let Answer::Done = r else {
         return r;
     };
-    packet(f, n)
+    packet(p, f, n)
 }
 
-// Whether each of a flow's buckets is quiet.
+// Whether each of a flow's buckets is small.
 fn all_small(d: usize, m: usize, ks: &[usize; 4], counts: &[i32], idsums: &[u32]) -> bool
     requires { ⌜ WithinArrays d m (now ks) (length (now counts)) (length (now idsums)) ⌝ }
     ensures { λ r. ⌜ r ≡ below d (λ i. smallAt (sketch (now (counts .entry)) (now (idsums .entry))) (i * m + getD (now (ks .entry)) i 0)) ⌝ }
@@ -122,7 +119,7 @@ fn first_leaving(minus: bool, d: usize, m: usize, ks: &[usize; 4], counts: &[i32
     d * m
 }
 
-// A flow's buckets are whole and stay within their limits. Where they are quiet, and n as small, no more is to be looked at.
+// A flow's buckets are whole and stay within their limits. Where they are small, and n as small, no more is to be looked at.
 fn judge(
     minus: bool,
     d: usize,
@@ -151,7 +148,7 @@ fn judge(
     Answer::Done
 }
 
-// One array's update: n and the weight w go to place j, or come out of it.
+// One array's update: n and the weight w go to position j, or come out of it.
 fn put(minus: bool, counts: &mut [i32], idsums: &mut [u32], j: usize, n: i32, w: u32)
     requires { ⌜ (j < length (now counts)) × (j < length (now idsums)) ⌝ }
     requires { ⌜ inLimits (plusMinus minus (getD (now counts) j (pos 0)) n) ≡ true ⌝ }
@@ -189,7 +186,7 @@ fn put_all(
     }
 }
 
-// n packets of flow f go in, or come out where `minus` is set. Of the parameters only the sizes are judged, which is cheap:
+// n packets of flow f go in, or come out where `minus` is set. Of the parameters only the dimensions are judged, which is cheap:
 // who inserts many packets checks the rest once.
 pub fn step(
     minus: bool,
@@ -219,7 +216,7 @@ pub fn step(
 
 // n packets of flow f go in: `step` without its choice, by the same contract. It stands here a second time so that the one loop of a program
 // that puts in the packets of a stream takes it in: the compiler does that with a function that has one caller, and then lifts the judging
-// of the sizes out of the loop.
+// of the dimensions out of the loop.
 pub fn put_in(p: Params, counts: &mut [i32], idsums: &mut [u32], f: u32, n: u32) -> Answer
     ensures { λ r. ⌜ Stepped false p f n (sketch (now (counts .entry)) (now (idsums .entry))) r (sketch (now (counts .exit)) (now (idsums .exit))) ⌝ }
 {

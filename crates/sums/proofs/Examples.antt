@@ -12,22 +12,22 @@ use Rattle.params.specs.Lists.{below, least}
 use Rattle.params.specs.Answers.{numberIn, indexIn, refuseAt, first}
 use Rattle.params.specs.Params.{pairAt, twins, goodDimensions, goodParams, samePair, sameParams, lengthsAnswer, dimensionsAnswer}
 use Rattle.params.specs.Positions.{stand, positionAnswer, standsIn}
-use Rattle.buckets.specs.Buckets.{inLimits}
+use Rattle.buckets.specs.Buckets.{inLimits, isNumber}
 use Rattle.sketch.specs.Sketch.{Sketch, sketch, zeros, damagedIn, leavesIn, flowBucketsAnswer}
 use Rattle.sketch.specs.Packets.{packetAnswer, entryAnswer, stepAnswer, moveAnswer}
 use Rattle.sketch.specs.Arrays.{arrayAnswer}
 use Rattle.sums.specs.Sums.{bothLentAnswer, eitherDamaged, leaves, bucketsAnswer, combineAnswer}
 
 -- what a row tells: an answer's number and index
-pub record Told : Type 0 where
+pub record Returned : Type 0 where
   pub number : ℕ
   pub index : ℕ
 
-abbrev answer : ℕ → ℕ → Told
+abbrev answer : ℕ → ℕ → Returned
 answer n k = record { number = n; index = k }
 
-abbrev told : Answer → Told
-told r = answer (numberIn r) (indexIn r)
+abbrev returned : Answer → Returned
+returned r = answer (numberIn r) (indexIn r)
 
 -- d arrays of m buckets
 abbrev params : ℕ → ℕ → List ℕ → List ℕ → Params
@@ -47,18 +47,18 @@ fresh = zeros K
 abbrev holding : ℕ → ℤ → ℕ → Sketch
 holding k c s = sketch (set (fresh .counts) k c) (set (fresh .idsums) k s)
 
--- what is told where n packets of flow f go in, and where the second sketch is added or subtracted
-abbrev inserting : Params → ℕ → ℕ → Sketch → Told
-inserting P f n S = told (moveAnswer P false f n S)
+-- what is returned where n packets of flow f go in, and where the second sketch is added or subtracted
+abbrev inserting : Params → ℕ → ℕ → Sketch → Returned
+inserting P f n S = returned (moveAnswer P false f n S)
 
-abbrev adding : Params → Params → Sketch → Sketch → Told
-adding P Q S T = told (combineAnswer false P Q S T)
+abbrev adding : Params → Params → Sketch → Sketch → Returned
+adding P Q S T = returned (combineAnswer false P Q S T)
 
-abbrev subtracting : Params → Params → Sketch → Sketch → Told
-subtracting P Q S T = told (combineAnswer true P Q S T)
+abbrev subtracting : Params → Params → Sketch → Sketch → Returned
+subtracting P Q S T = returned (combineAnswer true P Q S T)
 
 -- each row: what is computed, and what it has to be
-abbrev pub table : List (Told × Told)
+abbrev pub table : List (Returned × Returned)
 table =
     -- parameters that break a rule: the number of arrays, of buckets, the pairs in use and those that are not
     (inserting (params 0 5 (0 ∷ 0 ∷ 0 ∷ 0 ∷ []) (0 ∷ 0 ∷ 0 ∷ 0 ∷ [])) 7 1 (long 0 0), answer 1 0)
@@ -72,12 +72,12 @@ table =
     ∷ (inserting (params 2 5 (1 ∷ 1073741824 ∷ 0 ∷ 0 ∷ []) (0 ∷ 2147483647 ∷ 0 ∷ 0 ∷ [])) 7 1 fresh, answer 1 0)
     ∷ (inserting (params 2 5 (1 ∷ 1073741824 ∷ 1 ∷ 0 ∷ []) (0 ∷ 0 ∷ 0 ∷ 0 ∷ [])) 7 1 fresh, answer 1 0)
     ∷ (inserting (params 2 5 (1 ∷ 1073741824 ∷ 0 ∷ 0 ∷ []) (0 ∷ 0 ∷ 0 ∷ 1 ∷ [])) 7 1 fresh, answer 1 0)
-    ∷ (told (positionAnswer K 0 7), answer 1 0)
-    ∷ (told (positionAnswer K 3 7), answer 1 0)
-    ∷ (told (positionAnswer K 2 2147483647), answer 3 0)
-    ∷ (told (arrayAnswer K 0 10), answer 1 0)
-    ∷ (told (arrayAnswer K 3 10), answer 1 0)
-    ∷ (told (arrayAnswer K 2 11), answer 2 0)
+    ∷ (returned (positionAnswer K 0 7), answer 1 0)
+    ∷ (returned (positionAnswer K 3 7), answer 1 0)
+    ∷ (returned (positionAnswer K 2 2147483647), answer 3 0)
+    ∷ (returned (arrayAnswer K 0 10), answer 1 0)
+    ∷ (returned (arrayAnswer K 3 10), answer 1 0)
+    ∷ (returned (arrayAnswer K 2 11), answer 2 0)
     -- slices one short and one long, which come before the packet
     ∷ (inserting K 7 1 (long 9 10), answer 2 0)
     ∷ (inserting K 7 1 (long 11 10), answer 2 0)
@@ -92,7 +92,7 @@ table =
     ∷ (inserting K 7 1 (holding 7 (pos 0) 2147483647), answer 5 7)
     ∷ (inserting K 7 1 (holding 3 (pos 2147483647) 2147483647), answer 0 0)
     ∷ (inserting K 7 1 (holding 7 (pos 2147483646) 0), answer 6 7)
-    ∷ (told (moveAnswer K true 7 1 (holding 7 (negsuc 2147483645) 0)), answer 6 7)
+    ∷ (returned (moveAnswer K true 7 1 (holding 7 (negsuc 2147483645) 0)), answer 6 7)
     -- two sketches: every bucket is looked at, in either
     ∷ (adding K K fresh fresh, answer 0 0)
     ∷ (adding K K (holding 3 (pos 2147483646) 0) (holding 3 (pos 1) 0), answer 6 3)
@@ -106,5 +106,5 @@ table =
     ∷ []
 
 pub examples : map (λ row. row .0) table ≡ map (λ row. row .1) table
-unfolding below least refuseAt first pairAt twins goodDimensions goodParams samePair sameParams lengthsAnswer dimensionsAnswer stand positionAnswer standsIn inLimits zeros damagedIn leavesIn flowBucketsAnswer packetAnswer entryAnswer stepAnswer moveAnswer arrayAnswer bothLentAnswer eitherDamaged leaves bucketsAnswer combineAnswer
+unfolding below least refuseAt first pairAt twins goodDimensions goodParams samePair sameParams lengthsAnswer dimensionsAnswer stand positionAnswer standsIn inLimits isNumber zeros damagedIn leavesIn flowBucketsAnswer packetAnswer entryAnswer stepAnswer moveAnswer arrayAnswer bothLentAnswer eitherDamaged leaves bucketsAnswer combineAnswer
 examples = refl

@@ -16,7 +16,7 @@ use Rattle.buckets.specs.Buckets.{plusMinus, weight}
 use Rattle.sketch.specs.Sketch.{Sketch, sketch, Entry, by, countAt, weightAt, sketchOf, zeros, changedIn}
 use Rattle.sketch.specs.Packets.{changed, after, entriesOf}
 use Rattle.sums.specs.Sums.{combineAnswer, combined, Combined}
-use Rattle.sums.specs.History.{History, freshly, inserting, stepping, inserting-all, withdrawing, adding, subtracting, negated, signed, net}
+use Rattle.sums.specs.History.{History, freshly, inserting, stepping, inserting-all, withdrawing, adding, subtracting, negated, signed, netCount}
 use Rattle.params.proofs.Judging.{first-done}
 use Rattle.sums.proofs.TwoSketches.{both-lent-done}
 use Rattle.sketch.proofs.Tables.{replicate-from, touched-from}
@@ -110,12 +110,12 @@ history (adding h g i) = combined-shared false _ _ (history h) (history g) i ∙
 history (subtracting h g i) = combined-shared true _ _ (history h) (history g) i ∙ sym (joined-less _ _ _)
 
 -- how packets are split over calls and sketches does not matter, nor does their order
-pub split-free : {P : Params} {es gs : List Entry} {S T : Sketch} → History P es S → History P gs T → ((f : ℕ) → net es f ≡ net gs f) → S ≡ T
+pub split-free : {P : Params} {es gs : List Entry} {S T : Sketch} → History P es S → History P gs T → ((f : ℕ) → netCount es f ≡ netCount gs f) → S ≡ T
 split-free h g e = history h ∙ net-decides _ _ _ e ∙ sym (history g)
 
 -- so the difference of two sketches goes by the differences of the net counts
 pub difference-by-nets : {P : Params} {es gs es' gs' : List Entry} {S T S' T' : Sketch} → History P es S → History P gs T → History P es' S' → History P gs' T'
-    → ((f : ℕ) → net es f -ℤ net gs f ≡ net es' f -ℤ net gs' f) → combined true S T ≡ combined true S' T'
+    → ((f : ℕ) → netCount es f -ℤ netCount gs f ≡ netCount es' f -ℤ netCount gs' f) → combined true S T ≡ combined true S' T'
 difference-by-nets {P} {es} {gs} {es'} {gs'} h g h' g' e =
     ap₂ (combined true) (history h) (history g)
     ∙ sym (joined-less P es gs)

@@ -9,19 +9,9 @@ use Rattle.params.specs.Answers.{numberIn, first}
 use Rattle.params.specs.Params.{goodParams, sameParams, lengthsAnswer}
 use Rattle.sketch.specs.Sketch.{Sketch}
 use Rattle.sums.specs.Sums.{bothLentAnswer, eitherDamaged, leaves, bucketsAnswer, combineAnswer}
-use Rattle.sketch.proofs.InOrder.{wrongLength}
-use Rattle.params.proofs.InOrder.{order, firstOf, some, refuse-number, refuse-at-number, first-refuse, cond-either, IndexZero, refuse-index, first-index, buckets-index, lengths-index}
-
--- adding or subtracting the sketch T: which faults apply
-abbrev pub combineFault : Bool → Params → Params → Sketch → Sketch → Refusal → Bool
-combineFault minus P Q S T Param = not (goodParams P && goodParams Q)
-combineFault minus P Q S T Mismatch = not (sameParams P Q)
-combineFault minus P Q S T Length = wrongLength P S || wrongLength P T
-combineFault minus P Q S T Damage = some (length (S .counts)) (eitherDamaged S T)
-combineFault minus P Q S T Range = some (length (S .counts)) (leaves minus (S .counts) (T .counts))
-combineFault minus P Q S T Flow = false
-combineFault minus P Q S T Count = false
-combineFault minus P Q S T Form = false
+use Rattle.sums.specs.Faults.{combineFault}
+use Rattle.params.specs.Faults.{order, firstOf}
+use Rattle.params.proofs.InOrder.{refuse-number, refuse-at-number, first-refuse, cond-either, IndexZero, refuse-index, first-index, buckets-index, lengths-index}
 
 pub combine-number : (minus : Bool) (P Q : Params) (S T : Sketch) → numberIn (combineAnswer minus P Q S T) ≡ firstOf order (combineFault minus P Q S T)
 unfolding combineAnswer bothLentAnswer lengthsAnswer bucketsAnswer first

@@ -11,7 +11,7 @@ use lib.IntN.{ℤ, pos, _+ℤ_, _-ℤ_, _*ℤ_, +ℤ-idl, +ℤ-idr, +ℤ-assoc, 
 use Rattle.field.proofs.Parts.{int, up, down, up-down-add, up-mul, down-mul}
 use Rattle.params.specs.declared.params.Params.{Params}
 use Rattle.sketch.specs.Sketch.{Entry, sketchOf}
-use Rattle.sums.specs.History.{negated, net}
+use Rattle.sums.specs.History.{negated, netCount}
 use Rattle.sums.proofs.Weighted.{weighted, count-weighted, weight-weighted, net-weighted, weighted-append, weighted-negated, sketch-same}
 
 -- t 0 + t 1 + .. + t (n - 1)
@@ -74,33 +74,33 @@ one-flow h z g n l =
     (λ i m q. ap (λ (b : Bool). cond b z (pos 0) *ℤ h i) (ne-eqb g i (λ p. q (sym p))) ∙ zero-*ℤ (h i))
     ∙ ap (λ (b : Bool). cond b z (pos 0) *ℤ h g) (eq-eqb g g refl)
 
-by-flows : (h : ℕ → ℤ) (n : ℕ) (es : List Entry) → above es ≤ n → weighted h es ≡ total n (λ f. net es f *ℤ h f)
-unfolding weighted net above
+by-flows : (h : ℕ → ℤ) (n : ℕ) (es : List Entry) → above es ≤ n → weighted h es ≡ total n (λ f. netCount es f *ℤ h f)
+unfolding weighted netCount above
 by-flows h n [] l = sym (total-none n (λ f. pos 0 *ℤ h f) (λ i m. zero-*ℤ (h i)))
 by-flows h n (e ∷ es) l =
     ap₂ _+ℤ_ (sym (one-flow h (e .number) (e .flow) n (omega arith))) (by-flows h n es (omega arith))
-    ∙ sym (total-add n (λ f. cond (eqb (e .flow) f) (e .number) (pos 0) *ℤ h f) (λ f. net es f *ℤ h f))
-    ∙ ap (total n) (fun-ext (λ f. sym (times-sum (cond (eqb (e .flow) f) (e .number) (pos 0)) (net es f) (h f))))
+    ∙ sym (total-add n (λ f. cond (eqb (e .flow) f) (e .number) (pos 0) *ℤ h f) (λ f. netCount es f *ℤ h f))
+    ∙ ap (total n) (fun-ext (λ f. sym (times-sum (cond (eqb (e .flow) f) (e .number) (pos 0)) (netCount es f) (h f))))
 
-weighted-same : (h : ℕ → ℤ) (es gs : List Entry) → ((f : ℕ) → net es f ≡ net gs f) → weighted h es ≡ weighted h gs
+weighted-same : (h : ℕ → ℤ) (es gs : List Entry) → ((f : ℕ) → netCount es f ≡ netCount gs f) → weighted h es ≡ weighted h gs
 weighted-same h es gs e =
     let n = above es + above gs in
     by-flows h n es (omega arith) ∙ ap (total n) (fun-ext (λ f. ap (λ (z : ℤ). z *ℤ h f) (e f))) ∙ sym (by-flows h n gs (omega arith))
 
-pub net-decides : (P : Params) (es gs : List Entry) → ((f : ℕ) → net es f ≡ net gs f) → sketchOf P es ≡ sketchOf P gs
+pub net-decides : (P : Params) (es gs : List Entry) → ((f : ℕ) → netCount es f ≡ netCount gs f) → sketchOf P es ≡ sketchOf P gs
 net-decides P es gs e =
     sketch-same P P es gs refl
     (λ k. count-weighted P es k ∙ weighted-same _ es gs e ∙ sym (count-weighted P gs k))
     (λ k. weight-weighted P es k ∙ weighted-same _ es gs e ∙ sym (weight-weighted P gs k))
 
 -- net counts of two lists together, and of one less another
-net-append : (es gs : List Entry) (f : ℕ) → net (es ++ gs) f ≡ net es f +ℤ net gs f
+net-append : (es gs : List Entry) (f : ℕ) → netCount (es ++ gs) f ≡ netCount es f +ℤ netCount gs f
 net-append es gs f = simp net-weighted (weighted-append _ es gs)
 
-pub net-less : (es gs : List Entry) (f : ℕ) → net (es ++ negated gs) f ≡ net es f -ℤ net gs f
-net-less es gs f = net-append es (negated gs) f ∙ ap (_+ℤ_ (net es f)) (simp net-weighted (weighted-negated _ gs))
+pub net-less : (es gs : List Entry) (f : ℕ) → netCount (es ++ negated gs) f ≡ netCount es f -ℤ netCount gs f
+net-less es gs f = net-append es (negated gs) f ∙ ap (_+ℤ_ (netCount es f)) (simp net-weighted (weighted-negated _ gs))
 
 -- the order of entries does not matter
 pub order-free : (P : Params) (es gs : List Entry) → sketchOf P (es ++ gs) ≡ sketchOf P (gs ++ es)
 order-free P es gs =
-    net-decides P (es ++ gs) (gs ++ es) (λ f. net-append es gs f ∙ +ℤ-comm (net es f) (net gs f) ∙ sym (net-append gs es f))
+    net-decides P (es ++ gs) (gs ++ es) (λ f. net-append es gs f ∙ +ℤ-comm (netCount es f) (netCount gs f) ∙ sym (net-append gs es f))

@@ -1,4 +1,4 @@
--- Laws of the answer of two sketches: what holds where nothing is refused, and that nothing is where all buckets are quiet.
+-- Laws of the answer of two sketches: what holds where nothing is refused, and that nothing is where all buckets are small.
 use mathlib.Core.Path.{_≡_, refl, sym, ap, _∙_}
 use mathlib.Core.Bool.{Bool, true, false, not, _&&_, _||_}
 use Prim.Native.Nat.{ℕ, _≤_, _<_}
@@ -18,7 +18,7 @@ use Rattle.params.proofs.Judging.{first-done, refuse-done, refuse-at-done, refu
 use Rattle.params.proofs.Rules.{dimensions-small, good-has-dimensions, good-dimensions, lengths-done}
 use Rattle.buckets.proofs.Limits.{whole, small-whole, small-size, small-stays}
 
--- where the parameters keep the rules, of the sizes and the lengths the lengths are left to judge
+-- where the parameters keep the rules, of the dimensions and the lengths the lengths are left to judge
 pub lengths-left : (P : Params) (c s : ℕ) → goodParams P ≡ true → dimensionsAnswer P c s ≡ lengthsAnswer P c s
 unfolding dimensionsAnswer
 lengths-left P c s e = rw (good-has-dimensions P e)
@@ -76,7 +76,7 @@ combine-done minus P Q S T e =
       λ j m. let u = either-false _ _ (k .0 j m) in (whole _ _ (u .0) .1, whole _ _ (u .1) .1),
     )
 
--- where every bucket of both is quiet, none is at fault
+-- where every bucket of both is small, none is at fault
 pub small-done : (minus : Bool) (S T : Sketch) → below (length (S .counts)) (λ k. smallAt S k && smallAt T k) ≡ true → bucketsAnswer minus S T ≡ Done
 unfolding bucketsAnswer eitherDamaged leaves
 small-done minus S T e =

@@ -12,7 +12,7 @@ use Rattle.params.specs.Lists.{from}
 use Rattle.params.specs.Params.{prime, size}
 use Rattle.params.specs.Positions.{stands}
 use Rattle.sketch.specs.Sketch.{Entry, sketch, countAt, weightAt, sketchOf}
-use Rattle.sums.specs.History.{negated, net}
+use Rattle.sums.specs.History.{negated, netCount}
 
 unfoldable pub weighted : (ℕ → ℤ) → List Entry → ℤ
 weighted h [] = pos 0
@@ -39,8 +39,8 @@ unfolding weightAt weighted
 weight-weighted P [] k = refl
 weight-weighted P (e ∷ es) k = ap₂ _+ℤ_ (times-picked (e .number) (stands P (e .flow) k) (pos (e .flow))) (weight-weighted P es k)
 
-pub net-weighted : (es : List Entry) (f : ℕ) → net es f ≡ weighted (λ g. cond (eqb g f) (pos 1) (pos 0)) es
-unfolding net weighted
+pub net-weighted : (es : List Entry) (f : ℕ) → netCount es f ≡ weighted (λ g. cond (eqb g f) (pos 1) (pos 0)) es
+unfolding netCount weighted
 net-weighted [] f = refl
 net-weighted (e ∷ es) f = ap₂ _+ℤ_ (picked (e .number) (eqb (e .flow) f)) (net-weighted es f)
 

@@ -23,9 +23,9 @@ signed false z = z
 signed true z = negℤ z
 
 -- the sum of a flow's numbers
-unfoldable pub net : List Entry → ℕ → ℤ
-net [] f = pos 0
-net (e ∷ es) f = cond (eqb (e .flow) f) (e .number) (pos 0) +ℤ net es f
+unfoldable pub netCount : List Entry → ℕ → ℤ
+netCount [] f = pos 0
+netCount (e ∷ es) f = cond (eqb (e .flow) f) (e .number) (pos 0) +ℤ netCount es f
 
 -- the sketch S was made by calls of which none was refused, over any number of sketches, from packets that make up these entries
 pub data History : Params → List Entry → Sketch → Type 0 where

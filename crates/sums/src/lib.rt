@@ -72,7 +72,7 @@ fn first_leaving(minus: bool, counts: &[i32], other_counts: &[i32]) -> usize
     i
 }
 
-// Whether every bucket of both sketches is quiet. Those that are not are counted, without an early end, so that the compiler can do
+// Whether every bucket of both sketches is small. Those that are not are counted, without an early end, so that the compiler can do
 // several buckets at once.
 fn all_small(counts: &[i32], idsums: &[u32], other_counts: &[i32], other_idsums: &[u32]) -> bool
     requires { ⌜ (length (now idsums) ≡ length (now counts)) × (length (now «other_counts») ≡ length (now counts)) × (length (now «other_idsums») ≡ length (now counts)) ⌝ }
@@ -93,7 +93,7 @@ fn all_small(counts: &[i32], idsums: &[u32], other_counts: &[i32], other_idsums:
     large == 0
 }
 
-// The answer, which alters nothing. Where all buckets are quiet, no more is to be looked at.
+// The answer, which alters nothing. Where all buckets are small, no more is to be looked at.
 fn judge(
     minus: bool,
     p: Params,

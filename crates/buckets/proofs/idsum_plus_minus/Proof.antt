@@ -1,4 +1,4 @@
--- `buckets::wound` meets its contract: the definition, case by case.
+-- `buckets::idsum_plus_minus` meets its contract: the definition, case by case.
 use borrow.Author.Needs.{needs}
 use borrow.Author.Tests.{lt-ltb, le-ltb}
 use Rattle.buckets.specs.Buckets.{idsumPlusMinus}

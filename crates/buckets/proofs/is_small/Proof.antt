@@ -1,4 +1,4 @@
--- `buckets::quiet` meets its contract: its comparisons are the bounds.
+-- `buckets::is_small` meets its contract: its comparisons are the bounds.
 use borrow.Author.Tests.{lt-ltb, le-ltb}
 use mir.Facts.{toZ-ofZ}
 use Rattle.buckets.specs.Buckets.{isSmall}

@@ -1,4 +1,4 @@
--- `buckets::moved` meets its contract: the sum and the difference of two counts fit the wide width.
+-- `buckets::plus_minus` meets its contract: the sum and the difference of two counts fit the wide width.
 use mathlib.Core.Path.{_≡_, ap₂, subst⁻¹, _∙_}
 use mathlib.Core.Bool.{true, false}
 use lib.IntN.{_+ℤ_, _-ℤ_}

@@ -1,4 +1,4 @@
--- `sums::all_quiet` meets its contract. The loop's invariant: the count is at most 2 for each bucket passed, and it is 0 where all of them are quiet and only there.
+-- `sums::all_small` meets its contract. The loop's invariant: the count is at most 2 for each bucket passed, and it is 0 where all of them are small and only there.
 use Prim.Native.Nat.{ℕ, _+_, _-_, _*_, _≤_}
 use native.Mathlib.Omega.{arith}
 use native.Mathlib.Numerals.{add-one}
@@ -17,7 +17,7 @@ use Rattle.sketch.specs.Sketch.{Sketch, sketch, smallAt}
 use Rattle.sums.proofs.all_small.Statement.{statement}
 use Rattle.sums.proofs.all_small.Tie as tie
 
--- bucket k is quiet in both sketches
+-- bucket k is small in both sketches
 abbrev both : Sketch → Sketch → ℕ → Bool
 both S T k = smallAt S k && smallAt T k
 

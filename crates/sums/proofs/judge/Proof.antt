@@ -1,4 +1,4 @@
--- `sums::judge` meets its contract: the shapes; then nothing at fault where all is quiet, else the first damaged bucket, then the first that would leave its limits.
+-- `sums::judge` meets its contract: the parameters and the lengths; then nothing at fault where all is small, else the first damaged bucket, then the first that would leave its limits.
 use mathlib.Core.Path.{_≡_, sym, _∙_}
 use denote.Ref.{now}
 use lib.ListN.{length}
@@ -10,7 +10,7 @@ use Rattle.sums.proofs.TwoSketches.{both-lent-done, same-lengths, small
 use Rattle.sums.proofs.judge.Statement.{statement}
 use Rattle.sums.proofs.judge.Tie as tie
 
--- the shapes were passed
+-- the parameters and the lengths were passed
 shaped : (c : tie.After-enum-told) → bothLentAnswer (c .before .before .before .before .before .args .p) (c .before .before .before .before .before .args .q) (length (now (c .before .before .before .before .before .args .counts))) (length (now (c .before .before .before .before .before .args .idsums))) (length (now (c .before .before .before .before .before .args .other-counts))) (length (now (c .before .before .before .before .before .args .other-idsums))) ≡ Done
 shaped c = sym (c .before .before .judge-both .ensures) ∙ c .enum-told .given .1
 

@@ -1,4 +1,4 @@
--- `sums::shapes` meets its contract: each test that fails is the first that the answer tells.
+-- `sums::judge_both` meets its contract: each test that fails is the first that the answer has.
 use mathlib.Core.Path.{_≡_, sym, _∙_}
 use mathlib.Core.Bool.{true}
 use borrow.Author.Needs.{needs}

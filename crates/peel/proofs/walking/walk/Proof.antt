@@ -16,7 +16,7 @@ use borrow.Author.Count.{below-none, below-more}
 use borrow.Author.Tests.{not-true, not-false}
 use Rattle.buckets.specs.Buckets.{inLimits}
 use Rattle.params.specs.Positions.{Positioned, WithinArrays}
-use Rattle.params.proofs.Sizes.{small}
+use Rattle.params.proofs.BucketNumbers.{small}
 use Rattle.params.proofs.Rules.{positions-found, positions-long}
 use Rattle.sketch.proofs.Steps.{reached}
 use Rattle.sketch.proofs.Standing.{Within, reach}

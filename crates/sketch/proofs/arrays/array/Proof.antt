@@ -1,4 +1,4 @@
--- `sketch::arrays::array` meets its contract: each test that fails is the first that the answer tells.
+-- `sketch::arrays::array` meets its contract: each test that fails is the first that the answer has.
 use mathlib.Core.Path.{_≡_}
 use mathlib.Core.Bool.{true, _&&_}
 use lib.Dec.{leb}

@@ -1,4 +1,4 @@
--- `sketch::packets::all_quiet` meets its contract. The invariant: the flow's buckets in the arrays passed are quiet.
+-- `sketch::packets::all_small` meets its contract. The invariant: the flow's buckets in the arrays passed are small.
 use mathlib.Core.Path.{_≡_, sym, _∙_}
 use mathlib.Core.Bool.{true}
 use Prim.Native.Nat.{ℕ, _+_, _*_, _-_, _≤_, _<_}

@@ -1,4 +1,4 @@
--- `sketch::packets::judge` meets its contract: nothing at fault where all is quiet; else damage first, then the limits, each with the lowest index at fault.
+-- `sketch::packets::judge` meets its contract: nothing at fault where all is small; else damage first, then the limits, each with the lowest index at fault.
 use mathlib.Core.Path.{_≡_, sym, _∙_}
 use Prim.Native.Nat.{_*_}
 use native.Mathlib.Omega.{arith}

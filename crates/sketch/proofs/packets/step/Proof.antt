@@ -11,7 +11,7 @@ use borrow.Author.Needs.{needs}
 use Rattle.field.proofs.Residues.{residue-below}
 use Rattle.params.specs.Params.{prime}
 use Rattle.params.specs.Positions.{Positioned}
-use Rattle.params.proofs.Sizes.{stretch-within}
+use Rattle.params.proofs.BucketNumbers.{stretch-within}
 use Rattle.params.proofs.Rules.{positions-found}
 use Rattle.buckets.proofs.Idsums.{prime-pos}
 use Rattle.sketch.proofs.Steps.{Let, entry-done, reached, placed-answer, placed-change, has-room, not-let, not-stepped, stepped}
@@ -40,7 +40,7 @@ as-count c = toZ-pos w32 _ (omega (arith, let-in c .high))
 positions-requires : tie.Need-positions-requires
 positions-requires c κs = search needs
 
--- the flow's places
+-- the flow's positions
 flow-positions : (c : tie.After-positions) → let a = c .before .before .before .before .before .before .args in Positioned (a .p) (a .f) (c .positions .last .1 .1 .0)
 flow-positions c = rw (c .positions .ensures) (positions-found _ _ _ (let-in (c .before .before) .dimensions) refl)
 

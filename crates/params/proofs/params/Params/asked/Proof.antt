@@ -1,8 +1,8 @@
 -- `params::params::Params::asked` meets its contract: the parameters, then the array, then the flow.
 use mathlib.Core.Path.{_≡_}
 use mathlib.Core.Bool.{true}
-use borrow.Author.Tests.{le-leb, lt-leb, lt-ltb, le-ltb}
-use Rattle.params.specs.Params.{prime, goodParams}
+use borrow.Author.Tests.{le-leb, lt-leb}
+use Rattle.params.specs.Params.{goodParams}
 use Rattle.params.specs.Positions.{positionAnswer}
 use borrow.Author.Needs.{needs}
 use Rattle.params.proofs.Searches.{test-held, test-failed}
@@ -27,13 +27,16 @@ returns-3 : tie.Need-returns-3
 unfolding positionAnswer
 returns-3 c = simp (passed (c .before .before .before), le-leb 1 _ (c .before .before .if2 .left), lt-leb _ _ (c .if3 .taken))
 
+is-flow-requires : tie.Need-is-flow-requires
+is-flow-requires c κs = search needs
+
 returns-4 : tie.Need-returns-4
 unfolding positionAnswer
-returns-4 c = simp (passed (c .before .before .before .before), le-leb 1 _ (c .before .before .before .if2 .left), le-leb _ _ (c .before .if3 .left), le-ltb _ prime (c .if4 .taken))
+returns-4 c = simp (passed (c .before .before .before .before .before), le-leb 1 _ (c .before .before .before .before .if2 .left), le-leb _ _ (c .before .before .if3 .left), test-failed (c .before .is-flow .ensures) (c .if4 .taken))
 
 returns-5 : tie.Need-returns-5
 unfolding positionAnswer
-returns-5 c = simp (passed (c .before .before .before .before), le-leb 1 _ (c .before .before .before .if2 .left), le-leb _ _ (c .before .if3 .left), lt-ltb _ prime (c .if4 .left))
+returns-5 c = simp (passed (c .before .before .before .before .before), le-leb 1 _ (c .before .before .before .before .if2 .left), le-leb _ _ (c .before .before .if3 .left), test-held (c .before .is-flow .ensures) (c .if4 .left))
 
 pub asked-spec : {M : Type 1} → statement M
-asked-spec = tie.close (tie.spec check-requires returns returns-2 returns-3 returns-4 returns-5)
+asked-spec = tie.close (tie.spec check-requires returns returns-2 returns-3 is-flow-requires returns-4 returns-5)

@@ -1,4 +1,4 @@
--- `params::params::Params::check` meets its contract: the sizes, then each pair, then the pairs together.
+-- `params::params::Params::check` meets its contract: the dimensions, then each pair, then the pairs together.
 use Rattle.params.specs.Params.{goodParams}
 use borrow.Author.Needs.{needs}
 use Rattle.params.proofs.Searches.{test-held, test-failed}

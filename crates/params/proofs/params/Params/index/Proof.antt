@@ -1,4 +1,4 @@
--- `params::params::Params::index` meets its contract: what was asked is right, and the bucket is one of the sketch, or the caller is told why not.
+-- `params::params::Params::index` meets its contract: what was asked is right, and the bucket is one of the sketch, or a refusal says why not.
 use mathlib.Core.Path.{sym, ap, _∙_}
 use Prim.Native.Nat.{ℕ, _+_, _-_, _*_}
 use native.Mathlib.Omega.{arith}

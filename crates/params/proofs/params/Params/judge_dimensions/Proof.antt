@@ -1,4 +1,4 @@
--- `params::params::Params::sizes` meets its contract: the sizes, then the lengths.
+-- `params::params::Params::judge_dimensions` meets its contract: the dimensions, then the lengths.
 use mathlib.Core.Path.{_≡_}
 use mathlib.Core.Bool.{true}
 use Rattle.params.specs.Params.{goodDimensions, dimensionsAnswer}

@@ -1,4 +1,4 @@
--- `params::params::Params::shape` meets its contract: the parameters, then the lengths.
+-- `params::params::Params::judge_lent` meets its contract: the parameters, then the lengths.
 use mathlib.Core.Path.{_≡_}
 use mathlib.Core.Bool.{true}
 use Rattle.params.specs.Params.{goodParams, lentAnswer}

@@ -1,4 +1,4 @@
--- `params::params::Params::position` meets its contract: what was asked is right, or the caller is told why not.
+-- `params::params::Params::position` meets its contract: what was asked is right, or a refusal says why not.
 use mathlib.Core.Path.{sym, _∙_}
 use native.Mathlib.Omega.{arith}
 use Rattle.params.proofs.Rules.{Asked, asked-done, located-at, not-located}

@@ -1,4 +1,4 @@
--- `params::params::Params::places` meets its contract: the first two arrays are always there, and each of the others is passed over where it is not.
+-- `params::params::Params::positions` meets its contract: the first two arrays are always there, and each of the others is passed over where it is not.
 use mathlib.Core.Path.{_≡_}
 use mathlib.Core.Bool.{true}
 use mathlib.Core.Logic.{_⊎_, inl, inr, ⊎-elim}
@@ -21,14 +21,14 @@ passed c = test-held (c .before .good-dimensions .ensures) (c .if1 .left)
 sizes : (c : tie.Else1) → Dimensions (c .before .before .args .self)
 sizes c = dimensions _ (passed c)
 
-two-placed : (c : tie.After-place2) → let s = c .before .before .before .before .before .before .args in
-    set (set (s .ks .now) 0 (c .before .place .result)) 1 (c .place2 .result) ≡ touched (upTo 2) (λ j k. stand (s .self) j (s .f)) (s .ks .now)
+two-placed : (c : tie.After-position-by2) → let s = c .before .before .before .before .before .before .args in
+    set (set (s .ks .now) 0 (c .before .position-by .result)) 1 (c .position-by2 .result) ≡ touched (upTo 2) (λ j k. stand (s .self) j (s .f)) (s .ks .now)
 unfolding stand
 two-placed c =
     let s = c .before .before .before .before .before .before .args in
     store-next 0 (λ j. stand (s .self) j (s .f)) (s .ks .now) _ 1
-    (store-next 0 (λ j. stand (s .self) j (s .f)) (s .ks .now) _ 0 (each-none 0 _ _) (c .before .place .ensures .0))
-    (c .place2 .ensures .0)
+    (store-next 0 (λ j. stand (s .self) j (s .f)) (s .ks .now) _ 0 (each-none 0 _ _) (c .before .position-by .ensures .0))
+    (c .position-by2 .ensures .0)
 
 -- the third array, where there is one
 three-placed : (c : tie.Joined2) → let a = c .before .before .before .before .before .before .before .args in
@@ -47,50 +47,50 @@ good-dimensions-requires c κs = search needs
 returns : tie.Need-returns
 returns c = no-positions _ _ _ (test-failed (c .before .good-dimensions .ensures) (c .if1 .taken))
 
-array-read-place : tie.Need-array-read-place
-array-read-place c = search needs
+array-read-position-by : tie.Need-array-read-position-by
+array-read-position-by c = search needs
 
-array-read-place-2 : tie.Need-array-read-place-2
-array-read-place-2 c = search needs
+array-read-position-by-2 : tie.Need-array-read-position-by-2
+array-read-position-by-2 c = search needs
 
-place-requires : tie.Need-place-requires
-place-requires c κs = sizes (c .before .before) .m-low
+position-by-requires : tie.Need-position-by-requires
+position-by-requires c κs = sizes (c .before .before) .m-low
 
 element-write-ks : tie.Need-element-write-ks
 element-write-ks c = search needs
 
-array-read-place-3 : tie.Need-array-read-place-3
-array-read-place-3 c = search needs
+array-read-position-by-3 : tie.Need-array-read-position-by-3
+array-read-position-by-3 c = search needs
 
-array-read-place-4 : tie.Need-array-read-place-4
-array-read-place-4 c = search needs
+array-read-position-by-4 : tie.Need-array-read-position-by-4
+array-read-position-by-4 c = search needs
 
-place-requires-2 : tie.Need-place-requires-2
-place-requires-2 c κs = search needs
+position-by-requires-2 : tie.Need-position-by-requires-2
+position-by-requires-2 c κs = search needs
 
 element-write-ks-2 : tie.Need-element-write-ks-2
 element-write-ks-2 c = search needs
 
-array-read-place-5 : tie.Need-array-read-place-5
-array-read-place-5 c = search needs
+array-read-position-by-5 : tie.Need-array-read-position-by-5
+array-read-position-by-5 c = search needs
 
-array-read-place-6 : tie.Need-array-read-place-6
-array-read-place-6 c = search needs
+array-read-position-by-6 : tie.Need-array-read-position-by-6
+array-read-position-by-6 c = search needs
 
-place-requires-3 : tie.Need-place-requires-3
-place-requires-3 c κs = search needs
+position-by-requires-3 : tie.Need-position-by-requires-3
+position-by-requires-3 c κs = search needs
 
 element-write-ks-3 : tie.Need-element-write-ks-3
 element-write-ks-3 c = search needs
 
-array-read-place-7 : tie.Need-array-read-place-7
-array-read-place-7 c = search needs
+array-read-position-by-7 : tie.Need-array-read-position-by-7
+array-read-position-by-7 c = search needs
 
-array-read-place-8 : tie.Need-array-read-place-8
-array-read-place-8 c = search needs
+array-read-position-by-8 : tie.Need-array-read-position-by-8
+array-read-position-by-8 c = search needs
 
-place-requires-4 : tie.Need-place-requires-4
-place-requires-4 c κs = search needs
+position-by-requires-4 : tie.Need-position-by-requires-4
+position-by-requires-4 c κs = search needs
 
 element-write-ks-4 : tie.Need-element-write-ks-4
 element-write-ks-4 c = search needs
@@ -101,7 +101,7 @@ returns-2 c =
     let s = c .before .before .before .before .before .before .before in
     let a = s .before .before .args in
     ⊎-elim
-    (λ w. all-positions _ _ _ 4 (passed s) (omega (arith, sizes s)) (store-next 0 (λ j. stand (a .self) j (a .f)) (a .ks .now) _ 3 (w .1) (c .place4 .ensures .0)))
+    (λ w. all-positions _ _ _ 4 (passed s) (omega (arith, sizes s)) (store-next 0 (λ j. stand (a .self) j (a .f)) (a .ks .now) _ 3 (w .1) (c .position-by4 .ensures .0)))
     (λ w. absurd (omega (arith, w .0)))
     (three-placed (c .before .before))
 
@@ -119,21 +119,21 @@ positions-spec =
     (tie.spec
     good-dimensions-requires
     returns
-    array-read-place
-    array-read-place-2
-    place-requires
+    array-read-position-by
+    array-read-position-by-2
+    position-by-requires
     element-write-ks
-    array-read-place-3
-    array-read-place-4
-    place-requires-2
+    array-read-position-by-3
+    array-read-position-by-4
+    position-by-requires-2
     element-write-ks-2
-    array-read-place-5
-    array-read-place-6
-    place-requires-3
+    array-read-position-by-5
+    array-read-position-by-6
+    position-by-requires-3
     element-write-ks-3
-    array-read-place-7
-    array-read-place-8
-    place-requires-4
+    array-read-position-by-7
+    array-read-position-by-8
+    position-by-requires-4
     element-write-ks-4
     returns-2
     returns-3)

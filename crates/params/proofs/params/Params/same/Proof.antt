@@ -1,4 +1,4 @@
--- `params::params::Params::same` meets its contract: the first size or pair that differs decides, or the last pair.
+-- `params::params::Params::same` meets its contract: the first number or pair that differs decides, or the last pair.
 use mathlib.Core.Path.{sym, _∙_}
 use native.Mathlib.Omega.{arith}
 use borrow.Author.Tests.{eq-eqb, ne-eqb}

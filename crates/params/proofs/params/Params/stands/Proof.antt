@@ -23,32 +23,32 @@ good-dimensions-requires c κs = search needs
 returns : tie.Need-returns
 returns c = rw (test-failed (c .before .good-dimensions .ensures) (c .if1 .taken))
 
-array-read-place : tie.Need-array-read-place
-array-read-place c = search needs
+array-read-position-by : tie.Need-array-read-position-by
+array-read-position-by c = search needs
 
-array-read-place-2 : tie.Need-array-read-place-2
-array-read-place-2 c = search needs
+array-read-position-by-2 : tie.Need-array-read-position-by-2
+array-read-position-by-2 c = search needs
 
-place-requires : tie.Need-place-requires
-place-requires c κs = search needs
+position-by-requires : tie.Need-position-by-requires
+position-by-requires c κs = search needs
 
 returns-2 : tie.Need-returns-2
 unfolding stand
 returns-2 c =
     let s = c .before .before .before .before in
-    stands-in (s .before .before .args .self) _ _ 0 (passed s) (omega (arith, sizes s)) (omega arith) (omega arith) (omega (arith, c .place .ensures .0))
+    stands-in (s .before .before .args .self) _ _ 0 (passed s) (omega (arith, sizes s)) (omega arith) (omega arith) (omega (arith, c .position-by .ensures .0))
 
 mul-if3 : tie.Need-mul-if3
 mul-if3 c = omega (arith, sizes (c .before .before .before))
 
-array-read-place-3 : tie.Need-array-read-place-3
-array-read-place-3 c = search needs
+array-read-position-by-3 : tie.Need-array-read-position-by-3
+array-read-position-by-3 c = search needs
 
-array-read-place-4 : tie.Need-array-read-place-4
-array-read-place-4 c = search needs
+array-read-position-by-4 : tie.Need-array-read-position-by-4
+array-read-position-by-4 c = search needs
 
-place-requires-2 : tie.Need-place-requires-2
-place-requires-2 c κs = search needs
+position-by-requires-2 : tie.Need-position-by-requires-2
+position-by-requires-2 c κs = search needs
 
 add-result : tie.Need-add-result
 add-result c = omega (arith, sizes (c .before .before .before .before .before))
@@ -57,7 +57,7 @@ returns-3 : tie.Need-returns-3
 unfolding stand
 returns-3 c =
     let s = c .before .before .before .before .before in
-    stands-in (s .before .before .args .self) _ _ 1 (passed s) (omega (arith, sizes s)) (omega arith) (omega arith) (omega (arith, c .place2 .ensures .0))
+    stands-in (s .before .before .args .self) _ _ 1 (passed s) (omega (arith, sizes s)) (omega arith) (omega arith) (omega (arith, c .position-by2 .ensures .0))
 
 returns-4 : tie.Need-returns-4
 returns-4 c =
@@ -70,14 +70,14 @@ mul-if5 c = omega (arith, sizes (c .before .before .before .before .before))
 mul-result : tie.Need-mul-result
 mul-result c = search needs
 
-array-read-place-5 : tie.Need-array-read-place-5
-array-read-place-5 c = search needs
+array-read-position-by-5 : tie.Need-array-read-position-by-5
+array-read-position-by-5 c = search needs
 
-array-read-place-6 : tie.Need-array-read-place-6
-array-read-place-6 c = search needs
+array-read-position-by-6 : tie.Need-array-read-position-by-6
+array-read-position-by-6 c = search needs
 
-place-requires-3 : tie.Need-place-requires-3
-place-requires-3 c κs = search needs
+position-by-requires-3 : tie.Need-position-by-requires-3
+position-by-requires-3 c κs = search needs
 
 add-result-2 : tie.Need-add-result-2
 add-result-2 c = omega (arith, sizes (c .before .before .before .before .before .before .before))
@@ -86,7 +86,7 @@ returns-5 : tie.Need-returns-5
 unfolding stand
 returns-5 c =
     let s = c .before .before .before .before .before .before .before in
-    stands-in (s .before .before .args .self) _ _ 2 (passed s) (omega (arith, sizes s)) (omega arith) (omega arith) (omega (arith, c .place3 .ensures .0))
+    stands-in (s .before .before .args .self) _ _ 2 (passed s) (omega (arith, sizes s)) (omega arith) (omega arith) (omega (arith, c .position-by3 .ensures .0))
 
 returns-6 : tie.Need-returns-6
 returns-6 c =
@@ -99,14 +99,14 @@ mul-if7 c = omega (arith, sizes (c .before .before .before .before .before .befo
 mul-result-2 : tie.Need-mul-result-2
 mul-result-2 c = search needs
 
-array-read-place-7 : tie.Need-array-read-place-7
-array-read-place-7 c = search needs
+array-read-position-by-7 : tie.Need-array-read-position-by-7
+array-read-position-by-7 c = search needs
 
-array-read-place-8 : tie.Need-array-read-place-8
-array-read-place-8 c = search needs
+array-read-position-by-8 : tie.Need-array-read-position-by-8
+array-read-position-by-8 c = search needs
 
-place-requires-4 : tie.Need-place-requires-4
-place-requires-4 c κs = search needs
+position-by-requires-4 : tie.Need-position-by-requires-4
+position-by-requires-4 c κs = search needs
 
 add-result-3 : tie.Need-add-result-3
 add-result-3 c = omega (arith, sizes (c .before .before .before .before .before .before .before .before .before))
@@ -115,7 +115,7 @@ returns-7 : tie.Need-returns-7
 unfolding stand
 returns-7 c =
     let s = c .before .before .before .before .before .before .before .before .before in
-    stands-in (s .before .before .args .self) _ _ 3 (passed s) (omega (arith, sizes s)) (omega arith) (omega arith) (omega (arith, c .place4 .ensures .0))
+    stands-in (s .before .before .args .self) _ _ 3 (passed s) (omega (arith, sizes s)) (omega arith) (omega arith) (omega (arith, c .position-by4 .ensures .0))
 
 returns-8 : tie.Need-returns-8
 returns-8 c =
@@ -128,30 +128,30 @@ stands-spec =
     (tie.spec
     good-dimensions-requires
     returns
-    array-read-place
-    array-read-place-2
-    place-requires
+    array-read-position-by
+    array-read-position-by-2
+    position-by-requires
     returns-2
     mul-if3
-    array-read-place-3
-    array-read-place-4
-    place-requires-2
+    array-read-position-by-3
+    array-read-position-by-4
+    position-by-requires-2
     add-result
     returns-3
     returns-4
     mul-if5
     mul-result
-    array-read-place-5
-    array-read-place-6
-    place-requires-3
+    array-read-position-by-5
+    array-read-position-by-6
+    position-by-requires-3
     add-result-2
     returns-5
     returns-6
     mul-if7
     mul-result-2
-    array-read-place-7
-    array-read-place-8
-    place-requires-4
+    array-read-position-by-7
+    array-read-position-by-8
+    position-by-requires-4
     add-result-3
     returns-7
     returns-8)

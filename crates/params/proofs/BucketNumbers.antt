@@ -1,4 +1,4 @@
--- Laws of the sizes of sketches.
+-- Laws of the numbers of buckets.
 use Prim.Native.Nat.{ℕ, suc, _+_, _*_, _≤_, _<_}
 use native.Mathlib.Omega.{arith}
 use native.Mathlib.Nat.{mul-le-mul, mul-le-mul-right, suc-mul}

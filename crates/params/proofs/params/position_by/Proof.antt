@@ -1,10 +1,10 @@
--- `params::params::place` meets its contract: the product and the sum fit the wide width.
+-- `params::params::position_by` meets its contract: the product and the sum fit the wide width.
 use Prim.Native.Nat.{_*_, _≤_}
 use native.Mathlib.Omega.{arith}
 use native.Mathlib.Nat.{mod-lt, mul-le-mul}
 use borrow.Author.Needs.{needs}
-use Rattle.params.proofs.params.place.Statement.{statement}
-use Rattle.params.proofs.params.place.Tie as tie
+use Rattle.params.proofs.params.position_by.Statement.{statement}
+use Rattle.params.proofs.params.position_by.Tie as tie
 
 product-fits : (c : tie.Start) → c .args .a * c .args .f ≤ 4294967295 * 4294967295
 product-fits c = mul-le-mul {n₁ = c .args .a} {m₁ = c .args .f} {n₂ = 4294967295} {m₂ = 4294967295} (omega arith) (omega arith)
@@ -27,5 +27,5 @@ rem-result-2 c = search needs
 returns : tie.Need-returns
 returns c = (search needs, mod-lt _ (search needs))
 
-pub place-spec : {M : Type 1} → statement M
-place-spec = tie.close (tie.spec mul-result add-result cast-result rem-result rem-result-2 returns)
+pub position-by-spec : {M : Type 1} → statement M
+position-by-spec = tie.close (tie.spec mul-result add-result cast-result rem-result rem-result-2 returns)
