@@ -5,6 +5,7 @@ pub mod Judging
 pub mod BucketNumbers
 pub mod Rules
 pub mod Standing
+pub mod Indexes
 pub mod Lowest
 pub mod InOrder
 pub mod SameParams

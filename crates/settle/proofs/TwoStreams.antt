@@ -15,7 +15,7 @@ use Rattle.sketch.specs.Sketch.{Sketch, Entry, zeros, Freshened}
 use Rattle.sketch.specs.Packets.{entriesOf}
 use Rattle.sums.specs.Sums.{combineAnswer, combined}
 use Rattle.sums.specs.History.{History, freshly, netCount}
-use Rattle.sums.proofs.Histories.{difference-by-nets}
+use Rattle.sums.proofs.Histories.{combined-by-nets}
 use Rattle.walk.proofs.Promises.{Whole}
 use Rattle.streamfile.specs.Streams.{flowsIn, numbersIn, StreamRead}
 use Rattle.streamfile.proofs.AsInserted.{reading-on}
@@ -72,4 +72,4 @@ fresh-history {P} r =
 -- the difference is settled by the parameters and by how many packets of each flow were lost
 pub by-net-counts : {P : Params} {a b a' b' : List ℕ} {S T S' T' : Sketch} → StreamRead P a (zeros P) Done S → StreamRead P b (zeros P) Done T → StreamRead P a' (zeros P) Done S'
     → StreamRead P b' (zeros P) Done T' → ((f : ℕ) → lost a b f ≡ lost a' b' f) → combined true S T ≡ combined true S' T'
-by-net-counts a b a' b' = difference-by-nets (fresh-history a) (fresh-history b) (fresh-history a') (fresh-history b')
+by-net-counts a b a' b' = combined-by-nets (fresh-history a) (fresh-history b) (fresh-history a') (fresh-history b')

@@ -6,6 +6,7 @@ pub mod ArrayTurns
 pub mod Steps
 pub mod Stretches
 pub mod Tables
+pub mod AtIndexes
 pub mod TakenBack
 pub mod ManyPackets
 pub mod Lowest

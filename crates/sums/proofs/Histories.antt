@@ -103,7 +103,7 @@ pub history : {P : Params} {es : List Entry} {S : Sketch} → History P es S →
 unfolding kept
 history (freshly h) = h .after ∙ zeros-are _
 history (inserting h i) = i .after ∙ ap (changed _ false _ _) (history h) ∙ changed-entry _ false _ _ _
-history (stepping g h i) = i .after ∙ ap (changed _ _ _ _) (history h) ∙ changed-entry _ _ _ _ _
+history (stepping h i) = i .after ∙ ap (changed _ _ _ _) (history h) ∙ changed-entry _ _ _ _ _
 history (inserting-all h i) = i .after-all ∙ ap (after _ _ _) (history h) ∙ after-entries _ _ _ _
 history (withdrawing h i) = i .after ∙ ap (changed _ true _ _) (history h) ∙ changed-entry _ true _ _ _
 history (adding h g i) = combined-shared false _ _ (history h) (history g) i ∙ sym (joined _ _ _)
@@ -114,11 +114,26 @@ pub split-free : {P : Params} {es gs : List Entry} {S T : Sketch} → History P 
 split-free h g e = history h ∙ net-decides _ _ _ e ∙ sym (history g)
 
 -- so the difference of two sketches goes by the differences of the net counts
-pub difference-by-nets : {P : Params} {es gs es' gs' : List Entry} {S T S' T' : Sketch} → History P es S → History P gs T → History P es' S' → History P gs' T'
+pub combined-by-nets : {P : Params} {es gs es' gs' : List Entry} {S T S' T' : Sketch} → History P es S → History P gs T → History P es' S' → History P gs' T'
     → ((f : ℕ) → netCount es f -ℤ netCount gs f ≡ netCount es' f -ℤ netCount gs' f) → combined true S T ≡ combined true S' T'
-difference-by-nets {P} {es} {gs} {es'} {gs'} h g h' g' e =
+combined-by-nets {P} {es} {gs} {es'} {gs'} h g h' g' e =
     ap₂ (combined true) (history h) (history g)
     ∙ sym (joined-less P es gs)
     ∙ net-decides P (es ++ negated gs) (es' ++ negated gs') (λ f. net-less es gs f ∙ e f ∙ sym (net-less es' gs' f))
     ∙ joined-less P es' gs'
     ∙ sym (ap₂ (combined true) (history h') (history g'))
+
+-- the parameters of a sum or a difference that was not refused
+called-good : {minus : Bool} {P Q : Params} {S T S' : Sketch} → Combined minus P Q S T Done S' → goodParams P ≡ true
+unfolding combineAnswer
+called-good {minus} {P} {Q} c = both-lent-done P Q _ _ _ _ (first-done _ _ (sym (c .answer)) .0) .good
+
+-- and what `subtract` leaves, in two calls that were not refused, over any histories and under the same parameters, each given by itself
+pub difference-by-nets : {P Q P' Q' : Params} {es gs es' gs' : List Entry} {S T D S' T' D' : Sketch}
+    → History P es S → History Q gs T → Combined true P Q S T Done D → History P' es' S' → History Q' gs' T' → Combined true P' Q' S' T' Done D'
+    → sameParams P P' ≡ true → ((f : ℕ) → netCount es f -ℤ netCount gs f ≡ netCount es' f -ℤ netCount gs' f) → D ≡ D'
+difference-by-nets {P} {Q} {P'} {Q'} {es} {gs} {es'} {gs'} h g c h' g' c' same e =
+    history (subtracting h g c)
+    ∙ net-decides P (es ++ negated gs) (es' ++ negated gs') (λ f. net-less es gs f ∙ e f ∙ sym (net-less es' gs' f))
+    ∙ sketch-shared P P' (es' ++ negated gs') (called-good c) same
+    ∙ sym (history (subtracting h' g' c'))

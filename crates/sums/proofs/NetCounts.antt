@@ -11,7 +11,7 @@ use lib.IntN.{ℤ, pos, _+ℤ_, _-ℤ_, _*ℤ_, +ℤ-idl, +ℤ-idr, +ℤ-assoc, 
 use Rattle.field.proofs.Parts.{int, up, down, up-down-add, up-mul, down-mul}
 use Rattle.params.specs.declared.params.Params.{Params}
 use Rattle.sketch.specs.Sketch.{Entry, sketchOf}
-use Rattle.sums.specs.History.{negated, netCount}
+use Rattle.sums.specs.History.{negated, netCount, Rearranged, none, keeping, swapping, twice}
 use Rattle.sums.proofs.Weighted.{weighted, count-weighted, weight-weighted, net-weighted, weighted-append, weighted-negated, sketch-same}
 
 -- t 0 + t 1 + .. + t (n - 1)
@@ -100,7 +100,16 @@ net-append es gs f = simp net-weighted (weighted-append _ es gs)
 pub net-less : (es gs : List Entry) (f : ℕ) → netCount (es ++ negated gs) f ≡ netCount es f -ℤ netCount gs f
 net-less es gs f = net-append es (negated gs) f ∙ ap (_+ℤ_ (netCount es f)) (simp net-weighted (weighted-negated _ gs))
 
--- the order of entries does not matter
-pub order-free : (P : Params) (es gs : List Entry) → sketchOf P (es ++ gs) ≡ sketchOf P (gs ++ es)
-order-free P es gs =
-    net-decides P (es ++ gs) (gs ++ es) (λ f. net-append es gs f ∙ +ℤ-comm (netCount es f) (netCount gs f) ∙ sym (net-append gs es f))
+-- the order of entries does not matter: each flow's net count is the same in every rearrangement
+net-rearranged : {es gs : List Entry} → Rearranged es gs → (f : ℕ) → netCount es f ≡ netCount gs f
+unfolding netCount
+net-rearranged none f = refl
+net-rearranged (keeping e r) f = ap (_+ℤ_ (cond (eqb (e .flow) f) (e .number) (pos 0))) (net-rearranged r f)
+net-rearranged (swapping {es} e g) f =
+    let x = cond (eqb (e .flow) f) (e .number) (pos 0) in
+    let y = cond (eqb (g .flow) f) (g .number) (pos 0) in
+    sym (+ℤ-assoc x y (netCount es f)) ∙ ap (λ (z : ℤ). z +ℤ netCount es f) (+ℤ-comm x y) ∙ +ℤ-assoc y x (netCount es f)
+net-rearranged (twice r s) f = net-rearranged r f ∙ net-rearranged s f
+
+pub order-free : (P : Params) {es gs : List Entry} → Rearranged es gs → sketchOf P es ≡ sketchOf P gs
+order-free P r = net-decides P _ _ (net-rearranged r)

@@ -1,5 +1,4 @@
--- Histories of calls with none refused, and the net count of a flow.
-use mathlib.Core.Path.{_≡_}
+-- Histories of calls with none refused, the net count of a flow, and lists with the same entries in another order.
 use mathlib.Core.Bool.{Bool, true, false, cond}
 use mathlib.Core.List.{List, [], _∷_, _++_}
 use Prim.Native.Nat.{ℕ}
@@ -7,7 +6,6 @@ use lib.IntN.{ℤ, pos, negℤ, _+ℤ_}
 use lib.Dec.{eqb}
 use Rattle.params.specs.declared.params.Params.{Params}
 use Rattle.params.specs.declared.answers.Answer.the-variants.{Done}
-use Rattle.params.specs.Params.{goodParams}
 use Rattle.sketch.specs.Sketch.{Sketch, Entry, by, Freshened}
 use Rattle.sketch.specs.Packets.{Stepped, Inserted, Withdrawn, AllInserted, entriesOf}
 use Rattle.sums.specs.Sums.{Combined}
@@ -31,9 +29,16 @@ netCount (e ∷ es) f = cond (eqb (e .flow) f) (e .number) (pos 0) +ℤ netCount
 pub data History : Params → List Entry → Sketch → Type 0 where
   freshly : {P : Params} {S S' : Sketch} → Freshened P S Done S' → History P [] S'
   inserting : {P : Params} {es : List Entry} {S S' : Sketch} {f n : ℕ} → History P es S → Inserted P f n S Done S' → History P (es ++ (by f (pos n) ∷ [])) S'
-  stepping : {P : Params} {es : List Entry} {S S' : Sketch} {minus : Bool} {f n : ℕ} → goodParams P ≡ true → History P es S → Stepped minus P f n S Done S'
+  stepping : {P : Params} {es : List Entry} {S S' : Sketch} {minus : Bool} {f n : ℕ} → History P es S → Stepped minus P f n S Done S'
       → History P (es ++ (by f (signed minus (pos n)) ∷ [])) S'
   inserting-all : {P : Params} {es : List Entry} {S S' : Sketch} {fs ns : List ℕ} → History P es S → AllInserted P fs ns S Done S' → History P (es ++ entriesOf fs ns) S'
   withdrawing : {P : Params} {es : List Entry} {S S' : Sketch} {f n : ℕ} → History P es S → Withdrawn P f n S Done S' → History P (es ++ (by f (negℤ (pos n)) ∷ [])) S'
   adding : {P Q : Params} {es gs : List Entry} {S T S' : Sketch} → History P es S → History Q gs T → Combined false P Q S T Done S' → History P (es ++ gs) S'
   subtracting : {P Q : Params} {es gs : List Entry} {S T S' : Sketch} → History P es S → History Q gs T → Combined true P Q S T Done S' → History P (es ++ negated gs) S'
+
+-- the same entries in another order: what is first stays and the rest is rearranged, the first two change places, or one after the other
+pub data Rearranged : List Entry → List Entry → Type 0 where
+  none : Rearranged [] []
+  keeping : {es gs : List Entry} (e : Entry) → Rearranged es gs → Rearranged (e ∷ es) (e ∷ gs)
+  swapping : {es : List Entry} (e g : Entry) → Rearranged (e ∷ (g ∷ es)) (g ∷ (e ∷ es))
+  twice : {es fs gs : List Entry} → Rearranged es fs → Rearranged fs gs → Rearranged es gs
