@@ -136,3 +136,11 @@ lengths-index P c s = refuse-index (not (eqb c (size P) && eqb s (size P))) Leng
 pub lent-index : (P : Params) (c s : ℕ) → IndexZero (lentAnswer P c s)
 unfolding lentAnswer
 lent-index P c s = refuse-index (not (goodParams P)) Param _ (lengths-index P c s)
+
+-- an answer goes by a table of faults: its number is that of the first that applies, and its index is 0 unless a bucket is at fault
+pub record GoesBy (fault : Refusal → Bool) (r : Answer) : Type 0 where
+  pub number : numberIn r ≡ firstOf order fault
+  pub index : IndexZero r
+
+pub goes-by : {fault : Refusal → Bool} {answer r : Answer} → r ≡ answer → numberIn answer ≡ firstOf order fault → IndexZero answer → GoesBy fault r
+goes-by e n i = rw e (record { number = n; index = i })

@@ -14,7 +14,7 @@ use Rattle.params.specs.declared.answers.Refusal.the-variants.{Param, Le
 use Rattle.params.specs.declared.answers.Answer.{Answer}
 use Rattle.params.specs.declared.answers.Answer.the-variants.{Done, Refused}
 use Rattle.params.specs.Lists.{least}
-use Rattle.params.specs.Answers.{numberIn, refuseIf, refuseAt, first, kept}
+use Rattle.params.specs.Answers.{numberOf, numberIn, refuseIf, refuseAt, first, kept}
 use Rattle.params.proofs.answers.Answer.{the-type}
 use Rattle.params.proofs.Searches.{none-found, nothing-found}
 
@@ -24,6 +24,17 @@ Refuses r = OneOf (1 ∷ []) (tagOf the-type r)
 
 done-not : Refuses Done → ⊥
 done-not h = miss (1 ∷ []) 0 tt h
+
+-- every refusal has a number
+pub number-some : (w : Refusal) → numberOf w ≡ 0 → ⊥
+number-some Param e = omega arith
+number-some Length e = omega arith
+number-some Flow e = omega arith
+number-some Count e = omega arith
+number-some Damage e = omega arith
+number-some Range e = omega arith
+number-some Mismatch e = omega arith
+number-some Form e = omega arith
 
 -- the first of two answers: a refusal, or the second
 refused-first : (r next : Answer) → Refuses r → r ≡ first r next

@@ -11,3 +11,4 @@ pub mod TakenBack
 pub mod ManyPackets
 pub mod Lowest
 pub mod InOrder
+pub mod AtTheCall

@@ -1,5 +1,6 @@
 -- Which faults apply: to packets put in or taken out, and to an array's own stretch.
-use mathlib.Core.Bool.{Bool, false, not, _&&_}
+use mathlib.Core.Bool.{Bool, false, not, _&&_, _||_}
+use mathlib.Core.List.{List}
 use Prim.Native.Nat.{ℕ}
 use lib.Dec.{eqb, leb}
 use lib.IntN.{pos}
@@ -27,6 +28,10 @@ moveFault P minus f n S Damage = somewhere (size P) (damagedIn (stands P f) S)
 moveFault P minus f n S Range = somewhere (size P) (leavesIn (stands P f) minus (pos n) (S .counts))
 moveFault P minus f n S Mismatch = false
 moveFault P minus f n S Form = false
+
+-- many packets at once: what is judged before the first of them
+abbrev pub allFault : Params → List ℕ → List ℕ → Sketch → Refusal → Bool
+allFault P fs ns S = early (not (goodParams P)) (wrongLength P S || not (eqb (length fs) (length ns))) false
 
 -- an array's own stretch
 abbrev pub arrayFault : Params → ℕ → ℕ → Refusal → Bool

@@ -6,4 +6,5 @@ pub mod NetCounts
 pub mod Histories
 pub mod Lowest
 pub mod InOrder
+pub mod AtTheCall
 pub mod Examples
