@@ -1,4 +1,4 @@
-/* What the test copies and compares with, of C's string.h: the kit has the C library, and no headers of it. */
+/* What the tests fill and compare with, of C's string.h: the kit has the C library, and no headers of it. */
 #ifndef STRING_H
 #define STRING_H
 #include <stddef.h>
