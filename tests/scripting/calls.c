@@ -58,9 +58,12 @@ static void combine(sum *call, struct given given) {
 }
 
 static const char *const endings[] = {
-    [GABUNLITIK_ENDED_CLEAN] = "clean",           [GABUNLITIK_ENDED_STUCK] = "stuck",
-    [GABUNLITIK_ENDED_SPENT] = "spent",           [GABUNLITIK_ENDED_NO_INVERSE] = "no inverse",
-    [GABUNLITIK_ENDED_RANGE] = "range",           [GABUNLITIK_ENDED_FULL] = "full",
+    [GABUNLITIK_ENDED_CLEAN] = "clean",
+    [GABUNLITIK_ENDED_STUCK] = "stuck",
+    [GABUNLITIK_ENDED_SPENT] = "spent",
+    [GABUNLITIK_ENDED_NO_INVERSE] = "no inverse",
+    [GABUNLITIK_ENDED_RANGE] = "range",
+    [GABUNLITIK_ENDED_FULL] = "full",
 };
 
 static const char *ending_of(int64_t ending) {
