@@ -10,11 +10,11 @@ use lib.ListN.{length}
 use Rattle.params.specs.declared.params.Params.{Params}
 use Rattle.params.specs.declared.answers.Answer.{Answer}
 use Rattle.params.specs.declared.answers.Answer.the-variants.{Done, Refused}
-use Rattle.params.specs.declared.answers.Spot.{Spot}
-use Rattle.params.specs.declared.answers.Why.the-variants.{Param, Form}
-use Rattle.params.specs.Answers.{numberIn, indexIn, spotNumber, spotIndex, spotPlace, refuseIf, kept}
+use Rattle.params.specs.declared.answers.Located.{Located}
+use Rattle.params.specs.declared.answers.Refusal.the-variants.{Param, Form}
+use Rattle.params.specs.Answers.{numberIn, indexIn, locatedNumber, locatedIndex, locatedAt, refuseIf, kept}
 use Rattle.params.specs.Params.{goodParams}
-use Rattle.params.proofs.Rules.{good-sized}
+use Rattle.params.proofs.Rules.{good-dimensions}
 use Rattle.sketch.specs.Sketch.{Sketch}
 use Rattle.walk.specs.Walk.{Outcome, close}
 use Rattle.walk.proofs.Promises.{listed-few}
@@ -71,13 +71,13 @@ module _ {P : Params} {a : ℕ} {S : Sketch} {fs : List ℕ} {ns : List ℤ} {q 
       subst (λ (x : Peeled). peeledEntries x ≤ 65536) (sym (h .answer))
       (few-in (judged P a S fs ns q ms) (walked P a S fs ns q ms) (λ done. le-trans (listed-few P (length fs) a S) (judged-sound P (S .counts) (S .idsums) fs ns q ms done .few-slots)))
 
-pub spot-returned : {spot : Spot} {number place found : ℕ} (x : Spot)
-    → x ≡ spot → (number ≡ spotNumber x) × (place ≡ spotIndex x) × (found ≡ spotPlace x) → SpotReturned spot number place found
+pub spot-returned : {spot : Located} {number place found : ℕ} (x : Located)
+    → x ≡ spot → (number ≡ locatedNumber x) × (place ≡ locatedIndex x) × (found ≡ locatedAt x) → SpotReturned spot number place found
 spot-returned x e t =
     record {
-      number-returned = t .0 ∙ ap spotNumber e;
-      place-returned = t .1 ∙ ap spotIndex e;
-      found-returned = t .2 ∙ ap spotPlace e;
+      number-returned = t .0 ∙ ap locatedNumber e;
+      place-returned = t .1 ∙ ap locatedIndex e;
+      found-returned = t .2 ∙ ap locatedAt e;
     }
 
 pub head-returned : {headed : Headed} {number place : ℕ} {numbers : List ℕ} (x : Headed)
@@ -103,7 +103,7 @@ module _ (bs : List ℕ) where
       go : (h g : Bool) → goodParams (paramsIn bs) ≡ g → (judgedParams h g .d ≤ 4) × (judgedParams h g .m ≤ 16384)
       go false g e = (omega arith, omega arith)
       go true false e = (omega arith, omega arith)
-      go true true e = let s = good-sized (paramsIn bs) e in (s .d-high, s .m-high)
+      go true true e = let s = good-dimensions (paramsIn bs) e in (s .d-high, s .m-high)
 
   -- the ten numbers of a head give its parameters to every other call
   pub head-back : paramsOf (numbersOf (headOf bs .params)) ≡ headOf bs .params

@@ -6,9 +6,9 @@ use Prim.Native.Nat.{ℕ}
 use lib.IntN.{ℤ}
 use lib.ListN.{length}
 use Rattle.params.specs.declared.params.Params.{Params}
-use Rattle.params.specs.Answers.{spotOf}
-use Rattle.params.specs.Params.{shapeAnswer}
-use Rattle.params.specs.Places.{standAnswer, position, index}
+use Rattle.params.specs.Answers.{locatedOf}
+use Rattle.params.specs.Params.{lentAnswer}
+use Rattle.params.specs.Positions.{positionAnswer, position, index}
 use Rattle.sketch.specs.Sketch.{Sketch, Freshened}
 use Rattle.sketch.specs.Packets.{moveAnswer, allAnswer, Inserted, Withdrawn, AllInserted}
 use Rattle.sums.specs.Sums.{combineAnswer, Combined}
@@ -22,7 +22,7 @@ use Rattle.sketchfile.specs.Writing as sketches
 use Rattle.face.specs.Told.{Told, ToldLength, ToldFigures, SpotReturned, HeadReturned}
 
 abbrev pub FreshenedFor : Params → Sketch → ℕ → ℕ → Sketch → Type 0
-FreshenedFor P S r k S' = Told (shapeAnswer P (length (S .counts)) (length (S .idsums))) (λ x. Freshened P S x S') r k
+FreshenedFor P S r k S' = Told (lentAnswer P (length (S .counts)) (length (S .idsums))) (λ x. Freshened P S x S') r k
 
 abbrev pub InsertedFor : Params → ℕ → ℕ → Sketch → ℕ → ℕ → Sketch → Type 0
 InsertedFor P f n S r k S' = Told (moveAnswer P false f n S) (λ x. Inserted P f n S x S') r k
@@ -39,10 +39,10 @@ CombinedFor minus P Q S T r k S' = Told (combineAnswer minus P Q S T) (λ x. Com
 
 -- n is the position, or the index, that the caller gets of flow f in array i
 abbrev pub PositionFor : Params → ℕ → ℕ → ℕ → ℕ → ℕ → Type 0
-PositionFor P i f r k n = SpotReturned (spotOf (standAnswer P i f) (position P i f)) r k n
+PositionFor P i f r k n = SpotReturned (locatedOf (positionAnswer P i f) (position P i f)) r k n
 
 abbrev pub IndexFor : Params → ℕ → ℕ → ℕ → ℕ → ℕ → Type 0
-IndexFor P i f r k n = SpotReturned (spotOf (standAnswer P i f) (index P i f)) r k n
+IndexFor P i f r k n = SpotReturned (locatedOf (positionAnswer P i f) (index P i f)) r k n
 
 -- ns are the ten numbers that the caller gets of the head of the file bs
 abbrev pub HeadReadFor : List ℕ → ℕ → ℕ → List ℕ → Type 0

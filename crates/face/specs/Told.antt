@@ -6,8 +6,8 @@ use lib.IntN.{ℤ, pos}
 use lib.ListN.{getD}
 use Rattle.params.specs.declared.params.Params.{Params}
 use Rattle.params.specs.declared.answers.Answer.{Answer}
-use Rattle.params.specs.declared.answers.Spot.{Spot}
-use Rattle.params.specs.Answers.{numberIn, indexIn, spotNumber, spotIndex, spotPlace}
+use Rattle.params.specs.declared.answers.Located.{Located}
+use Rattle.params.specs.Answers.{numberIn, indexIn, locatedNumber, locatedIndex, locatedAt}
 use Rattle.files.specs.declared.heads.Headed.{Headed}
 use Rattle.files.specs.declared.writing.Written.{Written}
 use Rattle.files.specs.Writing.{writtenNumber, writtenIndex, writtenLength}
@@ -56,10 +56,10 @@ pub record ToldFigures (peeled : Peeled) (Contract : Peeled → Type 0) (number 
 
 -- What a call that alters no lent memory returns: the number and the place with the position or the index that was found, or with the
 -- numbers of a head's parameters.
-pub record SpotReturned (spot : Spot) (number place found : ℕ) : Type 0 where
-  pub number-returned : number ≡ spotNumber spot
-  pub place-returned : place ≡ spotIndex spot
-  pub found-returned : found ≡ spotPlace spot
+pub record SpotReturned (spot : Located) (number place found : ℕ) : Type 0 where
+  pub number-returned : number ≡ locatedNumber spot
+  pub place-returned : place ≡ locatedIndex spot
+  pub found-returned : found ≡ locatedAt spot
 
 pub record HeadReturned (headed : Headed) (number place : ℕ) (numbers : List ℕ) : Type 0 where
   pub number-returned : number ≡ numberIn (headed .answer)

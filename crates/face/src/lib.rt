@@ -2,6 +2,6 @@
 // the number of the refusal, or 0 where it is done, and tells the place that goes with it. include/gabunlitik.h is its header.
 mod told; // parameters from ten numbers, and answers as numbers
 pub mod filing; // stream files and sketch files, read and written, and the head of a file
-pub mod places; // positions and indexes
+pub mod positions; // positions and indexes
 pub mod sketches; // fresh sketches, packets, sums and differences
 pub mod walks; // peeling

@@ -1,7 +1,7 @@
 // Parameters from ten numbers, and answers as numbers: C knows neither our structs nor our enums.
 ghost use mathlib.Core.Path.{_≡_};
 ghost use Prim.Native.Nat.{_≤_};
-ghost use Rattle.params.specs.Answers.{numberIn, indexIn, spotNumber, spotIndex, spotPlace};
+ghost use Rattle.params.specs.Answers.{numberIn, indexIn, locatedNumber, locatedIndex, locatedAt};
 ghost use Rattle.files.specs.Writing.{writtenNumber, writtenIndex, writtenLength};
 ghost use Rattle.walk.specs.Endings.{endingNumber};
 ghost use Rattle.peel.specs.Peel.{peeledNumber, peeledIndex, peeledEntries};
@@ -9,7 +9,7 @@ ghost use Rattle.face.specs.Told.{paramsOf, numbersOf, figuresIn};
 use files::writing::Written;
 use params::Answer;
 use params::Params;
-use params::Spot;
+use params::Located;
 use peel::peeling::Peeled;
 use walk::Ending;
 
@@ -64,27 +64,27 @@ pub(crate) fn tell(answer: Answer, place: &mut usize) -> u32
             *place = 0;
             0
         }
-        Answer::Refused(why, index) => {
+        Answer::Refused(refusal, index) => {
             *place = index;
-            why.number()
+            refusal.number()
         }
     }
 }
 
 // The same for a position or an index, which goes to `found`.
-pub(crate) fn spot_number(spot: Spot, found: &mut usize, place: &mut usize) -> u32
-    ensures { λ r. ⌜ (r ≡ spotNumber spot) × (now (place .exit) ≡ spotIndex spot) × (now (found .exit) ≡ spotPlace spot) ⌝ }
+pub(crate) fn spot_number(spot: Located, found: &mut usize, place: &mut usize) -> u32
+    ensures { λ r. ⌜ (r ≡ locatedNumber spot) × (now (place .exit) ≡ locatedIndex spot) × (now (found .exit) ≡ locatedAt spot) ⌝ }
 {
     match spot {
-        Spot::At(at) => {
+        Located::At(at) => {
             *found = at;
             *place = 0;
             0
         }
-        Spot::Refused(why, index) => {
+        Located::Refused(refusal, index) => {
             *found = 0;
             *place = index;
-            why.number()
+            refusal.number()
         }
     }
 }
@@ -99,10 +99,10 @@ pub(crate) fn tell_written(written: Written, length: &mut usize, place: &mut usi
             *place = 0;
             0
         }
-        Written::Refused(why, index) => {
+        Written::Refused(refusal, index) => {
             *length = 0;
             *place = index;
-            why.number()
+            refusal.number()
         }
     }
 }
@@ -138,10 +138,10 @@ pub(crate) fn tell_peeled(peeled: Peeled, figures: &mut [i64; 4], place: &mut us
             *place = 0;
             0
         }
-        Peeled::Refused(why, index) => {
+        Peeled::Refused(refusal, index) => {
             *figures = [0; 4];
             *place = index;
-            why.number()
+            refusal.number()
         }
     }
 }

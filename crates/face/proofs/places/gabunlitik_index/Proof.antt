@@ -1,8 +1,8 @@
 -- `face::places::gabunlitik_index` meets its contract: what the library answers, in numbers.
 use Rattle.face.proofs.Telling.{spot-returned}
 use borrow.Author.Needs.{needs}
-use Rattle.face.proofs.places.gabunlitik_index.Statement.{statement}
-use Rattle.face.proofs.places.gabunlitik_index.Tie as tie
+use Rattle.face.proofs.positions.gabunlitik_index.Statement.{statement}
+use Rattle.face.proofs.positions.gabunlitik_index.Tie as tie
 
 params-of-requires : tie.Need-params-of-requires
 params-of-requires c κs = search needs

@@ -1,8 +1,8 @@
 -- `face::places::gabunlitik_position` meets its contract: what the library answers, in numbers.
 use Rattle.face.proofs.Telling.{spot-returned}
 use borrow.Author.Needs.{needs}
-use Rattle.face.proofs.places.gabunlitik_position.Statement.{statement}
-use Rattle.face.proofs.places.gabunlitik_position.Tie as tie
+use Rattle.face.proofs.positions.gabunlitik_position.Statement.{statement}
+use Rattle.face.proofs.positions.gabunlitik_position.Tie as tie
 
 params-of-requires : tie.Need-params-of-requires
 params-of-requires c κs = search needs
