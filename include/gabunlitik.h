@@ -7,8 +7,8 @@
  * It ends, and it takes every input: what cannot be done is refused by number. It returns 0 where it is done and else one of the
  * refusals below. *place is then the lowest bucket at fault for DAMAGE and RANGE of the sketches that are lent; for every fault of a
  * record in a file that is read, the offset of its kind byte, or the file's length where a record is missing; and 0 for anything
- * else, as it is where nothing was refused. A refusal alters no lent memory but what the call tells through `place`, `length` and
- * `figures`. Where several things are wrong the lowest number is told, save that MISMATCH comes after PARAM and before LENGTH, that
+ * else, as it is where nothing was refused. A refusal alters no lent memory but what the call tells through `place`, `length`,
+ * `figures`, `position`, `index` and the parameters of a head. Where several things are wrong the lowest number is told, save that MISMATCH comes after PARAM and before LENGTH, that
  * of a list of packets that are inserted the first that is refused decides, and that a file is judged in its own order
  * (docs/FORMAT.md).
  *
@@ -16,9 +16,9 @@
  *
  * A slice goes as a pointer and the number of its elements. Every pointer is aligned for its type and not NULL, even where the
  * length is 0, and points to at least so many elements that may be read, and written where it is not const, until the call returns.
- * Memory that is lent holds numbers, of whatever value: it is initialised, save what `place`, `length` and `figures` point to.
- * Nothing that a call may write, `place`, `length` and `figures` among it, overlaps anything else that is handed to that call. What
- * a call writes is not to be read or written by another thread meanwhile.
+ * Memory that is lent holds numbers, of whatever value: it is initialised, save what `place`, `length`, `figures`, `position`,
+ * `index` and the parameters of a head point to. Nothing that a call may write, these among it, overlaps anything else that is
+ * handed to that call. What a call writes is not to be read or written by another thread meanwhile.
  *
  * A sketch is lent as two slices, counts and idsums, each d * m long; a slice of another length is LENGTH. The lengths are
  * parameters of their own, so that a slice which is too short is refused and not read past its end.
@@ -89,6 +89,13 @@ uint32_t gabunlitik_insert(const uint32_t params[GABUNLITIK_PARAMS],
                            uint32_t flow, uint32_t number,
                            size_t *place);
 
+/* Takes `number` packets of `flow` out again, likewise; a flow of which there are none, or not so many, gets a count below 0. */
+uint32_t gabunlitik_withdraw(const uint32_t params[GABUNLITIK_PARAMS],
+                             int32_t *counts, size_t counts_len,
+                             uint32_t *idsums, size_t idsums_len,
+                             uint32_t flow, uint32_t number,
+                             size_t *place);
+
 /* Puts numbers[i] packets of flows[i] in, for each i in turn, or none at all: the first that is refused is told, with its bucket where
  * one is at fault, and the sketch is as it was before the call. The two lists have one length, and it may be any. */
 uint32_t gabunlitik_insert_all(const uint32_t params[GABUNLITIK_PARAMS],
@@ -130,6 +137,26 @@ uint32_t gabunlitik_peel(const uint32_t params[GABUNLITIK_PARAMS],
                          uint32_t allowance,
                          int64_t figures[GABUNLITIK_FIGURES],
                          size_t *place);
+
+/* Writes where `flow` stands in `array`, which counts from 1: its position there, 0 to m - 1. It is 0 where the call is refused. An
+ * array that there is not is PARAM. */
+uint32_t gabunlitik_position(const uint32_t params[GABUNLITIK_PARAMS],
+                             uint32_t array, uint32_t flow,
+                             size_t *position,
+                             size_t *place);
+
+/* Writes the index of the flow's bucket in `array`, (array - 1) * m + position, likewise: where it lies in counts and idsums. */
+uint32_t gabunlitik_index(const uint32_t params[GABUNLITIK_PARAMS],
+                          uint32_t array, uint32_t flow,
+                          size_t *index,
+                          size_t *place);
+
+/* Writes the parameters in the head of a file of either kind, so that slices of the right lengths can be lent to the call that reads
+ * it. All ten are 0 where it is refused: FORM where the bytes do not start with a whole head, PARAM where its parameters break a
+ * rule. What stands after the head is not looked at. */
+uint32_t gabunlitik_read_head(const uint8_t *bytes, size_t bytes_len,
+                              uint32_t params[GABUNLITIK_PARAMS],
+                              size_t *place);
 
 /* Inserts the packets of a stream file, whose head has these parameters, in turn. After a refusal the sketch is as it was. Damage
  * in the lent sketch is told at its bucket, RANGE of a packet at its record. */

@@ -62,6 +62,14 @@ static void lost_and_doubled(void) {
     expect(&expected, FIRST, 3);
     expect(&expected, SECOND, 5);
     CHECK(memcmp(&s, &expected, sizeof s) == 0);
+    t.number = gabunlitik_withdraw(params, s.counts, SIZE, s.idsums, SIZE, FIRST, 7, &t.place);
+    CHECK_DONE(t);
+    expect(&expected, FIRST, -7);
+    CHECK(memcmp(&s, &expected, sizeof s) == 0);
+    CHECK_DONE(insert_four(params, &s, FIRST, 7));
+    expect(&expected, FIRST, 7);
+    CHECK(memcmp(&s, &expected, sizeof s) == 0);
+    t = untold();
     t.number = gabunlitik_subtract(params, params, s.counts, SIZE, s.idsums, SIZE, other.counts, SIZE, other.idsums,
                                    SIZE, &t.place);
     CHECK_DONE(t);
@@ -81,11 +89,6 @@ static void lost_and_doubled(void) {
     CHECK(memcmp(&s, &zeros, sizeof s) == 0);
 }
 
-static void put(uint8_t *bytes, uint32_t number) {
-    for (size_t i = 0; i < 4; i++)
-        bytes[i] = (uint8_t)(number >> (24 - 8 * i));
-}
-
 /* The file of an empty sketch: a head with every number in its place, and an end that counts 0 records. */
 static void head(void) {
     uint32_t params[GABUNLITIK_PARAMS];
@@ -103,6 +106,31 @@ static void head(void) {
     t.number = gabunlitik_write_sketch(params, s.counts, SIZE, s.idsums, SIZE, written, EMPTY, &length, &t.place);
     CHECK_DONE(t);
     CHECK(length == EMPTY && memcmp(written, expected, EMPTY) == 0);
+    uint32_t read[GABUNLITIK_PARAMS];
+    memset(read, 0xa5, sizeof read);
+    t = untold();
+    t.number = gabunlitik_read_head(written, EMPTY, read, &t.place);
+    CHECK_DONE(t);
+    CHECK(memcmp(read, params, sizeof read) == 0);
+}
+
+/* Where both flows stand in every array. */
+static void places(void) {
+    uint32_t params[GABUNLITIK_PARAMS];
+    set(params);
+    for (size_t i = 0; i < 2 * ARRAYS; i++) {
+        uint32_t array = (uint32_t)(i / 2 + 1), flow = i % 2 ? FIRST : SECOND;
+        size_t wanted = position(array - 1, flow), found;
+        struct told t = untold();
+        memset(&found, 0xa5, sizeof found);
+        t.number = gabunlitik_position(params, array, flow, &found, &t.place);
+        CHECK_DONE(t);
+        CHECK(found == wanted);
+        t = untold();
+        t.number = gabunlitik_index(params, array, flow, &found, &t.place);
+        CHECK_DONE(t);
+        CHECK(found == (array - 1) * WIDTH + wanted);
+    }
 }
 
 /* A change of any of the ten numbers is seen. */
@@ -129,5 +157,6 @@ static void changed(void) {
 void test_arrays(void) {
     lost_and_doubled();
     head();
+    places();
     changed();
 }

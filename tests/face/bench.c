@@ -7,6 +7,22 @@ const uint32_t K[GABUNLITIK_PARAMS] = {D, M, 1, 1073741824, 0, 0, 0, 0, 0, 0};
 const uint32_t OTHER[GABUNLITIK_PARAMS] = {D, M, 1, 1073741824, 0, 0, 0, 1, 0, 0};
 const uint32_t BAD[GABUNLITIK_PARAMS] = {5, M, 1, 1073741824, 0, 0, 0, 0, 0, 0};
 
+const uint32_t BROKEN[WAYS][GABUNLITIK_PARAMS] = {
+    {5, M, 1, 1073741824, 0, 0, 0, 0, 0, 0},          /* d */
+    {0, M, 0, 0, 0, 0, 0, 0, 0, 0},
+    {1, M, 1, 0, 0, 0, 0, 0, 0, 0},
+    {5, M, 1, 2, 3, 4, 0, 0, 0, 0},
+    {D, 0, 1, 1073741824, 0, 0, 0, 0, 0, 0},          /* m */
+    {D, 16385, 1, 1073741824, 0, 0, 0, 0, 0, 0},
+    {D, M, 1, 0, 0, 0, 0, 0, 0, 0},                   /* a multiplier */
+    {D, M, 1, 2147483647, 0, 0, 0, 0, 0, 0},
+    {D, M, 1, 1073741824, 0, 0, 0, 2147483647, 0, 0}, /* an offset */
+    {D, M, 1, 1, 0, 0, 7, 7, 0, 0},                   /* two equal pairs */
+    {3, M, 1, 2, 1, 0, 5, 5, 5, 0},
+    {D, M, 1, 1073741824, 1, 0, 0, 0, 0, 0},          /* a pair past the last array */
+    {D, M, 1, 1073741824, 0, 0, 0, 0, 0, 1},
+};
+
 static const int32_t GUARD = -2023406815;
 static int checks, failures;
 
@@ -83,6 +99,12 @@ struct told insert(struct sketch *s, uint32_t flow, uint32_t number) {
     return t;
 }
 
+struct told withdraw(struct sketch *s, uint32_t flow, uint32_t number) {
+    struct told t = untold();
+    t.number = gabunlitik_withdraw(K, s->counts, BUCKETS, s->idsums, BUCKETS, flow, number, &t.place);
+    return t;
+}
+
 struct told insert_all(struct sketch *s, const uint32_t *flows, const uint32_t *numbers, size_t n) {
     struct told t = untold();
     t.number = gabunlitik_insert_all(K, s->counts, BUCKETS, s->idsums, BUCKETS, flows, n, numbers, n, &t.place);
@@ -117,11 +139,17 @@ int used(const struct sketch *s) {
     return n;
 }
 
+void put(uint8_t *bytes, uint32_t number) {
+    for (size_t i = 0; i < 4; i++)
+        bytes[i] = (uint8_t)(number >> (24 - 8 * i));
+}
+
 int main(void) {
     test_sketches();
     test_sums();
     test_arrays();
     test_walks();
+    test_places();
     test_files();
     test_longest();
     printf("face: %d checks, %d failed\n", checks, failures);

@@ -15,6 +15,10 @@ extern const uint32_t K[GABUNLITIK_PARAMS];
 extern const uint32_t OTHER[GABUNLITIK_PARAMS];
 extern const uint32_t BAD[GABUNLITIK_PARAMS];
 
+/* Parameters that break one rule each; the first is BAD. */
+enum { WAYS = 13 };
+extern const uint32_t BROKEN[WAYS][GABUNLITIK_PARAMS];
+
 struct sketch {
     int32_t counts[BUCKETS];
     int32_t counts_guard;
@@ -56,6 +60,7 @@ struct sketch e6(void); /* 7 by -4 */
 struct sketch e7(void); /* 2147483646 by 2147483646 */
 
 struct told insert(struct sketch *s, uint32_t flow, uint32_t number);
+struct told withdraw(struct sketch *s, uint32_t flow, uint32_t number);
 struct told insert_all(struct sketch *s, const uint32_t *flows, const uint32_t *numbers, size_t n);
 struct told add(struct sketch *s, const struct sketch *other);
 struct told subtract(struct sketch *s, const struct sketch *other);
@@ -66,10 +71,14 @@ int bucket_is(const struct sketch *s, size_t index, int32_t count, uint32_t idsu
 /* How many buckets are not all zero. */
 int used(const struct sketch *s);
 
+/* A number as four bytes, big-endian. */
+void put(uint8_t *bytes, uint32_t number);
+
 void test_sketches(void);
 void test_sums(void);
 void test_arrays(void);
 void test_walks(void);
+void test_places(void);
 void test_files(void);
 void test_longest(void);
 

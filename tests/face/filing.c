@@ -1,4 +1,4 @@
-/* Stream files and sketch files, read and written, called from C. */
+/* Stream files and sketch files, read and written, and their heads, called from C. */
 #include "bench.h"
 
 #define HEAD 1, 2, 0, 0, 0, 5, 0, 0, 0, 1, 0, 0, 0, 0, 64, 0, 0, 0, 0, 0, 0, 0, ZEROS_16
@@ -94,6 +94,60 @@ static struct told read_changed_sketch(struct sketch *s, size_t at, uint8_t byte
     return read_sketch(s, o.bytes, o.length);
 }
 
+/* What a call told of a head, and the parameters that it wrote. */
+struct headed {
+    struct told told;
+    uint32_t params[GABUNLITIK_PARAMS];
+};
+
+static struct headed read_head(const uint8_t *bytes, size_t length) {
+    struct headed h;
+    h.told = untold();
+    memset(h.params, 0xa5, sizeof h.params);
+    h.told.number = gabunlitik_read_head(bytes, length, h.params, &h.told.place);
+    return h;
+}
+
+/* Every byte of the parameters is 0 after a refusal. */
+static void check_headless(struct headed h, uint32_t number) {
+    static const uint32_t none[GABUNLITIK_PARAMS];
+    CHECK_TOLD(h.told, number, 0);
+    CHECK(memcmp(h.params, none, sizeof none) == 0);
+}
+
+/* The head of both files is K; what stands after it does not matter. */
+static void heads(void) {
+    struct headed h = read_head(stream, STREAM);
+    struct output o = changed(stream, STREAM, 38, 255);
+    CHECK_DONE(h.told);
+    CHECK(memcmp(h.params, K, sizeof K) == 0);
+    h = read_head(stored, SKETCH);
+    CHECK_DONE(h.told);
+    CHECK(memcmp(h.params, K, sizeof K) == 0);
+    h = read_head(stream, 38);
+    CHECK_DONE(h.told);
+    CHECK(memcmp(h.params, K, sizeof K) == 0);
+    h = read_head(o.bytes, o.length);
+    CHECK_DONE(h.told);
+    for (size_t length = 0; length < 38; length++)
+        check_headless(read_head(stream, length), GABUNLITIK_FORM);
+    for (unsigned kind = 0; kind < 256; kind++)
+        if (kind != 1) {
+            o = changed(stream, STREAM, 0, (uint8_t)kind);
+            check_headless(read_head(o.bytes, o.length), GABUNLITIK_FORM);
+        }
+    for (size_t i = 0; i < WAYS; i++) {
+        o = changed(stream, STREAM, 1, (uint8_t)BROKEN[i][GABUNLITIK_D]);
+        put(o.bytes + 2, BROKEN[i][GABUNLITIK_M]);
+        for (size_t j = 0; j < 4; j++) {
+            put(o.bytes + 6 + 8 * j, BROKEN[i][GABUNLITIK_MULTIPLIERS + j]);
+            put(o.bytes + 10 + 8 * j, BROKEN[i][GABUNLITIK_OFFSETS + j]);
+        }
+        check_headless(read_head(o.bytes, o.length), GABUNLITIK_PARAM);
+        check_headless(read_head(o.bytes, 37), GABUNLITIK_FORM);
+    }
+}
+
 static void refused_streams(void) {
     struct sketch s = e7(), kept = s;
     struct output longer = changed(stream, STREAM, STREAM, 0);
@@ -106,7 +160,16 @@ static void refused_streams(void) {
     t = untold();
     t.number = gabunlitik_read_stream(K, s.counts, BUCKETS, s.idsums, BUCKETS - 1, stream, STREAM, &t.place);
     CHECK_REFUSED(t, GABUNLITIK_LENGTH, 0, &s, &kept);
+    CHECK_REFUSED(read_stream(&s, stream, 0), GABUNLITIK_FORM, 0, &s, &kept);
     CHECK_REFUSED(read_stream(&s, stream, 37), GABUNLITIK_FORM, 0, &s, &kept);
+    CHECK_REFUSED(read_stream(&s, stream, 55), GABUNLITIK_FORM, 47, &s, &kept);
+    CHECK_REFUSED(read_changed_stream(&s, 0, 5), GABUNLITIK_FORM, 0, &s, &kept);  /* an unknown kind first */
+    CHECK_REFUSED(read_changed_stream(&s, 1, 5), GABUNLITIK_PARAM, 0, &s, &kept); /* d 5 in the head */
+    CHECK_REFUSED(read_changed_stream(&s, 5, 6), GABUNLITIK_MISMATCH, 0, &s, &kept); /* m 6 in the head */
+    CHECK_REFUSED(read_changed_stream(&s, 47, 3), GABUNLITIK_FORM, 47, &s, &kept); /* a bucket for the second record */
+    CHECK_REFUSED(read_changed_stream(&s, 47, 9), GABUNLITIK_FORM, 47, &s, &kept); /* an unknown kind for it */
+    CHECK_REFUSED(read_changed_stream(&s, 60, 4), GABUNLITIK_FORM, 56, &s, &kept); /* an end that says 4 */
+    CHECK_REFUSED(read_changed_stream(&s, 52, 128), GABUNLITIK_COUNT, 47, &s, &kept); /* number 2147483650 */
     CHECK_REFUSED(read_stream(&s, stream, STREAM - 1), GABUNLITIK_FORM, 56, &s, &kept);
     CHECK_REFUSED(read_stream(&s, stream, 56), GABUNLITIK_FORM, 56, &s, &kept);
     CHECK_REFUSED(read_stream(&s, longer.bytes, STREAM + 1), GABUNLITIK_FORM, STREAM, &s, &kept);
@@ -135,6 +198,11 @@ static void refused_sketches(void) {
     CHECK_REFUSED(read_changed_sketch(&s, 60, 255), GABUNLITIK_DAMAGE, 51, &s, &kept); /* an idsum above its limit */
     CHECK_REFUSED(read_changed_sketch(&s, 55, 2), GABUNLITIK_FORM, 51, &s, &kept);     /* index 2 again */
     CHECK_REFUSED(read_changed_sketch(&s, 81, 2), GABUNLITIK_FORM, 77, &s, &kept);     /* a wrong end count */
+    CHECK_REFUSED(read_changed_sketch(&s, 68, 10), GABUNLITIK_FORM, 64, &s, &kept);    /* an index past the last */
+    CHECK_REFUSED(read_changed_sketch(&s, 51, 2), GABUNLITIK_FORM, 51, &s, &kept);     /* packets */
+    CHECK_REFUSED(read_changed_sketch(&s, 5, 4), GABUNLITIK_MISMATCH, 0, &s, &kept);   /* m 4 in the head */
+    CHECK_DONE(read_changed_sketch(&s, 43, 128)); /* a count of -2147483645 is within its limits */
+    CHECK(bucket_is(&s, 2, -2147483645, 31));
 }
 
 /* A refused writer tells the length 0 and leaves its output alone. */
@@ -176,9 +244,26 @@ static void refused_writing(void) {
     check_unwritten(&o);
 }
 
+/* Damaged buckets count as records, so that an output which is one byte too short for them is LENGTH. */
+static void damaged_writing(void) {
+    static uint8_t out[43 + 13 * BUCKETS], kept[43 + 13 * BUCKETS];
+    struct sketch s = fresh_sketch();
+    for (size_t room = sizeof out - 1; room <= sizeof out; room++) {
+        struct told t = untold();
+        size_t length;
+        memset(&length, 0xa5, sizeof length);
+        memset(s.idsums, 0xff, sizeof s.idsums);
+        t.number = gabunlitik_write_sketch(K, s.counts, BUCKETS, s.idsums, BUCKETS, out, room, &length, &t.place);
+        CHECK_TOLD(t, room == sizeof out ? GABUNLITIK_DAMAGE : GABUNLITIK_LENGTH, 0);
+        CHECK(length == 0 && memcmp(out, kept, sizeof out) == 0);
+    }
+}
+
 void test_files(void) {
     there_and_back();
+    heads();
     refused_streams();
     refused_sketches();
     refused_writing();
+    damaged_writing();
 }

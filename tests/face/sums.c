@@ -14,6 +14,18 @@ static void sums(void) {
     CHECK(same(&other, &kept));
 }
 
+/* E7 and flow 1 by 1 meet at index 1: a sum past the limit, and a difference through zero. */
+static void at_the_limits(void) {
+    struct sketch s = e7(), other = fresh_sketch(), kept = s;
+    CHECK_DONE(insert(&other, 1, 1));
+    CHECK_REFUSED(add(&s, &other), GABUNLITIK_RANGE, 1, &s, &kept);
+    CHECK_DONE(subtract(&s, &other));
+    CHECK(used(&s) == 3);
+    CHECK(bucket_is(&s, 1, 2147483645, 0));
+    CHECK(bucket_is(&s, 8, 2147483646, 1));
+    CHECK(bucket_is(&s, 9, -1, 2147483646));
+}
+
 static void refused_content(void) {
     struct sketch s = e7(), other = e7(), kept = s, other_kept = other;
     CHECK_REFUSED(add(&s, &other), GABUNLITIK_RANGE, 1, &s, &kept);
@@ -78,6 +90,7 @@ static void refused_lengths(void) {
 
 void test_sums(void) {
     sums();
+    at_the_limits();
     refused_content();
     refused_parameters();
     refused_lengths();

@@ -89,6 +89,10 @@ static void stuck_and_full(void) {
     CHECK(figures_are(&w, GABUNLITIK_ENDED_STUCK, 0, 0, 0));
     CHECK(cleared(&w));
     CHECK(same(&s, &kept));
+    w = unwalked();
+    CHECK_DONE(peel(&s, &w, MOST_SLOTS, 0)); /* stuck comes before spent */
+    CHECK(figures_are(&w, GABUNLITIK_ENDED_STUCK, 0, 0, 0));
+    CHECK(same(&s, &kept));
     s = kept = e1();
     CHECK_DONE(peel(&s, &w, 0, 80)); /* E10 */
     CHECK(figures_are(&w, GABUNLITIK_ENDED_FULL, 0, 0, 2));

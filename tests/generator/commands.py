@@ -2,7 +2,7 @@
 
 import struct
 
-# The commands by their numbers, with the names of their operands. After STORE and the readers come as many numbers or bytes
+# The commands by their numbers, with the names of their operands. After STORE and those of WITH_BYTES come as many numbers or bytes
 # as the last operand says.
 PAIRS = ("a1", "b1", "a2", "b2", "a3", "b3", "a4", "b4")
 COMMANDS = {
@@ -11,7 +11,9 @@ COMMANDS = {
     8: ("add", ()), 9: ("subtract", ()), 10: ("peel", ("allowance",)), 11: ("read stream", ("bytes",)),
     12: ("read sketch", ("bytes",)), 13: ("read stream back", ()), 14: ("read sketch back", ()), 15: ("write stream", ()),
     16: ("write sketch", ()), 17: ("position", ("array", "flow")), 18: ("index", ("array", "flow")), 19: ("show", ()),
+    20: ("withdraw", ("flow", "number")), 21: ("head", ("bytes",)), 22: ("head back", ()),
 }
+WITH_BYTES = ("read stream", "read sketch", "head")
 NUMBERS = {name: number for number, (name, _) in COMMANDS.items()}
 SLICES = (
     "counts", "idsums", "table flows", "table counts", "queue", "marks", "packet flows", "packet numbers", "output")
@@ -89,7 +91,7 @@ def commands(script):
             yield at, None, (), script[at:]
             return
         values = struct.unpack(f">{len(operands)}I", script[at + 1:end])
-        after = 4 * values[2] if name == "store" else values[0] if name in ("read stream", "read sketch") else 0
+        after = 4 * values[2] if name == "store" else values[0] if name in WITH_BYTES else 0
         if end + after > len(script):
             yield at, None, (), script[at:]
             return

@@ -156,8 +156,8 @@ def one_flow(rng):
     return script.bytes
 
 
-def inserts(rng):
-    """Packets into any content, with the buckets of a flow near the limits, damaged, or both, and damage elsewhere."""
+def moved(rng, name, sign):
+    """Packets put in, or taken out where the sign is -1, with the buckets of a flow near the limit on that side, damaged, or both."""
     params = any_params(rng, 1, 8)
     script = Script()
     script.sketch(1, params)
@@ -169,12 +169,27 @@ def inserts(rng):
         for index in indexes(params, flow):
             reached = rng.choice((MOST, MOST, MOST + 1, 0, 5))
             if rng.random() < 0.6:
-                script.bucket(index, max(reached - number, -MOST) if 0 < number <= MOST else 3, any_idsum(rng))
+                script.bucket(index, sign * max(reached - number, -MOST) if 0 < number <= MOST else 3, any_idsum(rng))
             if rng.random() < 0.1:
                 damage(rng, script, 1, index)
         if rng.random() < 0.2:
             damage(rng, script, 1, rng.randrange(params.d * params.m))
-        script.add("insert", 1, (flow if rng.random() < 0.9 else rng.choice((P, P + 1, WORD)), number))
+        script.add(name, 1, (flow if rng.random() < 0.9 else rng.choice((P, P + 1, WORD)), number))
+        script.add("show")
+    return script
+
+
+def inserts(rng):
+    """Packets into any content, with the buckets of a flow near the limits, damaged, or both, and damage elsewhere."""
+    return moved(rng, "insert", 1).bytes
+
+
+def withdrawals(rng):
+    """Packets out of any content, likewise near the lower limit; then some put in and taken out again, or the other way round."""
+    script = moved(rng, "withdraw", -1)
+    entry = (any_flow(rng), rng.choice((1, rng.randint(1, 9), QUIET, QUIET + 1, MOST)))
+    for name in rng.choice((("insert", "withdraw"), ("withdraw", "insert"), ("withdraw", "withdraw"))):
+        script.add(name, 1, entry)
         script.add("show")
     return script.bytes
 
@@ -292,7 +307,7 @@ def calls(rng, params):
     """All calls that have no file as operand, in any order."""
     flow = rng.choice((any_flow(rng), any_flow(rng), P))
     made = [
-        ("insert", (flow, rng.choice((1, 1, 0, MOST)))), ("insert all", ()), ("add", ()), ("subtract", ()),
+        ("insert", (flow, rng.choice((1, 1, 0, MOST)))), ("withdraw", (flow, rng.choice((1, 1, 0, MOST)))), ("insert all", ()), ("add", ()), ("subtract", ()),
         ("peel", (rng.randint(0, 30),)), ("write stream", ()), ("write sketch", ()), ("read stream back", ()),
         ("read sketch back", ()), ("position", (rng.randint(0, params.d + 1), flow)),
         ("index", (rng.randint(0, params.d + 1), flow)), ("fresh", ())]

@@ -1,4 +1,4 @@
-"""Scripts about files: sound and faulty ones read, and files written and read back."""
+"""Scripts about files: sound and faulty ones read, their heads alone, and files written and read back."""
 
 from generator.commands import Script
 from generator.files import MOST, P, WORD, Params, bucket, end, head, packets, sketch_file, stream
@@ -127,7 +127,33 @@ def every_cut(rng):
     any_content(rng, script, 1, params)
     for length in range(len(data) + 3):
         script.read("read " + kind, (data + bytes(2))[:length])
+        script.read("head", (data + bytes(2))[:length])
     script.add("show")
+    return script.bytes
+
+
+def any_head(rng):
+    """A head of any sizes, of which one thing may be wrong: its parameters, its length or its kind."""
+    params = any_params(rng, 1, 16384)
+    params = Params(params.d, rng.choice((params.m, 16384, 1)), params.pairs)
+    way = rng.choice(("sound", "sound", "param", "param", "param", "cut", "kind"))
+    if way == "param":
+        params = bad_params(rng, params)
+        params = Params(min(params.d, 255), params.m, params.pairs)
+    data = head(params)
+    if way == "cut":
+        return data[:rng.choice((0, 1, len(data) - 1, rng.randrange(len(data))))]
+    if way == "kind":
+        return rng.choice((bytes([rng.choice((0, 2, 3, 4, 5, 255))]) + data[1:], some_record(rng, params)))
+    return data
+
+
+def heads(rng):
+    """Heads alone or with any bytes after them, of a file or not; the heads of whole files, sound or spoilt."""
+    script = Script()
+    for _ in range(rng.randint(1, 6)):
+        script.read("head", any_head(rng) + rng.choice((b"", b"", b"\x00", rng.randbytes(9))))
+    script.read("head", any_file(rng, any_params(rng, 1, 30), rng.choice(("stream", "sketch"))))
     return script.bytes
 
 
@@ -156,6 +182,7 @@ def streams_written(rng):
     script.add("show")
     if rng.random() < 0.2:
         script.store("output", [rng.choice((0, 1, 2, 3, 4, 128, 255))], rng.randrange(exact))
+    script.add("head back")
     script.add("read stream back")
     script.add("show")
     return script.bytes
@@ -184,6 +211,7 @@ def sketches_written(rng):
     script.show()
     if rng.random() < 0.2:
         script.store("output", [rng.choice((0, 1, 2, 3, 4, 127, 128, 255))], rng.randrange(exact))
+    script.add("head back")
     script.add("read sketch back", 2)
     script.fill("output", 0)
     script.add("write sketch", 2)

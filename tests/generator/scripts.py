@@ -1,7 +1,7 @@
 """Scripts: which kinds there are, how often each is made, and those that break off or mean nothing."""
 
 from generator import script_calls, script_files
-from generator.commands import COMMANDS, MOST_BYTES, Script
+from generator.commands import COMMANDS, MOST_BYTES, WITH_BYTES, Script
 from generator.files import MOST, P, WORD
 from generator.values import any_flow, any_params, small_entries
 
@@ -38,7 +38,7 @@ def any_operands(rng):
         if name == "store":
             values[2] = rng.randint(0, 5)
         after = 4 * values[2] if name == "store" else 0
-        if name in ("read stream", "read sketch"):
+        if name in WITH_BYTES:
             values[0] = after = rng.randint(0, 60)
         script.add(name, rng.choice((1, 1, 2)), values, rng.randbytes(after))
     script.show()
@@ -50,7 +50,7 @@ def broken_off(rng):
     whole = rng.choice((any_calls, any_operands, script_files.streams_written))(rng)
     if rng.random() < 0.5:
         return whole[:rng.randrange(len(whole) + 1)]
-    unknown = rng.choice((0, 20, 21, 127, 128, 148, 255, rng.randint(0, 255)))
+    unknown = rng.choice((0, 23, 24, 127, 128, 151, 255, rng.randint(0, 255)))
     return whole + bytes([unknown]) + rng.randbytes(rng.randint(0, 20))
 
 
@@ -61,10 +61,11 @@ def empty(_rng):
 
 KINDS = (
     (script_calls.walks, 14), (script_calls.each_allowance, 10), (script_calls.long_tables, 6), (script_calls.any_buckets, 10),
-    (script_calls.one_flow, 2), (script_calls.inserts, 10), (script_calls.lists, 8), (script_calls.sums, 10),
+    (script_calls.one_flow, 2), (script_calls.inserts, 10), (script_calls.withdrawals, 8), (script_calls.lists, 8),
+    (script_calls.sums, 10),
     (script_calls.orders, 10), (script_calls.lengths, 8), (script_calls.parameters, 6), (script_calls.places, 4),
     (script_calls.long_lists, 0.5), (script_calls.largest, 0.3),
-    (script_files.streams_read, 14), (script_files.sketches_read, 16), (script_files.every_cut, 3),
+    (script_files.streams_read, 14), (script_files.sketches_read, 16), (script_files.every_cut, 3), (script_files.heads, 6),
     (script_files.streams_written, 8), (script_files.sketches_written, 8),
     (any_calls, 10), (any_operands, 6), (broken_off, 4), (empty, 0.1),
 )

@@ -1,5 +1,6 @@
 -- What a caller in C is told of a call: the library's contract holds of the answer that came back, which is the one of the definition.
 use mathlib.Core.Path.{_≡_, refl, sym, ap, subst, _∙_}
+use mathlib.Core.Bool.{Bool, true, false, not}
 use mathlib.Core.List.{List}
 use Prim.Native.Nat.{ℕ, _≤_}
 use native.Mathlib.Nat.{le-trans}
@@ -9,16 +10,23 @@ use lib.ListN.{length}
 use Rattle.params.specs.declared.params.Params.{Params}
 use Rattle.params.specs.declared.answers.Answer.{Answer}
 use Rattle.params.specs.declared.answers.Answer.the-variants.{Done, Refused}
-use Rattle.params.specs.Answers.{numberIn, indexIn}
+use Rattle.params.specs.declared.answers.Located.{Located}
+use Rattle.params.specs.declared.answers.Refusal.the-variants.{Param, Form}
+use Rattle.params.specs.Answers.{numberIn, indexIn, locatedNumber, locatedIndex, locatedAt, refuseIf, kept}
+use Rattle.params.specs.Params.{goodParams}
+use Rattle.params.proofs.Rules.{good-dimensions}
 use Rattle.sketch.specs.Sketch.{Sketch}
 use Rattle.walk.specs.Walk.{Outcome, close}
 use Rattle.walk.proofs.Promises.{listed-few}
 use Rattle.files.specs.declared.writing.Written.{Written}
+use Rattle.files.specs.declared.heads.Headed.{Headed}
+use Rattle.files.specs.Records.{recordAt}
+use Rattle.files.specs.Heads.{paramsIn, isHead, noParams, headAnswer, headOf}
 use Rattle.files.specs.Writing.{writtenNumber, writtenIndex, writtenLength}
 use Rattle.peel.specs.declared.peeling.Peeled.{Peeled}
 use Rattle.peel.specs.Peel.{peeledOf, peeledNumber, peeledIndex, peeledEntries, judged, walked, Peels}
 use Rattle.peel.proofs.Judged.{judged-sound}
-use Rattle.face.specs.Told.{figuresIn, Told, ToldLength, ToldFigures}
+use Rattle.face.specs.Told.{paramsOf, numbersOf, figuresIn, Told, ToldLength, ToldFigures, SpotReturned, HeadReturned}
 
 pub told : {answer : Answer} {Contract : Answer → Type 0} {number place : ℕ} (x : Answer)
     → x ≡ answer → Contract x → (number ≡ numberIn x) × (place ≡ indexIn x) → Told answer Contract number place
@@ -62,3 +70,47 @@ module _ {P : Params} {a : ℕ} {S : Sketch} {fs : List ℕ} {ns : List ℤ} {q 
   entries-few =
       subst (λ (x : Peeled). peeledEntries x ≤ 65536) (sym (h .answer))
       (few-in (judged P a S fs ns q ms) (walked P a S fs ns q ms) (λ done. le-trans (listed-few P (length fs) a S) (judged-sound P (S .counts) (S .idsums) fs ns q ms done .few-slots)))
+
+pub spot-returned : {spot : Located} {number place found : ℕ} (x : Located)
+    → x ≡ spot → (number ≡ locatedNumber x) × (place ≡ locatedIndex x) × (found ≡ locatedAt x) → SpotReturned spot number place found
+spot-returned x e t =
+    record {
+      number-returned = t .0 ∙ ap locatedNumber e;
+      place-returned = t .1 ∙ ap locatedIndex e;
+      found-returned = t .2 ∙ ap locatedAt e;
+    }
+
+pub head-returned : {headed : Headed} {number place : ℕ} {numbers : List ℕ} (x : Headed)
+    → x ≡ headed → (number ≡ numberIn (x .answer)) × (place ≡ indexIn (x .answer)) → numbers ≡ numbersOf (x .params)
+    → HeadReturned headed number place numbers
+head-returned x e t n =
+    record {
+      number-returned = t .0 ∙ ap (λ (h : Headed). numberIn (h .answer)) e;
+      place-returned = t .1 ∙ ap (λ (h : Headed). indexIn (h .answer)) e;
+      numbers-returned = n ∙ ap (λ (h : Headed). numbersOf (h .params)) e;
+    }
+
+module _ (bs : List ℕ) where
+  -- the parameters of a head, by its two tests
+  unfoldable judgedParams : Bool → Bool → Params
+  judgedParams h g = kept (refuseIf (not h) Form 0 (refuseIf (not g) Param 0 Done)) noParams (paramsIn bs)
+
+  -- a head that keeps the rules has small sizes, and one that is refused gives none
+  pub head-small : (headOf bs .params .d ≤ 4) × (headOf bs .params .m ≤ 16384)
+  unfolding headAnswer judgedParams kept
+  head-small = go (isHead (recordAt bs 0)) (goodParams (paramsIn bs)) refl
+    where
+      go : (h g : Bool) → goodParams (paramsIn bs) ≡ g → (judgedParams h g .d ≤ 4) × (judgedParams h g .m ≤ 16384)
+      go false g e = (omega arith, omega arith)
+      go true false e = (omega arith, omega arith)
+      go true true e = let s = good-dimensions (paramsIn bs) e in (s .d-high, s .m-high)
+
+  -- the ten numbers of a head give its parameters to every other call
+  pub head-back : paramsOf (numbersOf (headOf bs .params)) ≡ headOf bs .params
+  unfolding headAnswer judgedParams kept paramsOf numbersOf paramsIn
+  head-back = go (isHead (recordAt bs 0)) (goodParams (paramsIn bs))
+    where
+      go : (h g : Bool) → paramsOf (numbersOf (judgedParams h g)) ≡ judgedParams h g
+      go false g = refl
+      go true false = refl
+      go true true = refl

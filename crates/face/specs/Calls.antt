@@ -1,22 +1,25 @@
 -- What each call from C answers and leaves: the library's own contract of the same call, at the answer that the library's definition
 -- gives. r and k are the number and the place that the caller is told; S is the lent sketch before, S' after.
-use mathlib.Core.Bool.{Bool, false}
+use mathlib.Core.Bool.{Bool, true, false}
 use mathlib.Core.List.{List}
 use Prim.Native.Nat.{ℕ}
 use lib.IntN.{ℤ}
 use lib.ListN.{length}
 use Rattle.params.specs.declared.params.Params.{Params}
+use Rattle.params.specs.Answers.{locatedOf}
 use Rattle.params.specs.Params.{lentAnswer}
+use Rattle.params.specs.Positions.{positionAnswer, position, index}
 use Rattle.sketch.specs.Sketch.{Sketch, Freshened}
-use Rattle.sketch.specs.Packets.{moveAnswer, allAnswer, Inserted, AllInserted}
+use Rattle.sketch.specs.Packets.{moveAnswer, allAnswer, Inserted, Withdrawn, AllInserted}
 use Rattle.sums.specs.Sums.{combineAnswer, Combined}
 use Rattle.peel.specs.Peel.{peeledOf, judged, walked, Peels}
+use Rattle.files.specs.Heads.{headOf}
 use Rattle.files.specs.Writing.{writtenOf}
 use Rattle.streamfile.specs.Streams.{streamAnswer, StreamRead}
 use Rattle.streamfile.specs.Writing as streams
 use Rattle.sketchfile.specs.Stored.{sketchAnswer, SketchRead}
 use Rattle.sketchfile.specs.Writing as sketches
-use Rattle.face.specs.Told.{Told, ToldLength, ToldFigures}
+use Rattle.face.specs.Told.{Told, ToldLength, ToldFigures, SpotReturned, HeadReturned}
 
 abbrev pub FreshenedFor : Params → Sketch → ℕ → ℕ → Sketch → Type 0
 FreshenedFor P S r k S' = Told (lentAnswer P (length (S .counts)) (length (S .idsums))) (λ x. Freshened P S x S') r k
@@ -24,12 +27,26 @@ FreshenedFor P S r k S' = Told (lentAnswer P (length (S .counts)) (length (S .id
 abbrev pub InsertedFor : Params → ℕ → ℕ → Sketch → ℕ → ℕ → Sketch → Type 0
 InsertedFor P f n S r k S' = Told (moveAnswer P false f n S) (λ x. Inserted P f n S x S') r k
 
+abbrev pub WithdrawnFor : Params → ℕ → ℕ → Sketch → ℕ → ℕ → Sketch → Type 0
+WithdrawnFor P f n S r k S' = Told (moveAnswer P true f n S) (λ x. Withdrawn P f n S x S') r k
+
 abbrev pub AllInsertedFor : Params → List ℕ → List ℕ → Sketch → ℕ → ℕ → Sketch → Type 0
 AllInsertedFor P fs ns S r k S' = Told (allAnswer P fs ns S) (λ x. AllInserted P fs ns S x S') r k
 
 -- the sum with T, or the difference where `minus` holds
 abbrev pub CombinedFor : Bool → Params → Params → Sketch → Sketch → ℕ → ℕ → Sketch → Type 0
 CombinedFor minus P Q S T r k S' = Told (combineAnswer minus P Q S T) (λ x. Combined minus P Q S T x S') r k
+
+-- n is the position, or the index, that the caller gets of flow f in array i
+abbrev pub PositionFor : Params → ℕ → ℕ → ℕ → ℕ → ℕ → Type 0
+PositionFor P i f r k n = SpotReturned (locatedOf (positionAnswer P i f) (position P i f)) r k n
+
+abbrev pub IndexFor : Params → ℕ → ℕ → ℕ → ℕ → ℕ → Type 0
+IndexFor P i f r k n = SpotReturned (locatedOf (positionAnswer P i f) (index P i f)) r k n
+
+-- ns are the ten numbers that the caller gets of the head of the file bs
+abbrev pub HeadReadFor : List ℕ → ℕ → ℕ → List ℕ → Type 0
+HeadReadFor bs r k ns = HeadReturned (headOf bs) r k ns
 
 abbrev pub StreamReadFor : Params → List ℕ → Sketch → ℕ → ℕ → Sketch → Type 0
 StreamReadFor P bs S r k S' = Told (streamAnswer P bs S) (λ x. StreamRead P bs S x S') r k

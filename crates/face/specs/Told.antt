@@ -6,7 +6,9 @@ use lib.IntN.{ℤ, pos}
 use lib.ListN.{getD}
 use Rattle.params.specs.declared.params.Params.{Params}
 use Rattle.params.specs.declared.answers.Answer.{Answer}
-use Rattle.params.specs.Answers.{numberIn, indexIn}
+use Rattle.params.specs.declared.answers.Located.{Located}
+use Rattle.params.specs.Answers.{numberIn, indexIn, locatedNumber, locatedIndex, locatedAt}
+use Rattle.files.specs.declared.heads.Headed.{Headed}
 use Rattle.files.specs.declared.writing.Written.{Written}
 use Rattle.files.specs.Writing.{writtenNumber, writtenIndex, writtenLength}
 use Rattle.peel.specs.declared.peeling.Peeled.{Peeled}
@@ -21,6 +23,13 @@ paramsOf ns =
       a = getD ns 2 0 ∷ getD ns 3 0 ∷ getD ns 4 0 ∷ getD ns 5 0 ∷ [];
       b = getD ns 6 0 ∷ getD ns 7 0 ∷ getD ns 8 0 ∷ getD ns 9 0 ∷ [];
     }
+
+-- the same ten numbers of parameters
+unfoldable pub numbersOf : Params → List ℕ
+numbersOf P =
+    P .d ∷ P .m
+    ∷ getD (P .a) 0 0 ∷ getD (P .a) 1 0 ∷ getD (P .a) 2 0 ∷ getD (P .a) 3 0
+    ∷ getD (P .b) 0 0 ∷ getD (P .b) 1 0 ∷ getD (P .b) 2 0 ∷ getD (P .b) 3 0 ∷ []
 
 -- the ending's number, the entries, the net figure and the pops
 abbrev pub figuresIn : Peeled → List ℤ
@@ -44,3 +53,15 @@ pub record ToldFigures (peeled : Peeled) (Contract : Peeled → Type 0) (number 
   pub place-told : place ≡ peeledIndex peeled
   pub figures-told : figures ≡ figuresIn peeled
   pub call : Contract peeled
+
+-- What a call that alters no lent memory returns: the number and the place with the position or the index that was found, or with the
+-- numbers of a head's parameters.
+pub record SpotReturned (spot : Located) (number place found : ℕ) : Type 0 where
+  pub number-returned : number ≡ locatedNumber spot
+  pub place-returned : place ≡ locatedIndex spot
+  pub found-returned : found ≡ locatedAt spot
+
+pub record HeadReturned (headed : Headed) (number place : ℕ) (numbers : List ℕ) : Type 0 where
+  pub number-returned : number ≡ numberIn (headed .answer)
+  pub place-returned : place ≡ indexIn (headed .answer)
+  pub numbers-returned : numbers ≡ numbersOf (headed .params)

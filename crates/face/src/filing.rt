@@ -1,14 +1,32 @@
-// Stream files and sketch files, read and written, for C.
+// Stream files and sketch files, read and written, and the head of a file, for C.
 ghost use Rattle.sketch.specs.Sketch.{sketch};
 ghost use Rattle.face.specs.Told.{paramsOf};
-ghost use Rattle.face.specs.Calls.{StreamReadFor, StreamWrittenFor, SketchReadFor, SketchWrittenFor};
+ghost use Rattle.face.specs.Calls.{HeadReadFor, StreamReadFor, StreamWrittenFor, SketchReadFor, SketchWrittenFor};
+use crate::told::numbers_of;
 use crate::told::params_of;
 use crate::told::tell;
 use crate::told::tell_written;
+use files::heads::head;
 use sketchfile::reading::read_sketch;
 use sketchfile::writing::write_sketch;
 use streamfile::reading::read_stream;
 use streamfile::writing::write_stream;
+
+// Writes the parameters in the head of a file, all 0 where it is refused; what stands after the head is not looked at.
+#[no_mangle]
+pub extern "C" fn gabunlitik_read_head(
+    bytes: &[u8],
+    params: &mut [u32; 10],
+    place: &mut usize,
+) -> u32
+    ensures { λ r. ⌜ HeadReadFor (now (bytes .entry)) r (now (place .exit)) (now (params .exit)) ⌝ }
+{
+    let headed = head(bytes);
+    let answer = headed.answer;
+    let p = headed.params;
+    numbers_of(p, params);
+    tell(answer, place)
+}
 
 // Inserts the packets of a stream file.
 #[no_mangle]

@@ -1,13 +1,14 @@
-// Fresh sketches, packets put in, and sums and differences of two sketches, for C.
+// Fresh sketches, packets put in and taken out, and sums and differences of two sketches, for C.
 ghost use mathlib.Core.Bool.{true, false};
 ghost use Rattle.sketch.specs.Sketch.{sketch};
 ghost use Rattle.face.specs.Told.{paramsOf};
-ghost use Rattle.face.specs.Calls.{FreshenedFor, InsertedFor, AllInsertedFor, CombinedFor};
+ghost use Rattle.face.specs.Calls.{FreshenedFor, InsertedFor, WithdrawnFor, AllInsertedFor, CombinedFor};
 use crate::told::params_of;
 use crate::told::tell;
 use sketch::packets::fresh;
 use sketch::packets::insert;
 use sketch::packets::insert_all;
+use sketch::packets::withdraw;
 use sums::add;
 use sums::subtract;
 
@@ -39,6 +40,22 @@ pub extern "C" fn gabunlitik_insert(
 {
     let inserted = insert(params_of(params), counts, idsums, flow, number);
     tell(inserted, place)
+}
+
+// Takes `number` packets of a flow out again.
+#[no_mangle]
+pub extern "C" fn gabunlitik_withdraw(
+    params: &[u32; 10],
+    counts: &mut [i32],
+    idsums: &mut [u32],
+    flow: u32,
+    number: u32,
+    place: &mut usize,
+) -> u32
+    ensures { λ r. ⌜ WithdrawnFor (paramsOf (now (params .entry))) flow number (sketch (now (counts .entry)) (now (idsums .entry))) r (now (place .exit)) (sketch (now (counts .exit)) (now (idsums .exit))) ⌝ }
+{
+    let withdrawn = withdraw(params_of(params), counts, idsums, flow, number);
+    tell(withdrawn, place)
 }
 
 // Puts many packets in, each flow by its number, or none of them.

@@ -1,19 +1,20 @@
 // Parameters from ten numbers, and answers as numbers: C knows neither our structs nor our enums.
 ghost use mathlib.Core.Path.{_≡_};
 ghost use Prim.Native.Nat.{_≤_};
-ghost use Rattle.params.specs.Answers.{numberIn, indexIn};
+ghost use Rattle.params.specs.Answers.{numberIn, indexIn, locatedNumber, locatedIndex, locatedAt};
 ghost use Rattle.files.specs.Writing.{writtenNumber, writtenIndex, writtenLength};
 ghost use Rattle.walk.specs.Endings.{endingNumber};
 ghost use Rattle.peel.specs.Peel.{peeledNumber, peeledIndex, peeledEntries};
-ghost use Rattle.face.specs.Told.{paramsOf, figuresIn};
+ghost use Rattle.face.specs.Told.{paramsOf, numbersOf, figuresIn};
 use files::writing::Written;
 use params::Answer;
 use params::Params;
+use params::Located;
 use peel::peeling::Peeled;
 use walk::Ending;
 
 // A number passed by value is known to fit its type; an element behind a reference is not.
-fn wide(n: u32) -> usize
+pub(crate) fn wide(n: u32) -> usize
     ensures { λ r. ⌜ r ≡ n ⌝ }
 {
     n as usize
@@ -33,6 +34,27 @@ pub(crate) fn params_of(params: &[u32; 10]) -> Params
     }
 }
 
+// The same ten numbers of parameters whose sizes are small.
+pub(crate) fn numbers_of(p: Params, numbers: &mut [u32; 10])
+    requires { ⌜ (p .d ≤ 4) × (p .m ≤ 16384) ⌝ }
+    ensures { λ r. ⌜ now (numbers .exit) ≡ numbersOf p ⌝ }
+{
+    let a = p.a;
+    let b = p.b;
+    *numbers = [
+        p.d as u32,
+        p.m as u32,
+        a[0],
+        a[1],
+        a[2],
+        a[3],
+        b[0],
+        b[1],
+        b[2],
+        b[3],
+    ];
+}
+
 // Writes an answer's place and gives its number.
 pub(crate) fn tell(answer: Answer, place: &mut usize) -> u32
     ensures { λ r. ⌜ (r ≡ numberIn answer) × (now (place .exit) ≡ indexIn answer) ⌝ }
@@ -43,6 +65,24 @@ pub(crate) fn tell(answer: Answer, place: &mut usize) -> u32
             0
         }
         Answer::Refused(refusal, index) => {
+            *place = index;
+            refusal.number()
+        }
+    }
+}
+
+// The same for a position or an index, which goes to `found`.
+pub(crate) fn spot_number(spot: Located, found: &mut usize, place: &mut usize) -> u32
+    ensures { λ r. ⌜ (r ≡ locatedNumber spot) × (now (place .exit) ≡ locatedIndex spot) × (now (found .exit) ≡ locatedAt spot) ⌝ }
+{
+    match spot {
+        Located::At(at) => {
+            *found = at;
+            *place = 0;
+            0
+        }
+        Located::Refused(refusal, index) => {
+            *found = 0;
             *place = index;
             refusal.number()
         }

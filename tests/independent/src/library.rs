@@ -57,6 +57,13 @@ impl Lent<'_> {
         Ok(())
     }
 
+    pub fn withdraw(&mut self, flow: i64, number: i64) -> Result<(), Refusal> {
+        let mut sketch = self.sketch()?;
+        sketch.withdraw(flow, number)?;
+        self.put_back(&sketch);
+        Ok(())
+    }
+
     /// Inserts packets in turn, or none of them; the first that is refused decides.
     pub fn insert_all(&mut self, flows: &[i64], numbers: &[i64]) -> Result<(), Refusal> {
         let mut sketch = self.sketch()?;
@@ -119,8 +126,7 @@ impl Lent<'_> {
 
     /// A file's head, its parameters and the given ones; the offset after the head.
     fn judge_head(&self, bytes: &[u8]) -> Result<usize, Refusal> {
-        let (params, after) = records::head(bytes, 0)?;
-        refuse_if(!params.keep_the_rules(), Fault::Param)?;
+        let (params, after) = read_head(bytes)?;
         self.judge_params()?;
         refuse_if(params != self.params, Fault::Mismatch)?;
         Ok(after)
@@ -142,6 +148,13 @@ impl Lent<'_> {
         sketch.judge_damage()?;
         put_file(output, &file)
     }
+}
+
+/// The parameters in the head of a file, which keep the rules, and the offset after it.
+pub fn read_head(bytes: &[u8]) -> Result<(Params, usize), Refusal> {
+    let (params, after) = records::head(bytes, 0)?;
+    refuse_if(!params.keep_the_rules(), Fault::Param)?;
+    Ok((params, after))
 }
 
 /// Reads the buckets of a sketch file from after its head on into a sketch of zeros; the offset after its end.

@@ -30,6 +30,9 @@ const WRITE_SKETCH: u8 = 16;
 const POSITION: u8 = 17;
 const INDEX: u8 = 18;
 const SHOW: u8 = 19;
+const WITHDRAW: u8 = 20;
+const HEAD: u8 = 21;
+const HEAD_BACK: u8 = 22;
 
 /// What a whole script prints.
 pub fn run(bytes: &[u8]) -> String {
@@ -58,12 +61,14 @@ fn length(name: u8, rest: &[u8]) -> Option<usize> {
     let told = |at: usize| if rest.len() < at + 4 { 0 } else { number(rest, at) as usize };
     match name {
         PARAMS => Some(40),
-        LENGTH | INSERT | POSITION | INDEX => Some(8),
+        LENGTH | INSERT | WITHDRAW | POSITION | INDEX => Some(8),
         STORE => Some(12 + 4 * told(8)),
         FILL => Some(16),
         PEEL => Some(4),
-        READ_STREAM | READ_SKETCH => Some(4 + told(0)),
-        FRESH | INSERT_ALL | ADD | SUBTRACT | REREAD_STREAM | REREAD_SKETCH | WRITE_STREAM | WRITE_SKETCH | SHOW => Some(0),
+        READ_STREAM | READ_SKETCH | HEAD => Some(4 + told(0)),
+        FRESH | INSERT_ALL | ADD | SUBTRACT | REREAD_STREAM | REREAD_SKETCH | WRITE_STREAM | WRITE_SKETCH | SHOW | HEAD_BACK => {
+            Some(0)
+        }
         _ => None,
     }
 }
@@ -90,6 +95,8 @@ fn command(memory: &mut Memory, name: u8, given: &[u8]) -> String {
         SHOW => show(memory),
         INSERT_ALL | ADD | SUBTRACT | WRITE_STREAM | WRITE_SKETCH | PEEL => on_many_slices(memory, name, given),
         POSITION | INDEX => place(&memory.params[memory.chosen], name, given),
+        HEAD => answer("head", head(&given[4..])),
+        HEAD_BACK => answer("head back", head(&memory.file())),
         _ => on_the_sketch(memory, name, given),
     }
 }
@@ -127,6 +134,13 @@ fn place(params: &Params, name: u8, given: &[u8]) -> String {
     }
 }
 
+/// What the head of a file says.
+fn head(bytes: &[u8]) -> Result<String, Refusal> {
+    let (params, _) = library::read_head(bytes)?;
+    let pairs: String = params.pairs.iter().map(|(a, b)| format!(" {a} {b}")).collect();
+    Ok(format!("done d {} m {} pairs{pairs}", params.d, params.m))
+}
+
 /// Commands that work on the chosen sketch alone.
 fn on_the_sketch(memory: &mut Memory, name: u8, given: &[u8]) -> String {
     let written = memory.file();
@@ -134,6 +148,7 @@ fn on_the_sketch(memory: &mut Memory, name: u8, given: &[u8]) -> String {
     match name {
         FRESH => answer("fresh", done(sketch.fresh())),
         INSERT => answer("insert", done(sketch.insert(number(given, 0), number(given, 4)))),
+        WITHDRAW => answer("withdraw", done(sketch.withdraw(number(given, 0), number(given, 4)))),
         READ_STREAM => answer("read stream", done(sketch.read_stream(&given[4..]))),
         READ_SKETCH => answer("read sketch", done(sketch.read_sketch(&given[4..]))),
         REREAD_STREAM => answer("read stream back", done(sketch.read_stream(&written))),

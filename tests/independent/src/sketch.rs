@@ -114,19 +114,28 @@ impl Sketch {
     }
 
     pub fn insert(&mut self, flow: i64, number: i64) -> Result<(), Refusal> {
+        self.put(1, flow, number)
+    }
+
+    /// Takes packets out again; judged as an insertion is, with the number taken away in place of added.
+    pub fn withdraw(&mut self, flow: i64, number: i64) -> Result<(), Refusal> {
+        self.put(-1, flow, number)
+    }
+
+    fn put(&mut self, sign: i64, flow: i64, number: i64) -> Result<(), Refusal> {
         judge_packets(flow, number)?;
         // In rising array order, so the first of them that is at fault has the lowest index.
         let indexes = self.params.indexes(flow);
         if let Some(&index) = indexes.iter().find(|&&index| self.buckets[index].is_damaged()) {
             return Err(Fault::Damage.at(index));
         }
-        if let Some(&index) = indexes.iter().find(|&&index| leaves_the_limits(self.buckets[index].count + number)) {
+        if let Some(&index) = indexes.iter().find(|&&index| leaves_the_limits(self.buckets[index].count + sign * number)) {
             return Err(Fault::Range.at(index));
         }
         for index in indexes {
             let bucket = &mut self.buckets[index];
-            bucket.count += number;
-            bucket.idsum = (bucket.idsum + number * flow) % P;
+            bucket.count += sign * number;
+            bucket.idsum = (bucket.idsum + sign * (number * flow % P)).rem_euclid(P);
         }
         Ok(())
     }

@@ -1,5 +1,0 @@
-/* The size type of C's stddef.h: the kit's clang comes without headers. */
-#ifndef STDDEF_H
-#define STDDEF_H
-typedef __SIZE_TYPE__ size_t;
-#endif

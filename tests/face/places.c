@@ -1,0 +1,64 @@
+/* Where flows stand, called from C. */
+#include "bench.h"
+
+typedef uint32_t finding(const uint32_t *params, uint32_t array, uint32_t flow, size_t *found, size_t *place);
+
+/* What a call told, and the position or the index that it found. */
+struct found {
+    struct told told;
+    size_t at;
+};
+
+static struct found find(finding *call, const uint32_t *params, uint32_t array, uint32_t flow) {
+    struct found f;
+    f.told = untold();
+    memset(&f.at, 0xa5, sizeof f.at);
+    f.told.number = call(params, array, flow, &f.at, &f.told.place);
+    return f;
+}
+
+/* Flows stand at the rest by 5 in array 1; in array 2 where the scope says. The index counts the buckets of the arrays before. */
+static void places(void) {
+    static const uint32_t flows[] = {2, 7, 11, 12, 20};
+    static const size_t positions[] = {1, 2, 4, 1, 0};
+    for (size_t i = 0; i < 5; i++) {
+        struct found f = find(gabunlitik_position, K, 1, flows[i]);
+        CHECK_DONE(f.told);
+        CHECK(f.at == flows[i] % M);
+        f = find(gabunlitik_index, K, 1, flows[i]);
+        CHECK_DONE(f.told);
+        CHECK(f.at == flows[i] % M);
+        f = find(gabunlitik_position, K, 2, flows[i]);
+        CHECK_DONE(f.told);
+        CHECK(f.at == positions[i]);
+        f = find(gabunlitik_index, K, 2, flows[i]);
+        CHECK_DONE(f.told);
+        CHECK(f.at == M + positions[i]);
+    }
+}
+
+static void check_refused(const uint32_t *params, uint32_t array, uint32_t flow, uint32_t number) {
+    struct found f = find(gabunlitik_position, params, array, flow);
+    CHECK_TOLD(f.told, number, 0);
+    CHECK(f.at == 0);
+    f = find(gabunlitik_index, params, array, flow);
+    CHECK_TOLD(f.told, number, 0);
+    CHECK(f.at == 0);
+}
+
+/* An array that there is not is PARAM, and comes before a flow that is none. */
+static void refused(void) {
+    for (size_t i = 0; i < WAYS; i++)
+        check_refused(BROKEN[i], 1, 7, GABUNLITIK_PARAM);
+    check_refused(K, 0, 7, GABUNLITIK_PARAM);
+    check_refused(K, 3, 7, GABUNLITIK_PARAM);
+    check_refused(K, 4294967295, 7, GABUNLITIK_PARAM);
+    check_refused(K, 3, 2147483647, GABUNLITIK_PARAM);
+    check_refused(K, 1, 2147483647, GABUNLITIK_FLOW);
+    check_refused(K, 2, 4294967295, GABUNLITIK_FLOW);
+}
+
+void test_places(void) {
+    places();
+    refused();
+}
