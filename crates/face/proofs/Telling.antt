@@ -17,7 +17,7 @@ use Rattle.files.specs.declared.writing.Written.{Written}
 use Rattle.files.specs.Writing.{writtenNumber, writtenIndex, writtenLength}
 use Rattle.peel.specs.declared.peeling.Peeled.{Peeled}
 use Rattle.peel.specs.Peel.{peeledOf, peeledNumber, peeledIndex, peeledEntries, judged, walked, Peels}
-use Rattle.peel.proofs.Judged.{judged-sound}
+use Rattle.peel.proofs.Judged.{judged-peelable}
 use Rattle.face.specs.Told.{figuresIn, Told, ToldLength, ToldFigures}
 
 pub told : {answer : Answer} {Contract : Answer → Type 0} {number place : ℕ} (x : Answer)
@@ -61,4 +61,4 @@ module _ {P : Params} {a : ℕ} {S : Sketch} {fs : List ℕ} {ns : List ℤ} {q 
   pub entries-few : peeledEntries r ≤ 65536
   entries-few =
       subst (λ (x : Peeled). peeledEntries x ≤ 65536) (sym (h .answer))
-      (few-in (judged P a S fs ns q ms) (walked P a S fs ns q ms) (λ done. le-trans (listed-few P (length fs) a S) (judged-sound P (S .counts) (S .idsums) fs ns q ms done .few-slots)))
+      (few-in (judged P a S fs ns q ms) (walked P a S fs ns q ms) (λ done. le-trans (listed-few P (length fs) a S) (judged-peelable P (S .counts) (S .idsums) fs ns q ms done .few-slots)))

@@ -22,7 +22,7 @@ use Rattle.params.proofs.Judging.{Refuses, first-refused, first-passed, first-d
 use Rattle.params.proofs.Rules.{lent-done}
 use Rattle.params.proofs.Searches.{and-true}
 use Rattle.walk.proofs.Promises.{Whole}
-use Rattle.peel.specs.Rep.{Sound}
+use Rattle.peel.specs.Rep.{Peelable}
 use Rattle.peel.specs.Peel.{peelAnswer}
 
 -- the lengths of all that is lent beside the sketch
@@ -115,9 +115,9 @@ passed P S flows numbers queue marks e =
 pub judged-whole : (P : Params) (S : Sketch) (flows numbers queue marks : ℕ) → peelAnswer P S flows numbers queue marks ≡ Done → Whole P S
 judged-whole P S flows numbers queue marks e = passed P S flows numbers queue marks e .1
 
-pub judged-sound : (P : Params) (cs : List ℤ) (ss fs : List ℕ) (ns : List ℤ) (q ms : List ℕ)
-    → peelAnswer P (sketch cs ss) (length fs) (length ns) (length q) (length ms) ≡ Done → Sound P cs ss fs ns q ms
-judged-sound P cs ss fs ns q ms e =
+pub judged-peelable : (P : Params) (cs : List ℤ) (ss fs : List ℕ) (ns : List ℤ) (q ms : List ℕ)
+    → peelAnswer P (sketch cs ss) (length fs) (length ns) (length q) (length ms) ≡ Done → Peelable P cs ss fs ns q ms
+judged-peelable P cs ss fs ns q ms e =
     let h = passed P (sketch cs ss) (length fs) (length ns) (length q) (length ms) e in
     let w = h .1 in
     let l = h .2 in

@@ -18,7 +18,7 @@ use Rattle.peel.specs.declared.peeling.Peeled.the-variants.{Ended, Refus
 use Rattle.peel.specs.Rep.{Leaves}
 use Rattle.peel.specs.Peel.{figuresOf, peeledOf, flowsOf, numbersOf, padded, judged, walked, Peels}
 use Rattle.peel.proofs.Padding.{all-zeros, entries-many, padded-flows, padded-numbers}
-use Rattle.peel.proofs.Judged.{judged-sound}
+use Rattle.peel.proofs.Judged.{judged-peelable}
 
 figures-are : {o : Outcome} {r : Figures} {cs' : List ℤ} {ss' fs' : List ℕ} {ns' : List ℤ} {q' ms' : List ℕ} → Leaves o r cs' ss' fs' ns' q' ms' → r ≡ figuresOf o
 figures-are {o} {r} {fs'} {ns'} l =
@@ -38,7 +38,7 @@ module _ (P : Params) (allowance : ℕ) (S : Sketch) (fs : List ℕ) (ns : List 
   not-peeled w k e =
       record {
         answer = ap (λ (r : Answer). peeledOf r (walked P allowance S fs ns q ms)) e;
-        left = ap (λ (r : Answer). kept r S (walked P allowance S fs ns q ms .left)) e;
+        remainder = ap (λ (r : Answer). kept r S (walked P allowance S fs ns q ms .remainder)) e;
         flows = ap (λ (r : Answer). kept r fs listedFlows) e;
         numbers = ap (λ (r : Answer). kept r ns listedNumbers) e;
         queue = ap (λ (r : Answer). kept r q (replicate (size P) 0)) e;
@@ -49,11 +49,11 @@ module _ (P : Params) (allowance : ℕ) (S : Sketch) (fs : List ℕ) (ns : List 
     pub peeled : Peels P allowance S fs ns q ms (Ended r) (sketch cs' ss') fs' ns' q' ms'
     unfolding kept
     peeled =
-        let s = judged-sound P (S .counts) (S .idsums) fs ns q ms (sym done) in
+        let s = judged-peelable P (S .counts) (S .idsums) fs ns q ms (sym done) in
         let T = close (walked P allowance S fs ns q ms .table) in
         record {
           answer = ap Ended (figures-are l) ∙ ap (λ (x : Answer). peeledOf x (walked P allowance S fs ns q ms)) done;
-          left = l .left ∙ ap (λ (x : Answer). kept x S (walked P allowance S fs ns q ms .left)) done;
+          remainder = l .remainder ∙ ap (λ (x : Answer). kept x S (walked P allowance S fs ns q ms .remainder)) done;
           flows = padded-flows fs' ns' (r .entries) T (l .table) (length fs) long (omega (arith, l .room)) (l .past) ∙ ap (λ (x : Answer). kept x fs listedFlows) done;
           numbers = padded-numbers fs' ns' (r .entries) T (l .table) (length ns) long-numbers (omega (arith, l .room, s .slots)) (l .past-numbers) ∙ ap (λ (x : Answer). kept x ns listedNumbers) done;
           queue = all-zeros 0 q' (l .queue) ∙ ap (λ (n : ℕ). replicate n 0) (long-queue ∙ s .long) ∙ ap (λ (x : Answer). kept x q (replicate (size P) 0)) done;

@@ -20,7 +20,7 @@ use Rattle.sums.specs.Sums.{combined}
 use Rattle.sketch.proofs.Tables.{getD-from}
 use Rattle.walk.specs.declared.Found.the-variants.{Pure}
 use Rattle.walk.specs.Endings.{endingNumber}
-use Rattle.walk.specs.Walk.{Outcome, close, net}
+use Rattle.walk.specs.Walk.{Outcome, close, netFigure}
 use Rattle.walk.specs.Purity.{pureTest}
 use Rattle.walk.proofs.Promises as walks
 use Rattle.walk.proofs.Promises.{Whole, Nothing}
@@ -92,7 +92,7 @@ module _ {P : Params} {a : ℕ} {S : Sketch} {fs : List ℕ} {ns : List ℤ} {q 
 
     pub refused-keeps : (S' ≡ S) × (fs' ≡ fs) × (ns' ≡ ns) × (q' ≡ q) × (ms' ≡ ms)
     refused-keeps = (
-      h .left ∙ refusal-keeps told _ _ not-done,
+      h .remainder ∙ refusal-keeps told _ _ not-done,
       h .flows ∙ refusal-keeps told _ _ not-done,
       h .numbers ∙ refusal-keeps told _ _ not-done,
       h .queue ∙ refusal-keeps told _ _ not-done,
@@ -107,8 +107,8 @@ module _ {P : Params} {a : ℕ} {S : Sketch} {fs : List ℕ} {ns : List ℤ} {q 
     answer-is : r ≡ peeledOf Done o
     answer-is = h .answer ∙ ap (λ (x : Answer). peeledOf x o) done
 
-    left-is : S' ≡ o .left
-    left-is = h .left ∙ done-alters told _ _ done
+    remainder-is : S' ≡ o .remainder
+    remainder-is = h .remainder ∙ done-alters told _ _ done
 
     flows-are : fs' ≡ padded (length fs) 0 (flowsOf closed)
     flows-are = h .flows ∙ done-alters told _ _ done
@@ -129,32 +129,32 @@ module _ {P : Params} {a : ℕ} {S : Sketch} {fs : List ℕ} {ns : List ℤ} {q 
     pub sound-input : Whole P S
     sound-input = judged-whole P S (length fs) (length ns) (length q) (length ms) done
 
-    -- the table's sketch, added to what is left, is the input
+    -- the table's sketch, added to the remainder, is the input
     pub balance : combined false S' (sketchOf P listed) ≡ S
-    balance = rw (left-is, listed-is) (walks.balance P (length fs) a S sound-input)
+    balance = rw (remainder-is, listed-is) (walks.balance P (length fs) a S sound-input)
 
-    -- what is left is whole too
-    pub left-whole : Whole P S'
-    left-whole = subst (Whole P) (sym left-is) (walks.left-whole P (length fs) a S sound-input)
+    -- the remainder is whole too
+    pub remainder-whole : Whole P S'
+    remainder-whole = subst (Whole P) (sym remainder-is) (walks.remainder-whole P (length fs) a S sound-input)
 
-    -- clean exactly where nothing is left, and the table's sketch is the input then
+    -- clean exactly where nothing remains, and the table's sketch is the input then
     pub clean-exactly : (peeledEnding r ≡ 1 → Nothing S') × (Nothing S' → peeledEnding r ≡ 1)
     clean-exactly = (
-      λ e. subst (λ (T : Sketch). Nothing T) (sym left-is) (walks.clean-only P (length fs) a S (sym ending-is ∙ e)),
-      λ n. ending-is ∙ walks.clean-if P (length fs) a S (subst (λ (T : Sketch). Nothing T) left-is n),
+      λ e. subst (λ (T : Sketch). Nothing T) (sym remainder-is) (walks.clean-only P (length fs) a S (sym ending-is ∙ e)),
+      λ n. ending-is ∙ walks.clean-if P (length fs) a S (subst (λ (T : Sketch). Nothing T) remainder-is n),
     )
 
     pub clean-table : peeledEnding r ≡ 1 → sketchOf P listed ≡ S
     clean-table e = ap (sketchOf P) listed-is ∙ walks.clean-table P (length fs) a S sound-input (sym ending-is ∙ e)
 
-    -- stuck only where something is left, and no bucket of it passes the purity test
-    pub stuck-left : peeledEnding r ≡ 2 → Nothing S' → ⊥
-    stuck-left e n = walks.stuck-left P (length fs) a S (sym ending-is ∙ e) (subst (λ (T : Sketch). Nothing T) left-is n)
+    -- stuck only where something remains, and no bucket of it passes the purity test
+    pub stuck-remains : peeledEnding r ≡ 2 → Nothing S' → ⊥
+    stuck-remains e n = walks.stuck-remains P (length fs) a S (sym ending-is ∙ e) (subst (λ (T : Sketch). Nothing T) remainder-is n)
 
     pub stuck-only : peeledEnding r ≡ 2 → (k f : ℕ) → k < size P → pureTest P k (countIn S' k) (idsumIn S' k) ≡ Pure f → ⊥
     stuck-only e k f l t =
         walks.stuck-only P (length fs) a S sound-input (sym ending-is ∙ e) k f l
-        (subst (λ (T : Sketch). pureTest P k (countIn T k) (idsumIn T k) ≡ Pure f) left-is t)
+        (subst (λ (T : Sketch). pureTest P k (countIn T k) (idsumIn T k) ≡ Pure f) remainder-is t)
 
     -- never more pops than allowed, and all of them where the end is spent
     pops-are : peeledPops r ≡ o .pops
@@ -167,8 +167,8 @@ module _ {P : Params} {a : ℕ} {S : Sketch} {fs : List ℕ} {ns : List ℤ} {q 
     spent-only e = pops-are ∙ walks.spent-only P (length fs) a S (sym ending-is ∙ e)
 
     -- the net figure is that of the table
-    pub net-is : peeledNet r ≡ net listed
-    net-is = ap peeledNet answer-is ∙ ap net (sym listed-is)
+    pub net-is : peeledNet r ≡ netFigure listed
+    net-is = ap peeledNet answer-is ∙ ap netFigure (sym listed-is)
 
     -- slot i of the table, below its entries
     slot-is : (i : ℕ) → i < peeledEntries r → getD closed i (by 0 (pos 0)) ≡ row fs' ns' i

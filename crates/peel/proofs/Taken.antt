@@ -1,4 +1,4 @@
--- Laws of what a take leaves: by the places that the code keeps, the sketch that the definition says, and one within its limits.
+-- Laws of what a take leaves: by the positions that the code keeps, the sketch that the definition says, and one within its limits.
 use mathlib.Core.Path.{_≡_, refl, ap, subst, _∙_}
 use mathlib.Core.Bool.{Bool, true, false, cond}
 use mathlib.Core.List.{List}
@@ -23,10 +23,10 @@ use Rattle.params.proofs.Changes.{length-touched, getD-touched}
 use Rattle.sketch.proofs.Steps.{placed}
 use Rattle.walk.specs.Walk.{less}
 use Rattle.walk.specs.Purity.{ruleOf}
-use Rattle.peel.specs.Dirt.{Sane, Applied}
+use Rattle.peel.specs.Nonzero.{Sane, Applied}
 use Rattle.peel.proofs.RangeLoop.{fitsAt}
 
--- what holds of each place of a list that is changed where a test holds
+-- what holds of each element of a list that is changed where a test holds
 touched-each : {A : Type 0} (K : A → Type 0) (z : A) (t : ℕ → Bool) (g : ℕ → A → A) (xs : List A) → K z → ((k : ℕ) (b : Bool) → t k ≡ b → K (cond b (g k (getD xs k z)) (getD xs k z))) → (k : ℕ) → K (getD (touched t g xs) k z)
 touched-each K z t g xs o h k = at (decLt k (length xs))
   where
@@ -34,7 +34,7 @@ touched-each K z t g xs o h k = at (decLt k (length xs))
     at (yes l) = rw (getD-touched t g xs k z l) (h k (t k) refl)
     at (no l) = rw (List·getD-eq-default (touched t g xs) z {n = k} (rw (length-touched t g xs) (omega arith))) o
 
--- the take changes the buckets that the places ks name, of d arrays with m buckets each
+-- the take changes the buckets that the positions ks name, of d arrays with m buckets each
 module _ (d m : ℕ) (ks : List ℕ) (c : ℤ) (s : ℕ) (cs : List ℤ) (ss : List ℕ) (sane : Sane (d * m) cs ss) (fits : (i : ℕ) → i < d → fitsAt m ks cs c i ≡ true) where
   count-in : (k : ℕ) (b : Bool) → standsIn d m (λ i. getD ks i 0) k ≡ b → inLimits (cond b (getD cs k (pos 0) -ℤ c) (getD cs k (pos 0))) ≡ true
   unfolding standsIn
@@ -48,7 +48,7 @@ module _ (d m : ℕ) (ks : List ℕ) (c : ℤ) (s : ℕ) (cs : List ℤ) (ss : L
   idsum-in k true = residue-below prime (lit< tt) _
   idsum-in k false = sane .idsums k
 
-  pub applied-sane : {cs' : List ℤ} {ss' : List ℕ} {left : ℕ} → Applied d m ks c s cs ss cs' ss' left → Sane (d * m) cs' ss'
+  pub applied-sane : {cs' : List ℤ} {ss' : List ℕ} {nonzero : ℕ} → Applied d m ks c s cs ss cs' ss' nonzero → Sane (d * m) cs' ss'
   unfolding changedIn inLimits
   applied-sane a =
       rw (ap (λ (S : Sketch). S .counts) (a .after), ap (λ (S : Sketch). S .idsums) (a .after))
@@ -60,7 +60,7 @@ module _ (d m : ℕ) (ks : List ℕ) (c : ℤ) (s : ℕ) (cs : List ℤ) (ss : L
       })
 
 -- they are the flow's
-pub applied-less : {P : Params} {f : ℕ} {ks : List ℕ} {c : ℤ} {s : ℕ} {cs : List ℤ} {ss : List ℕ} {cs' : List ℤ} {ss' : List ℕ} {left : ℕ}
-    → Positioned P f ks → Applied (P .d) (P .m) ks c s cs ss cs' ss' left → sketch cs' ss' ≡ less (ruleOf P) f c s (sketch cs ss)
+pub applied-less : {P : Params} {f : ℕ} {ks : List ℕ} {c : ℤ} {s : ℕ} {cs : List ℤ} {ss : List ℕ} {cs' : List ℤ} {ss' : List ℕ} {nonzero : ℕ}
+    → Positioned P f ks → Applied (P .d) (P .m) ks c s cs ss cs' ss' nonzero → sketch cs' ss' ≡ less (ruleOf P) f c s (sketch cs ss)
 unfolding less changedIn
 applied-less {P} {f} {ks} {c} {s} {cs} {ss} p a = a .after ∙ ap (λ (on : ℕ → Bool). changedIn on true c s (sketch cs ss)) (placed p)

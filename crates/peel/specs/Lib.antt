@@ -3,6 +3,6 @@
 pub mod Ring
 pub mod Chains
 pub mod Table
-pub mod Dirt
+pub mod Nonzero
 pub mod Rep
 pub mod Peel

@@ -14,7 +14,7 @@ use Rattle.params.specs.Answers.{numberOf, refuseIf, refuseAt, first, kept}
 use Rattle.params.specs.Params.{size, lentAnswer}
 use Rattle.sketch.specs.Sketch.{Sketch, Entry, damagedAt}
 use Rattle.walk.specs.Endings.{endingNumber}
-use Rattle.walk.specs.Walk.{Outcome, walk, close, net}
+use Rattle.walk.specs.Walk.{Outcome, walk, close, closedTable, netOf}
 use Rattle.walk.specs.Purity.{ruleOf}
 use Rattle.peel.specs.declared.peeling.Figures.{Figures}
 use Rattle.peel.specs.declared.peeling.Peeled.{Peeled}
@@ -31,7 +31,7 @@ peelAnswer P S flows numbers queue marks =
 -- what the caller is told of an outcome
 abbrev pub figuresOf : Outcome → Figures
 figuresOf o =
-    record { ending = o .ending; entries = length (close (o .table)); net = net (close (o .table)); pops = o .pops }
+    record { ending = o .ending; entries = length (closedTable o); net = netOf o; pops = o .pops }
 
 abbrev pub peeledOf : Answer → Outcome → Peeled
 peeledOf Done o = Ended (figuresOf o)
@@ -86,7 +86,7 @@ module _ (P : Params) (allowance : ℕ) (S : Sketch) (fs : List ℕ) (ns : List 
 
   pub record Peels (r : Peeled) (S' : Sketch) (fs' : List ℕ) (ns' : List ℤ) (q' ms' : List ℕ) : Type 0 where
     pub answer : r ≡ peeledOf judged walked
-    pub left : S' ≡ kept judged S (walked .left)
+    pub remainder : S' ≡ kept judged S (walked .remainder)
     pub flows : fs' ≡ kept judged fs (padded (length fs) 0 (flowsOf (close (walked .table))))
     pub numbers : ns' ≡ kept judged ns (padded (length ns) (pos 0) (numbersOf (close (walked .table))))
     pub queue : q' ≡ kept judged q (replicate (size P) 0)

@@ -4,7 +4,7 @@ ghost use lib.ListN.{length};
 ghost use Rattle.sketch.specs.Sketch.{sketch};
 ghost use Rattle.walk.specs.Walk.{walk as «walk-of»};
 ghost use Rattle.walk.specs.Purity.{ruleOf};
-ghost use Rattle.peel.specs.Rep.{Sound, Leaves};
+ghost use Rattle.peel.specs.Rep.{Peelable, Leaves};
 ghost use Rattle.peel.specs.Peel.{peelAnswer, Peels};
 use crate::queue::clear;
 use crate::table::close;
@@ -15,7 +15,7 @@ use params::Params;
 use params::Refusal;
 use walk::Ending;
 
-// What a walk found: its ending, the entries left in the table, the sum of their counts, and the pops made.
+// What a walk found: its ending, the entries of its closed table, the sum of their counts, and the pops made.
 pub struct Figures {
     pub ending: Ending,
     pub entries: usize,
@@ -74,7 +74,7 @@ fn unravel(
     marks: &mut [u32],
     allowance: u32,
 ) -> Figures
-    requires { ⌜ Sound p (now counts) (now idsums) (now flows) (now numbers) (now queue) (now marks) ⌝ }
+    requires { ⌜ Peelable p (now counts) (now idsums) (now flows) (now numbers) (now queue) (now marks) ⌝ }
     ensures { λ r. ⌜ Leaves («walk-of» (ruleOf p) (length (now (flows .entry))) allowance (sketch (now (counts .entry)) (now (idsums .entry)))) r (now (counts .exit)) (now (idsums .exit)) (now (flows .exit)) (now (numbers .exit)) (now (queue .exit)) (now (marks .exit)) ⌝ }
 {
     let walked = walk_whole(p, counts, idsums, flows, numbers, queue, marks, allowance);

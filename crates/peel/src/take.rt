@@ -7,10 +7,10 @@ ghost use lib.ListN.{length, getD};
 ghost use Rattle.params.specs.Params.{prime};
 ghost use Rattle.params.specs.Positions.{WithinArrays};
 ghost use Rattle.buckets.specs.Buckets.{inLimits, plusMinus};
-ghost use Rattle.peel.specs.Dirt.{some, dirty, Takes, Took, Applied};
+ghost use Rattle.peel.specs.Nonzero.{oneIfNonzero, nonzeroBuckets, MayLessen, Lessened, Applied};
+use buckets::idsum_plus_minus;
 use buckets::plus_minus;
 use buckets::within;
-use buckets::idsum_plus_minus;
 
 // x more c, or x less c, keeps within the limits.
 pub(crate) fn fits(minus: bool, x: i32, c: i32) -> bool
@@ -20,8 +20,8 @@ pub(crate) fn fits(minus: bool, x: i32, c: i32) -> bool
 }
 
 // 1 where a bucket is not all zero.
-fn some_left(c: i32, s: u32) -> usize
-    ensures { λ r. ⌜ r ≡ some c s ⌝ }
+fn one_if_nonzero(c: i32, s: u32) -> usize
+    ensures { λ r. ⌜ r ≡ oneIfNonzero c s ⌝ }
 {
     if c == 0 {
         if s == 0 {
@@ -32,23 +32,30 @@ fn some_left(c: i32, s: u32) -> usize
 }
 
 // How many buckets are not all zero.
-pub(crate) fn count_left(counts: &[i32], idsums: &[u32]) -> usize
+pub(crate) fn count_nonzero(counts: &[i32], idsums: &[u32]) -> usize
     requires { ⌜ length (now counts) ≡ length (now idsums) ⌝ }
-    ensures { λ r. ⌜ r ≡ dirty (now (counts .entry)) (now (idsums .entry)) ⌝ }
+    ensures { λ r. ⌜ r ≡ nonzeroBuckets (now (counts .entry)) (now (idsums .entry)) ⌝ }
 {
-    let mut left = 0;
+    let mut nonzero = 0;
     let mut i = 0;
     while i < counts.len() {
-        left += some_left(counts[i], idsums[i]);
+        nonzero += one_if_nonzero(counts[i], idsums[i]);
         i += 1;
     }
-    left
+    nonzero
 }
 
 // Bucket j less c and s: how many buckets are not all zero then.
-fn take_one(counts: &mut [i32], idsums: &mut [u32], j: usize, c: i32, s: u32, dirt: usize) -> usize
-    requires { ⌜ Takes (now counts) (now idsums) j c s dirt ⌝ }
-    ensures { λ r. ⌜ Took (now (counts .entry)) (now (idsums .entry)) j c s (now (counts .exit)) (now (idsums .exit)) r ⌝ }
+fn take_one(
+    counts: &mut [i32],
+    idsums: &mut [u32],
+    j: usize,
+    c: i32,
+    s: u32,
+    nonzero: usize,
+) -> usize
+    requires { ⌜ MayLessen (now counts) (now idsums) j c s nonzero ⌝ }
+    ensures { λ r. ⌜ Lessened (now (counts .entry)) (now (idsums .entry)) j c s (now (counts .exit)) (now (idsums .exit)) r ⌝ }
 {
     let x = counts[j];
     let y = idsums[j];
@@ -56,7 +63,7 @@ fn take_one(counts: &mut [i32], idsums: &mut [u32], j: usize, c: i32, s: u32, di
     let w = idsum_plus_minus(true, y, s);
     counts[j] = v;
     idsums[j] = w;
-    dirt + some_left(v, w) - some_left(x, y)
+    nonzero + one_if_nonzero(v, w) - one_if_nonzero(x, y)
 }
 
 // The sketch less c and s in each of a flow's buckets: how many buckets are not all zero then.
@@ -68,19 +75,19 @@ pub(crate) fn apply(
     idsums: &mut [u32],
     c: i32,
     s: u32,
-    dirt: usize,
+    first: usize,
 ) -> usize
-    requires { ⌜ WithinArrays d m (now ks) (length (now counts)) (length (now idsums)) × (dirt ≡ dirty (now counts) (now idsums)) ⌝ }
+    requires { ⌜ WithinArrays d m (now ks) (length (now counts)) (length (now idsums)) × (first ≡ nonzeroBuckets (now counts) (now idsums)) ⌝ }
     requires { ⌜ ((i : ℕ) → i < d → inLimits (getD (now counts) (i * m + getD (now ks) i 0) (pos 0) -ℤ c) ≡ true) ⌝ }
     requires { ⌜ ((i : ℕ) → i < d → getD (now idsums) (i * m + getD (now ks) i 0) 0 < prime) × (s < prime) ⌝ }
     ensures { λ r. ⌜ Applied d m (now (ks .entry)) c s (now (counts .entry)) (now (idsums .entry)) (now (counts .exit)) (now (idsums .exit)) r ⌝ }
 {
-    let mut left = dirt;
+    let mut nonzero = first;
     let mut i = 0;
     while i < d {
         let j = i * m + ks[i];
-        left = take_one(counts, idsums, j, c, s, left);
+        nonzero = take_one(counts, idsums, j, c, s, nonzero);
         i += 1;
     }
-    left
+    nonzero
 }

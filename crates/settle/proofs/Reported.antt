@@ -13,14 +13,14 @@ use Rattle.params.specs.declared.answers.Answer.the-variants.{Done}
 use Rattle.params.specs.Params.{size}
 use Rattle.sketch.specs.Sketch.{Sketch, Entry, zeros}
 use Rattle.sums.specs.Sums.{combined}
-use Rattle.walk.specs.Walk.{Outcome, walk, close, net}
+use Rattle.walk.specs.Walk.{Outcome, walk, close, netOf}
 use Rattle.walk.specs.Purity.{ruleOf}
 use Rattle.peel.specs.declared.peeling.Figures.{Figures}
 use Rattle.peel.specs.declared.peeling.Peeled.{Peeled}
 use Rattle.peel.specs.declared.peeling.Peeled.the-variants.{Ended, Refused as NotPeeled}
 use Rattle.peel.specs.Peel.{figuresOf, peeledOf, flowsOf, numbersOf, padded}
 use Rattle.peel.proofs.Padding.{flows-many, numbers-many}
-use Rattle.peel.proofs.Promised.{left-whole, listed-few}
+use Rattle.peel.proofs.Promised.{remainder-whole, listed-few}
 use Rattle.lines.specs.Lines.{lossLine, endLine}
 use Rattle.lines.specs.Reports.{lossLines, leftLines, entryLines, reportText, walkText, reportFits}
 use Rattle.lines.proofs.Reporting.{losses-first, losses-none}
@@ -45,10 +45,10 @@ table-lines (e ∷ es) fs ns =
 
 -- the text that is written of a walk's figures, of what it left and of the slices that hold its table
 walk-text : (o : Outcome) (n m : ℕ) → let es = close (o .table) in let g = figuresOf o in
-    reportText (padded n 0 (flowsOf es)) (padded m (pos 0) (numbersOf es)) (g .entries) (o .left .counts) (o .left .idsums) (g .ending) (g .pops) (g .net) ≡ walkText o
+    reportText (padded n 0 (flowsOf es)) (padded m (pos 0) (numbersOf es)) (g .entries) (o .remainder .counts) (o .remainder .idsums) (g .ending) (g .pops) (g .net) ≡ walkText o
 unfolding reportText walkText padded
 walk-text o n m =
-    ap (λ ys. ys ++ (leftLines (o .left .counts) (o .left .idsums) (length (o .left .counts)) ++ endLine (o .ending) (o .pops) (net (close (o .table)))))
+    ap (λ ys. ys ++ (leftLines (o .remainder .counts) (o .remainder .idsums) (length (o .remainder .counts)) ++ endLine (o .ending) (o .pops) (netOf o)))
     (table-lines (close (o .table)) _ _)
 
 -- a list in as many slots as are there
@@ -56,9 +56,9 @@ padded-long : {A : Type 0} (n : ℕ) (z : A) (xs : List A) → length xs ≤ n �
 unfolding padded
 padded-long n z xs h = length-append xs (replicate (n - length xs) z) ∙ omega (arith, length-replicate (n - length xs) z)
 
-abbrev figuresIn : Peeled → Figures → Figures
-figuresIn (Ended g) h = g
-figuresIn (NotPeeled w k) h = h
+abbrev toldFigures : Peeled → Figures → Figures
+toldFigures (Ended g) h = g
+toldFigures (NotPeeled w k) h = h
 
 -- a report as the desk makes it: the first head is judged, the records behind it are fed to two fresh sketches, and at the end of the input
 -- nothing more is due; the difference is settled with slices of the sketch's size, and the text written of what that leaves
@@ -75,13 +75,13 @@ pub record Reported (P : Params) (input text : List ℕ) : Type 0 where
   pub marks : List ℕ
   pub lent : (length flows ≡ size P) × (length numbers ≡ size P) × (length queue ≡ size P) × (length marks ≡ size P)
   pub figures : Figures
-  pub left : Sketch
+  pub remainder : Sketch
   pub table-flows : List ℕ
   pub table-numbers : List ℤ
   pub cleared-queue : List ℕ
   pub cleared-marks : List ℕ
-  pub settled : Settles P up down flows numbers queue marks (Ended figures) left table-flows table-numbers cleared-queue cleared-marks
-  pub written : text ≡ reportText table-flows table-numbers (figures .entries) (left .counts) (left .idsums) (figures .ending) (figures .pops) (figures .net)
+  pub settled : Settles P up down flows numbers queue marks (Ended figures) remainder table-flows table-numbers cleared-queue cleared-marks
+  pub written : text ≡ reportText table-flows table-numbers (figures .entries) (remainder .counts) (remainder .idsums) (figures .ending) (figures .pops) (figures .net)
 
 module _ {P : Params} {input text : List ℕ} (r : Reported P input text) where
   -- the two streams that the input is
@@ -111,33 +111,33 @@ module _ {P : Params} {input text : List ℕ} (r : Reported P input text) where
   numbers-are : r .table-numbers ≡ padded (length (r .numbers)) (pos 0) (numbersOf (close (outcome .table)))
   numbers-are = r .settled .numbers ∙ sym (kept-new told _ _ not-refused)
 
-  left-is : r .left ≡ outcome .left
-  left-is = r .settled .left ∙ sym (kept-new told _ _ not-refused)
+  remainder-is : r .remainder ≡ outcome .remainder
+  remainder-is = r .settled .remainder ∙ sym (kept-new told _ _ not-refused)
 
   figures-are : r .figures ≡ figuresOf outcome
-  figures-are = ap (λ x. figuresIn x (r .figures)) (r .settled .answer ∙ ap (λ x. peeledOf x outcome) not-refused)
+  figures-are = ap (λ x. toldFigures x (r .figures)) (r .settled .answer ∙ ap (λ x. peeledOf x outcome) not-refused)
 
   -- the text is that of the walk over their difference, with 8 * d * m pops and d * m slots
   pub report-of-walk : text ≡ walkText (walk (ruleOf P) (size P) (8 * size P) difference)
   report-of-walk =
       let g = r .figures in
-      let read : reportText (r .table-flows) (r .table-numbers) (g .entries) (r .left .counts) (r .left .idsums) (g .ending) (g .pops) (g .net) ≡ walkText outcome =
-      rw (flows-are, numbers-are, left-is, figures-are) (walk-text outcome (length (r .flows)) (length (r .numbers)))
+      let read : reportText (r .table-flows) (r .table-numbers) (g .entries) (r .remainder .counts) (r .remainder .idsums) (g .ending) (g .pops) (g .net) ≡ walkText outcome =
+      rw (flows-are, numbers-are, remainder-is, figures-are) (walk-text outcome (length (r .flows)) (length (r .numbers)))
       in
       r .written ∙ read ∙ ap (λ n. walkText (walk (ruleOf P) n (8 * size P) difference)) (r .lent .0)
 
   -- it fits in 64 bytes for each of twice 1536 lines and one more, which is what the program lends
-  pub report-fits : reportFits (64 * (2 * 1536 + 1)) (length (r .table-flows)) (length (r .table-numbers)) (r .figures .entries) (length (r .left .counts)) (length (r .left .idsums)) ≡ true
+  pub report-fits : reportFits (64 * (2 * 1536 + 1)) (length (r .table-flows)) (length (r .table-numbers)) (r .figures .entries) (length (r .remainder .counts)) (length (r .remainder .idsums)) ≡ true
   unfolding fewEnough
   report-fits =
       let peeled = settled-is-peeled P (r .up) (r .down) (r .flows) (r .numbers) (r .queue) (r .marks) not-refused (r .settled) in
-      let whole = left-whole peeled refl in
+      let whole = remainder-whole peeled refl in
       let few = leb-true (size P) 1536 (few-begun P input (r .head)) in
       let entries = listed-few peeled refl in
       let entries-are : r .figures .entries ≡ length (close (outcome .table)) = ap (λ g. g .entries) figures-are in
       let flows = ap length flows-are ∙ padded-long (length (r .flows)) 0 _ (omega (arith, entries, entries-are, flows-many (close (outcome .table)))) in
       let numbers = ap length numbers-are ∙ padded-long (length (r .numbers)) (pos 0) _ (omega (arith, entries, entries-are, numbers-many (close (outcome .table)), r .lent .0, r .lent .1)) in
-      rw (le-leb (r .figures .entries) (length (r .table-flows)) (omega (arith, flows, entries)), le-leb (r .figures .entries) (length (r .table-numbers)) (omega (arith, numbers, entries, r .lent .0, r .lent .1)), eq-eqb (length (r .left .idsums)) (length (r .left .counts)) (omega (arith, whole .counts-long, whole .idsums-long)), le-leb (64 * (r .figures .entries + length (r .left .counts) + 1)) (64 * (2 * 1536 + 1)) (omega (arith, entries, few, r .lent .0, whole .counts-long)))
+      rw (le-leb (r .figures .entries) (length (r .table-flows)) (omega (arith, flows, entries)), le-leb (r .figures .entries) (length (r .table-numbers)) (omega (arith, numbers, entries, r .lent .0, r .lent .1)), eq-eqb (length (r .remainder .idsums)) (length (r .remainder .counts)) (omega (arith, whole .counts-long, whole .idsums-long)), le-leb (64 * (r .figures .entries + length (r .remainder .counts) + 1)) (64 * (2 * 1536 + 1)) (omega (arith, entries, few, r .lent .0, whole .counts-long)))
 
   -- where the input is two streams, one directly after the other, the sketches are what their reader makes of them
   module _ {a b : List ℕ} {S T : Sketch} (is : input ≡ a ++ b) (one : StreamRead P a (zeros P) Done S) (two : StreamRead P b (zeros P) Done T) where

@@ -110,7 +110,7 @@ module _ (P : Params) (S T : Sketch) (fs : List ℕ) (ns : List ℤ) (q ms : Lis
         let refused : Refused w k ≡ told = sym h ∙ e in
         record {
           answer = ap (λ (x : Answer). peeledOf x walked) refused;
-          left = l ∙ sym (kept-refused r S (combined true S T) (sym h)) ∙ kept-refused told S _ refused;
+          remainder = l ∙ sym (kept-refused r S (combined true S T) (sym h)) ∙ kept-refused told S _ refused;
           flows = kept-refused told fs _ refused;
           numbers = kept-refused told ns _ refused;
           queue = kept-refused told q _ refused;
@@ -125,7 +125,7 @@ module _ (P : Params) (S T : Sketch) (fs : List ℕ) (ns : List ℤ) (q ms : Lis
         let j = settled-peels P S T (length fs) (length ns) (length q) (length ms) done in
         record {
           answer = p .answer ∙ ap (λ (x : Answer). peeledOf x walked) (j ∙ sym done);
-          left = kept-done _ told _ S _ j done (p .left);
+          remainder = kept-done _ told _ S _ j done (p .remainder);
           flows = kept-done _ told _ fs _ j done (p .flows);
           numbers = kept-done _ told _ ns _ j done (p .numbers);
           queue = kept-done _ told _ q _ j done (p .queue);
@@ -139,7 +139,7 @@ module _ (P : Params) (S T : Sketch) (fs : List ℕ) (ns : List ℤ) (q ms : Lis
       let j = settled-peels P S T (length fs) (length ns) (length q) (length ms) done in
       record {
         answer = s .answer ∙ ap (λ (x : Answer). peeledOf x walked) (done ∙ sym j);
-        left = kept-done told _ S _ _ done j (s .left);
+        remainder = kept-done told _ S _ _ done j (s .remainder);
         flows = kept-done told _ fs fs _ done j (s .flows);
         numbers = kept-done told _ ns ns _ done j (s .numbers);
         queue = kept-done told _ q q _ done j (s .queue);

@@ -43,7 +43,7 @@ module _ (P : Params) (S T : Sketch) (fs : List ℕ) (ns : List ℤ) (q ms : Lis
 
   pub record Settles (r : Peeled) (S' : Sketch) (fs' : List ℕ) (ns' : List ℤ) (q' ms' : List ℕ) : Type 0 where
     pub answer : r ≡ peeledOf settleJudged settleWalked
-    pub left : S' ≡ kept settleJudged S (settleWalked .left)
+    pub remainder : S' ≡ kept settleJudged S (settleWalked .remainder)
     pub flows : fs' ≡ kept settleJudged fs (padded (length fs) 0 (flowsOf (close (settleWalked .table))))
     pub numbers : ns' ≡ kept settleJudged ns (padded (length ns) (pos 0) (numbersOf (close (settleWalked .table))))
     pub queue : q' ≡ kept settleJudged q (replicate (size P) 0)

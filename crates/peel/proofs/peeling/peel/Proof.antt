@@ -1,7 +1,7 @@
 -- `peel::peeling::peel` meets its contract.
 use mathlib.Core.Path.{sym, _∙_}
 use borrow.Author.Needs.{needs}
-use Rattle.peel.proofs.Judged.{judged-sound}
+use Rattle.peel.proofs.Judged.{judged-peelable}
 use Rattle.peel.proofs.Peeled.{not-peeled, peeled}
 use Rattle.peel.proofs.peeling.peel.Statement.{statement}
 use Rattle.peel.proofs.peeling.peel.Tie as tie
@@ -16,7 +16,7 @@ enum-told : tie.Need-enum-told
 enum-told c = search needs
 
 unravel-requires : tie.Need-unravel-requires
-unravel-requires c κs = judged-sound _ _ _ _ _ _ _ (sym (c .before .before .before .before .before .before .before .before .judge .ensures) ∙ c .before .before .before .before .before .before .enum-told .given .1)
+unravel-requires c κs = judged-peelable _ _ _ _ _ _ _ (sym (c .before .before .before .before .before .before .before .before .judge .ensures) ∙ c .before .before .before .before .before .before .enum-told .given .1)
 
 same-length : tie.Need-same-length
 same-length c = search needs

@@ -23,14 +23,15 @@ use Rattle.sketch.proofs.Standing.{Within, reach}
 use Rattle.walk.specs.declared.Found.the-variants.{Pure}
 use Rattle.walk.specs.Walk.{run}
 use Rattle.walk.specs.Purity.{pureTest, ruleOf}
-use Rattle.peel.specs.Ring.{slot, Popped, Requeued}
+use Rattle.walk.proofs.Purity.{guarded-is-pure}
+use Rattle.peel.specs.Ring.{ringPlace, Popped, Requeued}
 use Rattle.peel.specs.Table.{Credited}
 use Rattle.peel.specs.Chains.{Chained, Relinked}
-use Rattle.peel.specs.Dirt.{Applied}
+use Rattle.peel.specs.Nonzero.{Applied}
 use Rattle.peel.specs.Rep.{stateOf}
 use Rattle.peel.proofs.Rings.{ring-kept}
 use Rattle.peel.proofs.RangeLoop.{fitsAt}
-use Rattle.peel.proofs.Turns.{Inv, sized-test}
+use Rattle.peel.proofs.Turns.{Inv}
 use Rattle.peel.proofs.Turns as turn
 use Rattle.peel.proofs.walking.walk.Statement.{statement}
 use Rattle.peel.proofs.walking.walk.Tie as tie
@@ -45,21 +46,21 @@ record Lengths (cs₀ : List ℤ) (ss₀ fs₀ : List ℕ) (ns₀ : List ℤ) (q
   marks : length ms ≡ length ms₀
 
 abbrev Inv-loop : tie.InvT-loop
-Inv-loop p counts idsums flows numbers queue marks first dirt allowance d m size slots ks head waiting left entries pops k c s f i₀ i =
+Inv-loop p counts idsums flows numbers queue marks first-waiting first-nonzero allowance d m size slots ks head waiting nonzero entries pops k c s f i₀ i =
     (i ≤ d) × ((j : ℕ) → j < i → fitsAt m ks counts (toZ w32 c) j ≡ true)
 
 abbrev μ-loop : tie.MeasureT-loop
-μ-loop p counts idsums flows numbers queue marks first dirt allowance d m size slots ks head waiting left entries pops k c s f i₀ i =
+μ-loop p counts idsums flows numbers queue marks first-waiting first-nonzero allowance d m size slots ks head waiting nonzero entries pops k c s f i₀ i =
     d - i
 
 abbrev Inv-walk : tie.InvT-walk
-Inv-walk p counts₀ idsums₀ flows₀ numbers₀ queue₀ marks₀ first dirt allowance d m size slots ks₀ head₀ waiting₀ left₀ entries₀ pops₀ counts idsums flows numbers queue marks ks head waiting left entries pops =
-    Inv p (length flows₀) allowance (run (ruleOf p) (length flows₀) allowance 0 (stateOf counts₀ idsums₀ flows₀ numbers₀ queue₀ 0 first 0)) counts idsums flows numbers queue marks head waiting left entries pops
+Inv-walk p counts₀ idsums₀ flows₀ numbers₀ queue₀ marks₀ first-waiting first-nonzero allowance d m size slots ks₀ head₀ waiting₀ nonzero₀ entries₀ pops₀ counts idsums flows numbers queue marks ks head waiting nonzero entries pops =
+    Inv p (length flows₀) allowance (run (ruleOf p) (length flows₀) allowance 0 (stateOf counts₀ idsums₀ flows₀ numbers₀ queue₀ 0 first-waiting 0)) counts idsums flows numbers queue marks head waiting nonzero entries pops
     × Lengths counts₀ idsums₀ flows₀ numbers₀ queue₀ marks₀ counts idsums flows numbers queue marks
     × (length ks ≡ 4)
 
 abbrev μ-walk : tie.MeasureT-walk
-μ-walk p counts₀ idsums₀ flows₀ numbers₀ queue₀ marks₀ first dirt allowance d m size slots ks₀ head₀ waiting₀ left₀ entries₀ pops₀ counts idsums flows numbers queue marks ks head waiting left entries pops =
+μ-walk p counts₀ idsums₀ flows₀ numbers₀ queue₀ marks₀ first-waiting first-nonzero allowance d m size slots ks₀ head₀ waiting₀ nonzero₀ entries₀ pops₀ counts idsums flows numbers queue marks ks head waiting nonzero entries pops =
     allowance - pops
 
 -- the loop's head, and the walk's start
@@ -86,8 +87,8 @@ popped-is : (c : Popd) → let a = head-of c in
     Popped (start a .args .p .d * start a .args .p .m) (a .walk .queue) (a .walk .marks) (c .pop .last .1 .0) (a .walk .head) (a .walk .waiting) (c .pop .result)
 popped-is c = rw (size-is (head-of c)) at (c .pop .ensures)
 
-some-of : (c : Popd) → head-of c .walk .left ≡ 0 → ⊥
-some-of c = c .before .before .before .before .before .if1 .left
+unclean-of : (c : Popd) → head-of c .walk .nonzero ≡ 0 → ⊥
+unclean-of c = c .before .before .before .before .before .if1 .left
 
 more-of : (c : Popd) → head-of c .walk .pops ≡ start (head-of c) .args .allowance → ⊥
 more-of c = c .before .before .before .if3 .left
@@ -107,10 +108,10 @@ c-is c = toZ-ofZ w32 _ (record { sfits = c .before .before .c .given })
 
 test-is : (c : Test) → let a = head-of (pop-of c) in
     c .test .result ≡ pureTest (start a .args .p) (pop-of c .pop .result) (count-of c) (getD (a .walk .idsums) (pop-of c .pop .result) 0)
-test-is c = (rw (c-is c) at (c .test .ensures)) ∙ sized-test _ _ _ (start (head-of (pop-of c)) .pre .dimensions)
+test-is c = (rw (c-is c) at (c .test .ensures)) ∙ guarded-is-pure _ _ _ (start (head-of (pop-of c)) .pre .dimensions)
 
-place-is : (c : Test) → let a = head-of (pop-of c) in c .before .before .before .place .result ≡ slot (start a .args .p .d * start a .args .p .m) (a .walk .head) 1
-place-is c = rw (start (head-of (pop-of c)) .pre .ringed .long) at (c .before .before .before .place .ensures)
+place-is : (c : Test) → let a = head-of (pop-of c) in c .before .before .before .ring-place .result ≡ ringPlace (start a .args .p .d * start a .args .p .m) (a .walk .head) 1
+place-is c = rw (start (head-of (pop-of c)) .pre .ringed .long) at (c .before .before .before .ring-place .ensures)
 
 -- the take of the flow that the test found
 abbrev Inner : Type 0
@@ -152,7 +153,7 @@ first-below c = omega (arith, first-bucket c .bucket, popped-is (pop-of (test-of
 -- by it f can be looked up
 chained-is : (c : Inner) → let a = walk-of c in
     Chained (start a .args .p .d * start a .args .p .m) (a .walk .flows) (a .walk .queue) (marks-of c) (a .walk .entries) (flow c) (getD (ks-of c) 0 0)
-chained-is c = let p = pop-of (test-of c) in turn.chained (walk-of c .walk .inv .0) (some-of p) (popped-is p) (more-of p) (pure-is c) (placed-is c)
+chained-is c = let p = pop-of (test-of c) in turn.chained (walk-of c .walk .inv .0) (unclean-of p) (popped-is p) (more-of p) (pure-is c) (placed-is c)
 
 -- f's bucket in the array that i others stand before, and what the test of it says
 bucket : (c : tie.In-loop Inv-loop μ-loop Inv-walk μ-walk) → let b = start (walk-of (c .before)) in
@@ -183,7 +184,7 @@ more-is c =
     rw (toZ-ofZ w32 (getD (walk-of l .walk .numbers) (f .find .result) (pos 0)) (record { sfits = c .before .fits-arg2 .given }), c-is (test-of l))
     at (c .fits3 .ensures)
 
--- where the two ways of the entry meet: it stays within the limits, and has a place
+-- where the two ways of the entry meet: it stays within the limits, and has a slot
 abbrev Meet : Type 0
 Meet = tie.Joined5 Inv-loop μ-loop Inv-walk μ-walk
 
@@ -232,19 +233,19 @@ abbrev credit-of : End → Credit
 credit-of c = c .before .before .before .before .before .before .before .before .before .before .before .before
 
 requeued : (c : End) → let k = credit-of c in let l = inner-of (meet-of k) in let a = walk-of l in let b = start a in
-    Requeued (b .args .p .d) (b .args .p .m) (ks-of l) (apply-of k .apply .last .1 .1 .1 .0) (k .credit .last .1 .1 .0) (k .credit .last .1 .1 .1 .0) (slot (b .args .p .d * b .args .p .m) (a .walk .head) 1) (a .walk .waiting - 1) (c .requeue .last .1 .1 .1 .1 .0) (c .requeue .last .1 .1 .1 .1 .1 .0) (c .requeue .result)
+    Requeued (b .args .p .d) (b .args .p .m) (ks-of l) (apply-of k .apply .last .1 .1 .1 .0) (k .credit .last .1 .1 .0) (k .credit .last .1 .1 .1 .0) (ringPlace (b .args .p .d * b .args .p .m) (a .walk .head) 1) (a .walk .waiting - 1) (c .requeue .last .1 .1 .1 .1 .0) (c .requeue .last .1 .1 .1 .1 .1 .0) (c .requeue .result)
 requeued c = rw (place-is (test-of (inner-of (meet-of (credit-of c))))) at (c .requeue .ensures)
 
 took-is : (c : End) → let l = inner-of (meet-of (credit-of c)) in let a = walk-of l in let b = start a in
-    Inv (b .args .p) (length (b .args .flows .now)) (b .args .allowance) (run (ruleOf (b .args .p)) (length (b .args .flows .now)) (b .args .allowance) 0 (stateOf (b .args .counts .now) (b .args .idsums .now) (b .args .flows .now) (b .args .numbers .now) (b .args .queue .now) 0 (b .args .first) 0))
+    Inv (b .args .p) (length (b .args .flows .now)) (b .args .allowance) (run (ruleOf (b .args .p)) (length (b .args .flows .now)) (b .args .allowance) 0 (stateOf (b .args .counts .now) (b .args .idsums .now) (b .args .flows .now) (b .args .numbers .now) (b .args .queue .now) 0 (b .args .first-waiting) 0))
     (apply-of (credit-of c) .apply .last .1 .1 .1 .0) (apply-of (credit-of c) .apply .last .1 .1 .1 .1 .0) (credit-of c .credit .last .0) (credit-of c .credit .last .1 .0) (c .requeue .last .1 .1 .1 .1 .0) (c .requeue .last .1 .1 .1 .1 .1 .0)
-    (slot (b .args .p .d * b .args .p .m) (a .walk .head) 1) (c .requeue .result) (apply-of (credit-of c) .apply .result) (credit-of c .credit .result) (a .walk .pops + 1)
+    (ringPlace (b .args .p .d * b .args .p .m) (a .walk .head) 1) (c .requeue .result) (apply-of (credit-of c) .apply .result) (credit-of c .credit .result) (a .walk .pops + 1)
 took-is c =
     let k = credit-of c in
     let m = meet-of k in
     let l = inner-of m in
     let p = pop-of (test-of l) in
-    turn.took (walk-of l .walk .inv .0) (some-of p) (popped-is p) (more-of p) (pure-is l) (placed-is l) (all-fit (done-of m)) (m .before .find .ensures) (entry m) (free m)
+    turn.took (walk-of l .walk .inv .0) (unclean-of p) (popped-is p) (more-of p) (pure-is l) (placed-is l) (all-fit (done-of m)) (m .before .find .ensures) (entry m) (free m)
     (applied (apply-of k)) (k .credit .kept .0) (k .credit .kept .1 .0) (credited k) (k .credit .kept .1 .1 .0) (relinked k) (requeued c)
 
 walk-holds : tie.Need-walk-holds Inv-loop μ-loop Inv-walk μ-walk
@@ -254,7 +255,7 @@ walk-holds c =
         holds = b .pre;
         long = refl;
         within = omega arith;
-        runs = ap (λ (n : ℕ). run (ruleOf (b .args .p)) (length (b .args .flows .now)) n 0 (stateOf (b .args .counts .now) (b .args .idsums .now) (b .args .flows .now) (b .args .numbers .now) (b .args .queue .now) 0 (b .args .first) 0)) (sub-zero (b .args .allowance));
+        runs = ap (λ (n : ℕ). run (ruleOf (b .args .p)) (length (b .args .flows .now)) n 0 (stateOf (b .args .counts .now) (b .args .idsums .now) (b .args .flows .now) (b .args .numbers .now) (b .args .queue .now) 0 (b .args .first-waiting) 0)) (sub-zero (b .args .allowance));
       },
       record { counts = refl; idsums = refl; flows = refl; numbers = refl; queue = refl; marks = refl },
       refl,
@@ -266,8 +267,8 @@ add-pops c = search needs
 pop-requires : tie.Need-pop-requires Inv-loop μ-loop Inv-walk μ-walk
 pop-requires c κs = let a = c .before .before .before .before .before in rw (size-is a) (a .walk .inv .0 .holds .ringed, omega arith)
 
-place-requires : tie.Need-place-requires Inv-loop μ-loop Inv-walk μ-walk
-place-requires c κs =
+ring-place-requires : tie.Need-ring-place-requires Inv-loop μ-loop Inv-walk μ-walk
+ring-place-requires c κs =
     let a = head-of (c .before .before) in
     let b = start a in
     rw (b .pre .ringed .long) (a .walk .inv .0 .holds .ringed .head-in, omega (arith, b .pre .ringed .head-in), small _ _ (b .pre .dimensions .d-high) (b .pre .dimensions .m-high))
@@ -305,7 +306,7 @@ walk-again c =
     let p = pop-of t in
     let a = head-of p in
     let n = a .walk .inv .1 in (
-      rw (place-is t) (turn.impure (a .walk .inv .0) (some-of p) (popped-is p) (more-of p) (sym (test-is t) ∙ c .enum-told2 .given .1)),
+      rw (place-is t) (turn.impure (a .walk .inv .0) (unclean-of p) (popped-is p) (more-of p) (sym (test-is t) ∙ c .enum-told2 .given .1)),
       record { counts = n .counts; idsums = n .idsums; flows = n .flows; numbers = n .numbers; queue = n .queue; marks = popped-is p .ringed .long-marks ∙ sym (start a .pre .ringed .long-marks) },
       a .walk .inv .2,
     )
@@ -373,7 +374,7 @@ apply-requires c κs =
     let m = c .before .before .before in
     let l = inner-of m in
     let h = walk-of l .walk .inv .0 .holds in
-    rw (c-is (test-of l)) ((reached-is l, h .dirt), (all-fit (done-of m), (λ i e. h .sane .idsums _, h .sane .idsums _)))
+    rw (c-is (test-of l)) ((reached-is l, h .counted), (all-fit (done-of m), (λ i e. h .sane .idsums _, h .sane .idsums _)))
 
 array-read-credit : tie.Need-array-read-credit Inv-loop μ-loop Inv-walk μ-walk
 array-read-credit c = search needs
@@ -388,9 +389,9 @@ credit-requires c κs =
       (
         m .before .find .ensures,
         v .holds .slots,
-        rw (v .long) (turn.has-place v (some-of p) (popped-is p) (more-of p) (pure-is l) (placed-is l) (all-fit (done-of m)) (m .before .find .ensures) (entry m) (free m)),
+        rw (v .long) (turn.has-slot v (unclean-of p) (popped-is p) (more-of p) (pure-is l) (placed-is l) (all-fit (done-of m)) (m .before .find .ensures) (entry m) (free m)),
         v .holds .room,
-        turn.entry-fits v (some-of p) (popped-is p) (more-of p) (pure-is l) (placed-is l) (all-fit (done-of m)) (m .before .find .ensures) (entry m) (free m),
+        turn.entry-fits v (unclean-of p) (popped-is p) (more-of p) (pure-is l) (placed-is l) (all-fit (done-of m)) (m .before .find .ensures) (entry m) (free m),
       ),
       (
         rw (size-is (walk-of l)) (small _ _ (v .holds .dimensions .d-high) (v .holds .dimensions .m-high)),
@@ -521,7 +522,7 @@ returns-4 : tie.Need-returns-4 Inv-loop μ-loop Inv-walk μ-walk
 returns-4 c =
     let t = c .before .before in
     let p = pop-of t in
-    record { outcome = turn.no-inverse (head-of p .walk .inv .0) (some-of p) (popped-is p) (more-of p) (sym (test-is t) ∙ c .enum-told .given .1); room = room-of (head-of p) }
+    record { outcome = turn.no-inverse (head-of p .walk .inv .0) (unclean-of p) (popped-is p) (more-of p) (sym (test-is t) ∙ c .enum-told .given .1); room = room-of (head-of p) }
 
 same-length-25 : tie.Need-same-length-25 Inv-loop μ-loop Inv-walk μ-walk
 same-length-25 c = search needs
@@ -546,7 +547,7 @@ returns-5 c =
     let n = c .before .before .before in
     let l = n .before in
     let p = pop-of (test-of l) in
-    record { outcome = turn.range-count (walk-of l .walk .inv .0) (some-of p) (popped-is p) (more-of p) (pure-is l) (placed-is l) (l .loop .i) (n .loop-test .taken) (sym (fits-is (c .before)) ∙ not-true _ (c .if4 .taken)); room = room-of (walk-of l) }
+    record { outcome = turn.range-count (walk-of l .walk .inv .0) (unclean-of p) (popped-is p) (more-of p) (pure-is l) (placed-is l) (l .loop .i) (n .loop-test .taken) (sym (fits-is (c .before)) ∙ not-true _ (c .if4 .taken)); room = room-of (walk-of l) }
 
 same-length-31 : tie.Need-same-length-31 Inv-loop μ-loop Inv-walk μ-walk
 same-length-31 c = search needs
@@ -572,7 +573,7 @@ returns-6 c =
     let d = f .before .before .before .before in
     let l = d .before in
     let p = pop-of (test-of l) in
-    record { outcome = turn.range-entry (walk-of l .walk .inv .0) (some-of p) (popped-is p) (more-of p) (pure-is l) (placed-is l) (all-fit d) (f .find .ensures) (c .before .before .before .if5 .taken) (sym (more-is (c .before)) ∙ not-true _ (c .if6 .taken)); room = room-of (walk-of l) }
+    record { outcome = turn.range-entry (walk-of l .walk .inv .0) (unclean-of p) (popped-is p) (more-of p) (pure-is l) (placed-is l) (all-fit d) (f .find .ensures) (c .before .before .before .if5 .taken) (sym (more-is (c .before)) ∙ not-true _ (c .if6 .taken)); room = room-of (walk-of l) }
 
 same-length-37 : tie.Need-same-length-37 Inv-loop μ-loop Inv-walk μ-walk
 same-length-37 c = search needs
@@ -598,7 +599,7 @@ returns-7 c =
     let d = f .before .before .before .before in
     let l = d .before in
     let p = pop-of (test-of l) in
-    record { outcome = turn.full (walk-of l .walk .inv .0) (some-of p) (popped-is p) (more-of p) (pure-is l) (placed-is l) (all-fit d) (f .find .ensures) (c .before .if5 .left) (c .if7 .taken); room = room-of (walk-of l) }
+    record { outcome = turn.full (walk-of l .walk .inv .0) (unclean-of p) (popped-is p) (more-of p) (pure-is l) (placed-is l) (all-fit d) (f .find .ensures) (c .before .if5 .left) (c .if7 .taken); room = room-of (walk-of l) }
 
 pub walk-spec : {M : Type 1} → statement M
 walk-spec =
@@ -611,7 +612,7 @@ walk-spec =
     walk-holds
     add-pops
     pop-requires
-    place-requires
+    ring-place-requires
     sub-waiting
     mul-c
     slice-copy-out-c

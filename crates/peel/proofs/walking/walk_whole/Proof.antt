@@ -21,8 +21,8 @@ start-requires c κs =
       rw (n .long) (dimensions-small (n .dimensions)),
     )
 
-count-left-requires : tie.Need-count-left-requires
-count-left-requires c κs = search needs
+count-nonzero-requires : tie.Need-count-nonzero-requires
+count-nonzero-requires c κs = search needs
 
 walk-requires : tie.Need-walk-requires
 walk-requires c κs =
@@ -33,7 +33,7 @@ walk-requires c κs =
       slots = n .slots;
       ringed = rw (n .long) at (c .before .before .before .before .before .before .before .before .before .before .before .before .before .start .ensures .ringed);
       chained = chains-none (c .before .before .before .before .before .before .before .before .before .before .before .before .before .start .ensures .above-marks);
-      dirt = c .before .before .before .before .before .before .count-left .ensures;
+      counted = c .before .before .before .before .before .before .count-nonzero .ensures;
       room = omega arith;
     }
 
@@ -71,7 +71,7 @@ walk-whole-spec =
     tie.close
     (tie.spec
     start-requires
-    count-left-requires
+    count-nonzero-requires
     walk-requires
     same-length
     same-length-2
