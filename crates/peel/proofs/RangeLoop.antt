@@ -14,10 +14,7 @@ use Rattle.params.proofs.Searches.{all-below, below-fails}
 use Rattle.walk.specs.Walk.{State, entryOf, inRange}
 use Rattle.walk.specs.Purity.{ruleOf}
 use Rattle.walk.proofs.Purity.{index-next}
-
--- of arrays of m buckets, in the one that i others stand before: c less in the bucket that ks names stays within the limits
-abbrev pub fitsAt : ℕ → List ℕ → List ℤ → ℤ → ℕ → Bool
-fitsAt m ks cs c i = inLimits (getD cs (i * m + getD ks i 0) (pos 0) -ℤ c)
+use Rattle.peel.specs.Rep.{fitsAt}
 
 module _ (P : Params) (f : ℕ) (c : ℤ) (st : State) (ks : List ℕ) (p : Positioned P f ks) where
   same-bucket : (i : ℕ) (t : Bool) → i < P .d → fitsAt (P .m) ks (st .held .counts) c i ≡ t → inLimits (countIn (st .held) (index P (suc i) f) -ℤ c) ≡ t

@@ -7,8 +7,21 @@ ghost use lib.ListN.{length, getD};
 ghost use Rattle.params.specs.Params.{prime};
 ghost use Rattle.params.specs.Positions.{WithinArrays};
 ghost use Rattle.buckets.specs.Buckets.{inLimits, plusMinus};
+ghost use Rattle.peel.specs.Slices.{slices};
 ghost use Rattle.peel.specs.Nonzero.{oneIfNonzero, nonzeroBuckets, MayLessen, Lessened, Applied};
+ghost use Rattle.peel.specs.Rep.{Takes, Took};
+use crate::queue::requeue;
+use crate::table::credit;
 use buckets::idsum_plus_minus;
+use params::Params;
+
+// After a take: how many buckets wait, how many are not all zero, and how many entries the table has.
+pub(crate) struct Taken {
+    pub waiting: usize,
+    pub nonzero: usize,
+    pub entries: usize,
+}
+
 use buckets::plus_minus;
 use buckets::within;
 
@@ -90,4 +103,39 @@ pub(crate) fn apply(
         i += 1;
     }
     nonzero
+}
+
+// Takes flow f, whose positions are ks and whose slot is `at`, with the count c and the idsum s of the popped bucket: from its
+// buckets, into the table, and then its buckets that have a count go to the queue's back.
+pub(crate) fn take_flow(
+    p: Params,
+    ks: &[usize; 4],
+    counts: &mut [i32],
+    idsums: &mut [u32],
+    flows: &mut [u32],
+    numbers: &mut [i32],
+    queue: &mut [u32],
+    marks: &mut [u32],
+    head: usize,
+    waiting: usize,
+    nonzero: usize,
+    entries: usize,
+    at: usize,
+    f: u32,
+    c: i32,
+    s: u32,
+) -> Taken
+    requires { ⌜ Takes p (slices (now counts) (now idsums) (now flows) (now numbers) (now queue) (now marks)) head waiting nonzero entries (now ks) at f c s ⌝ }
+    ensures { λ r. ⌜ Took p (slices (now (counts .entry)) (now (idsums .entry)) (now (flows .entry)) (now (numbers .entry)) (now (queue .entry)) (now (marks .entry))) head waiting entries f c s r (slices (now (counts .exit)) (now (idsums .exit)) (now (flows .exit)) (now (numbers .exit)) (now (queue .exit)) (now (marks .exit))) ⌝ }
+{
+    let d = p.d;
+    let m = p.m;
+    let still_nonzero = apply(d, m, ks, counts, idsums, c, s, nonzero);
+    let listed = credit(flows, numbers, queue, marks, entries, at, f, ks[0], c);
+    let queued = requeue(d, m, ks, counts, queue, marks, head, waiting);
+    Taken {
+        waiting: queued,
+        nonzero: still_nonzero,
+        entries: listed,
+    }
 }

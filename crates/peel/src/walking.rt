@@ -4,16 +4,15 @@ ghost use lib.ListN.{length};
 ghost use Rattle.sketch.specs.Sketch.{sketch};
 ghost use Rattle.walk.specs.Walk.{run, walk as «walk-of»};
 ghost use Rattle.walk.specs.Purity.{ruleOf};
+ghost use Rattle.peel.specs.Slices.{slices};
 ghost use Rattle.peel.specs.Rep.{Holds, Peelable, stateOf, Walks};
 use crate::queue::pop;
-use crate::queue::requeue;
 use crate::queue::ring_place;
 use crate::queue::start;
-use crate::table::credit;
 use crate::table::find;
-use crate::take::apply;
 use crate::take::count_nonzero;
 use crate::take::fits;
+use crate::take::take_flow;
 use params::Params;
 use walk::Ending;
 use walk::Found;
@@ -38,8 +37,8 @@ fn walk(
     first_nonzero: usize,
     allowance: u32,
 ) -> Walked
-    requires { ⌜ Holds p (now counts) (now idsums) (now flows) (now numbers) (now queue) (now marks) 0 «first_waiting» «first_nonzero» 0 ⌝ }
-    ensures { λ r. ⌜ Walks (run (ruleOf p) (length (now (flows .entry))) allowance 0 (stateOf (now (counts .entry)) (now (idsums .entry)) (now (flows .entry)) (now (numbers .entry)) (now (queue .entry)) 0 «first_waiting» 0)) (length (now (flows .entry))) r (now (counts .exit)) (now (idsums .exit)) (now (flows .exit)) (now (numbers .exit)) ⌝ }
+    requires { ⌜ Holds p (slices (now counts) (now idsums) (now flows) (now numbers) (now queue) (now marks)) 0 «first_waiting» «first_nonzero» 0 ⌝ }
+    ensures { λ r. ⌜ Walks (run (ruleOf p) (length (now (flows .entry))) allowance 0 (stateOf (slices (now (counts .entry)) (now (idsums .entry)) (now (flows .entry)) (now (numbers .entry)) (now (queue .entry)) (now (marks .entry))) 0 «first_waiting» 0)) (length (now (flows .entry))) r (slices (now (counts .exit)) (now (idsums .exit)) (now (flows .exit)) (now (numbers .exit)) (now (queue .exit)) (now (marks .exit))) ⌝ }
 {
     let d = p.d;
     let m = p.m;
@@ -91,9 +90,27 @@ fn walk(
                 } else if at == slots {
                     break 'walk Ending::Full;
                 }
-                nonzero = apply(d, m, &ks, counts, idsums, c, s, nonzero);
-                entries = credit(flows, numbers, queue, marks, entries, at, f, ks[0], c);
-                waiting = requeue(d, m, &ks, counts, queue, marks, head, waiting);
+                let taken = take_flow(
+                    p,
+                    &ks,
+                    counts,
+                    idsums,
+                    flows,
+                    numbers,
+                    queue,
+                    marks,
+                    head,
+                    waiting,
+                    nonzero,
+                    entries,
+                    at,
+                    f,
+                    c,
+                    s,
+                );
+                waiting = taken.waiting;
+                nonzero = taken.nonzero;
+                entries = taken.entries;
             }
         }
     };
@@ -115,8 +132,8 @@ pub(crate) fn walk_whole(
     marks: &mut [u32],
     allowance: u32,
 ) -> Walked
-    requires { ⌜ Peelable p (now counts) (now idsums) (now flows) (now numbers) (now queue) (now marks) ⌝ }
-    ensures { λ r. ⌜ Walks («walk-of» (ruleOf p) (length (now (flows .entry))) allowance (sketch (now (counts .entry)) (now (idsums .entry)))) (length (now (flows .entry))) r (now (counts .exit)) (now (idsums .exit)) (now (flows .exit)) (now (numbers .exit)) ⌝ }
+    requires { ⌜ Peelable p (slices (now counts) (now idsums) (now flows) (now numbers) (now queue) (now marks)) ⌝ }
+    ensures { λ r. ⌜ Walks («walk-of» (ruleOf p) (length (now (flows .entry))) allowance (sketch (now (counts .entry)) (now (idsums .entry)))) (length (now (flows .entry))) r (slices (now (counts .exit)) (now (idsums .exit)) (now (flows .exit)) (now (numbers .exit)) (now (queue .exit)) (now (marks .exit))) ⌝ }
 {
     let waiting = start(counts, queue, marks);
     let nonzero = count_nonzero(counts, idsums);

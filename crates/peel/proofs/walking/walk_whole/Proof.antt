@@ -7,6 +7,7 @@ use borrow.Author.Needs.{needs}
 use Rattle.walk.specs.Walk.{run, walk}
 use Rattle.walk.specs.Purity.{ruleOf}
 use Rattle.params.proofs.Rules.{dimensions-small}
+use Rattle.peel.specs.Slices.{slices}
 use Rattle.peel.proofs.Chains.{chains-none}
 use Rattle.peel.proofs.Begins.{begins, size-some}
 use Rattle.peel.proofs.walking.walk_whole.Statement.{statement}
@@ -62,7 +63,7 @@ returns c =
     let s = c .before .before .before .before .before .before .before .before .before .before .before .before .before .before .before .before .before .before .before .before .before .before .before .before .start in
     let w = c .before .before .before .before .before .before .before .before .before .before .walk .ensures in
     record {
-      outcome = w .outcome ∙ ap (run (ruleOf (a .p)) (length (now (a .flows))) (a .allowance) 0) (begins (now (a .counts)) (now (a .idsums)) (now (a .flows)) (now (a .numbers)) (s .last .1 .0) (s .result) (s .ensures .list));
+      outcome = w .outcome ∙ ap (run (ruleOf (a .p)) (length (now (a .flows))) (a .allowance) 0) (begins (slices (now (a .counts)) (now (a .idsums)) (now (a .flows)) (now (a .numbers)) (s .last .1 .0) (s .last .1 .1 .0)) (s .result) (s .ensures .list));
       room = w .room;
     }
 
