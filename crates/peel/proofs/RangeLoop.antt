@@ -2,9 +2,8 @@
 use mathlib.Core.Path.{_≡_}
 use mathlib.Core.Bool.{Bool, true, false}
 use mathlib.Core.List.{List}
-use Prim.Native.Nat.{ℕ, suc, _+_, _*_, _<_}
-use lib.IntN.{ℤ, pos, _+ℤ_, _-ℤ_}
-use lib.ListN.{getD}
+use Prim.Native.Nat.{ℕ, suc, _<_}
+use lib.IntN.{ℤ, _+ℤ_, _-ℤ_}
 use Rattle.params.specs.declared.params.Params.{Params}
 use Rattle.params.specs.Lists.{below}
 use Rattle.params.specs.Positions.{index, Positioned}

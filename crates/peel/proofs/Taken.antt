@@ -24,7 +24,6 @@ use Rattle.sketch.proofs.Steps.{placed}
 use Rattle.walk.specs.Walk.{State, less, requeue, taken}
 use Rattle.walk.specs.Purity.{ruleOf}
 use Rattle.walk.proofs.Purity.{index-next}
-use Rattle.peel.specs.declared.take.Taken.{Taken}
 use Rattle.peel.specs.Slices.{Slices}
 use Rattle.peel.specs.Ring.{ring, Requeued}
 use Rattle.peel.specs.Chains.{Relinked}

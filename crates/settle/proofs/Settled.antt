@@ -1,7 +1,7 @@
 -- Laws of settling: the stages of its answer, and the record `Settles` put together where it is refused and where it is done.
 use mathlib.Core.Path.{_≡_, sym, ap, ap₂, subst, _∙_}
 use mathlib.Core.Bool.{true}
-use Prim.Native.Nat.{ℕ, _*_, _≤_, _<_}
+use Prim.Native.Nat.{ℕ, _*_, _≤_}
 use native.Mathlib.Omega.{arith}
 use lib.ListN.{length}
 use Rattle.params.specs.declared.params.Params.{Params}
@@ -18,7 +18,7 @@ use Rattle.sums.specs.Sums.{combineAnswer, combined}
 use Rattle.peel.specs.declared.peeling.Peeled.{Peeled}
 use Rattle.peel.specs.declared.peeling.Peeled.the-variants.{Refused as NotPeeled}
 use Rattle.peel.specs.Slices.{Slices, lentSketch, withSketch}
-use Rattle.peel.specs.Peel.{walkLentAnswer, peelAnswer, unlessRefused, judged, peelTells, peelLeaves, Peels}
+use Rattle.peel.specs.Peel.{walkLentAnswer, peelAnswer, unlessRefused, judged, peelTells, Peels}
 use Rattle.peel.proofs.Judged.{lent-passed}
 use Rattle.settle.specs.Settling.{settleAnswer, settleJudged, lessDownstream, Settles}
 use Rattle.settle.proofs.Differences.{combined-long, combined-undamaged}

@@ -1,6 +1,6 @@
 -- `peel::take::take_flow` meets its contract: the buckets, the table and the queue, each as the definition of a take says.
-use mathlib.Core.Path.{_≡_, _∙_}
-use Prim.Native.Nat.{_*_, _<_}
+use mathlib.Core.Path.{_∙_}
+use Prim.Native.Nat.{_<_}
 use native.Mathlib.Omega.{arith}
 use lib.ListN.{length, getD}
 use denote.Ref.{now}
