@@ -220,6 +220,16 @@ took-is : (c : End) → let l = inner-of (meet-of c) in let a = walk-of l in let
     Took (b .args .p) (slices (a .walk .counts) (a .walk .idsums) (a .walk .flows) (a .walk .numbers) (a .walk .queue) (marks-of l)) (ringPlace (b .args .p .d * b .args .p .m) (a .walk .head) 1) (a .walk .waiting - 1) (a .walk .entries) (flow l) (count-of (test-of l)) (getD (a .walk .idsums) (pop-of (test-of l) .pop .result) 0) (c .take-flow .result) (left-of c)
 took-is c = let t = test-of (inner-of (meet-of c)) in rw (place-is t, c-is t) at (c .take-flow .ensures)
 
+-- the pop of a turn that ends at a count, at the entry or at the table's end
+abbrev range-pop : tie.Then4 Inv-loop μ-loop Inv-walk μ-walk → Popd
+range-pop c = pop-of (test-of (c .before .before .before .before))
+
+abbrev entry-pop : tie.Then6 Inv-loop μ-loop Inv-walk μ-walk → Popd
+entry-pop c = pop-of (test-of (c .before .before .before .before .before .before .before .before .before))
+
+abbrev full-pop : tie.Then7 Inv-loop μ-loop Inv-walk μ-walk → Popd
+full-pop c = pop-of (test-of (c .before .before .before .before .before .before .before))
+
 walk-holds : tie.Need-walk-holds Inv-loop μ-loop Inv-walk μ-walk
 walk-holds c =
     let b = c .before .before .before .before in (
@@ -480,24 +490,24 @@ walk-spec =
     (λ c. at-pop (pop-of (c .before .before)) .queue)
     (λ c. at-pop (pop-of (c .before .before)) .marks)
     returns-4
-    (λ c. at-pop (pop-of (test-of (c .before .before .before .before))) .counts)
-    (λ c. at-pop (pop-of (test-of (c .before .before .before .before))) .idsums)
-    (λ c. at-pop (pop-of (test-of (c .before .before .before .before))) .flows)
-    (λ c. at-pop (pop-of (test-of (c .before .before .before .before))) .numbers)
-    (λ c. at-pop (pop-of (test-of (c .before .before .before .before))) .queue)
-    (λ c. at-pop (pop-of (test-of (c .before .before .before .before))) .marks)
+    (λ c. at-pop (range-pop c) .counts)
+    (λ c. at-pop (range-pop c) .idsums)
+    (λ c. at-pop (range-pop c) .flows)
+    (λ c. at-pop (range-pop c) .numbers)
+    (λ c. at-pop (range-pop c) .queue)
+    (λ c. at-pop (range-pop c) .marks)
     returns-5
-    (λ c. at-pop (pop-of (test-of (c .before .before .before .before .before .before .before .before .before))) .counts)
-    (λ c. at-pop (pop-of (test-of (c .before .before .before .before .before .before .before .before .before))) .idsums)
-    (λ c. at-pop (pop-of (test-of (c .before .before .before .before .before .before .before .before .before))) .flows)
-    (λ c. at-pop (pop-of (test-of (c .before .before .before .before .before .before .before .before .before))) .numbers)
-    (λ c. at-pop (pop-of (test-of (c .before .before .before .before .before .before .before .before .before))) .queue)
-    (λ c. at-pop (pop-of (test-of (c .before .before .before .before .before .before .before .before .before))) .marks)
+    (λ c. at-pop (entry-pop c) .counts)
+    (λ c. at-pop (entry-pop c) .idsums)
+    (λ c. at-pop (entry-pop c) .flows)
+    (λ c. at-pop (entry-pop c) .numbers)
+    (λ c. at-pop (entry-pop c) .queue)
+    (λ c. at-pop (entry-pop c) .marks)
     returns-6
-    (λ c. at-pop (pop-of (test-of (c .before .before .before .before .before .before .before))) .counts)
-    (λ c. at-pop (pop-of (test-of (c .before .before .before .before .before .before .before))) .idsums)
-    (λ c. at-pop (pop-of (test-of (c .before .before .before .before .before .before .before))) .flows)
-    (λ c. at-pop (pop-of (test-of (c .before .before .before .before .before .before .before))) .numbers)
-    (λ c. at-pop (pop-of (test-of (c .before .before .before .before .before .before .before))) .queue)
-    (λ c. at-pop (pop-of (test-of (c .before .before .before .before .before .before .before))) .marks)
+    (λ c. at-pop (full-pop c) .counts)
+    (λ c. at-pop (full-pop c) .idsums)
+    (λ c. at-pop (full-pop c) .flows)
+    (λ c. at-pop (full-pop c) .numbers)
+    (λ c. at-pop (full-pop c) .queue)
+    (λ c. at-pop (full-pop c) .marks)
     returns-7)
