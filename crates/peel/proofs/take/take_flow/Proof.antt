@@ -29,11 +29,17 @@ applied : (c : tie.After-apply) → let b = c .before .before .before .before .b
     Applied (b .args .p .d) (b .args .p .m) (now (b .args .ks)) (b .args .c) (b .args .s) (now (b .args .counts)) (now (b .args .idsums)) (c .apply .last .1 .1 .1 .0) (c .apply .last .1 .1 .1 .1 .0) (c .apply .result)
 applied c = rw (toZ-ofZ (c .before .before .before .before .before .before .before .fits .c)) at (c .apply .ensures)
 
-credited : (c : tie.After-credit) → let b = c .before .before .before .before .before .before .before .before .before .before .before .before .before .before .before .before in
-    Credited (b .args .f) (b .args .c) (now (b .args .flows)) (now (b .args .numbers)) (b .args .entries) (c .credit .last .0) (c .credit .last .1 .0) (c .credit .result)
-credited c = rw (toZ-ofZ (c .before .before .before .before .before .before .before .before .before .before .before .before .before .before .before .before .fits .c)) at (c .credit .ensures .0)
+abbrev apply-of : tie.After-credit → tie.After-apply
+apply-of c = c .before .before .before .before .before .before .before .before .before
 
-relinked : (c : tie.After-credit) → let b = c .before .before .before .before .before .before .before .before .before .before .before .before .before .before .before .before in
+abbrev begin-of : tie.After-credit → tie.Start
+begin-of c = apply-of c .before .before .before .before .before .before .before
+
+credited : (c : tie.After-credit) → let b = begin-of c in
+    Credited (b .args .f) (b .args .c) (now (b .args .flows)) (now (b .args .numbers)) (b .args .entries) (c .credit .last .0) (c .credit .last .1 .0) (c .credit .result)
+credited c = rw (toZ-ofZ (begin-of c .fits .c)) at (c .credit .ensures .0)
+
+relinked : (c : tie.After-credit) → let b = begin-of c in
     Relinked (b .args .f) (getD (now (b .args .ks)) 0 0) (now (b .args .flows)) (now (b .args .queue)) (now (b .args .marks)) (b .args .entries) (c .credit .last .0) (c .credit .last .1 .1 .0) (c .credit .last .1 .1 .1 .0) (c .credit .result)
 relinked c = c .credit .ensures .1
 
@@ -63,12 +69,10 @@ credit-requires c κs =
 
 requeue-requires : tie.Need-requeue-requires
 requeue-requires c κs =
-    let b = c .before .before .before .before .before .before .before .before .before .before .before .before .before .before .before .before .before .before .before .before .before .before .before .before .before .before in
     let k = c .before .before .before .before .before .before .before .before .before .before in
-    let a = c .before .before .before .before .before .before .before .before .before .before .before .before .before .before .before .before .before .before .before in
-    let t = b .pre in
+    let t = begin-of k .pre in
     let h = t .holds in
-    let n = a .apply .kept .1 .1 .1 .0 ∙ h .sane .long in (
+    let n = apply-of k .apply .kept .1 .1 .1 .0 ∙ h .sane .long in (
       reached (h .dimensions) n n (t .positions),
       ring-kept (h .ringed) _ _ (k .credit .kept .1 .1 .0) (k .credit .kept .1 .1 .1 .0) (relinked k .below) (relinked k .below-marks),
     )
@@ -94,8 +98,7 @@ same-length-6 c = search needs
 returns : tie.Need-returns
 returns c =
     let k = c .before .before .before .before .before .before .before .before .before .before .before .before .before .before .before in
-    let a = c .before .before .before .before .before .before .before .before .before .before .before .before .before .before .before .before .before .before .before .before .before .before .before .before in
-    took (c .before .before .before .before .before .before .before .before .before .before .before .before .before .before .before .before .before .before .before .before .before .before .before .before .before .before .before .before .before .before .before .pre) (applied a) (k .credit .kept .0) (k .credit .kept .1 .0) (credited k) (k .credit .kept .1 .1 .0) (relinked k) (c .before .before .before .before .requeue .ensures)
+    took (begin-of k .pre) (applied (apply-of k)) (k .credit .kept .0) (k .credit .kept .1 .0) (credited k) (k .credit .kept .1 .1 .0) (relinked k) (c .before .before .before .before .requeue .ensures)
 
 pub take-flow-spec : {M : Type 1} → statement M
 take-flow-spec =
