@@ -30,13 +30,13 @@ use Rattle.buckets.proofs.Zeros.{is-zero}
 use Rattle.walk.proofs.Alls.{all-at, nothing-count, nothing-idsum, all-zero}
 use Rattle.walk.proofs.Balance.{Balanced, balanced, balanced-closed}
 use Rattle.walk.proofs.Rebuilt.{rebuilt, rebuilt-alone}
-use Rattle.walk.proofs.Purity.{sound, by-arrays, has-inverse, flow-pure, some-residue}
+use Rattle.walk.proofs.Purity.{sound, by-arrays, has-inverse, flow-pure, nonzero-residue}
 use Rattle.walk.proofs.Stuck.{stuck-only as none-passes}
 use Rattle.walk.proofs.Remainder.{within}
 use Rattle.walk.proofs.Clean.{cleanly}
 use Rattle.walk.proofs.NoInverse.{no-inverse-only}
 use Rattle.walk.proofs.Pops.{made}
-use Rattle.walk.proofs.Entries.{all-close, close-some, close-fewer, once-close, once-at}
+use Rattle.walk.proofs.Entries.{all-close, close-nonzero, close-fewer, once-close, once-at}
 use Rattle.walk.proofs.Credits.{net-close as same-net}
 use Rattle.walk.proofs.TableFacts.{listed as table-facts}
 
@@ -122,7 +122,7 @@ module _ (P : Params) (slots allowance : ℕ) (S : Sketch) where
       go : (b : Bool) → stands P (flow (primeOf P) c s) k ≡ b → b ≡ false
       go true h =
           let i = whole c s (remainder-whole w .undamaged k l) .0 in
-          absurd (stuck-only w e k (flow (primeOf P) c s) l (flow-pure (primeOf P) (stands P) k c s d (some-residue P c d i) h))
+          absurd (stuck-only w e k (flow (primeOf P) c s) l (flow-pure (primeOf P) (stands P) k c s d (nonzero-residue P c d i) h))
       go false h = refl
 
   -- the end is never no inverse: within the limits, every count other than 0 has one
@@ -147,7 +147,7 @@ module _ (P : Params) (slots allowance : ℕ) (S : Sketch) where
   pub listed-not-zero : (i : ℕ) → i < length listed → entry i .number ≡ pos 0 → ⊥
   listed-not-zero i l e =
       let z : isZero (entry i .number) ≡ true = is-zero (entry i .number) e in
-      let n = all-at (λ e. not (isZero (e .number))) listed i (by 0 (pos 0)) (close-some (outcome .table)) l in
+      let n = all-at (λ e. not (isZero (e .number))) listed i (by 0 (pos 0)) (close-nonzero (outcome .table)) l in
       true≢false (sym z ∙ not-true _ n)
 
   pub listed-are-flows : (i : ℕ) → i < length listed → isFlow P (entry i .flow) ≡ true

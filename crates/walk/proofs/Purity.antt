@@ -42,7 +42,7 @@ module _ (p : ℕ) (on : ℕ → ℕ → Bool) (k : ℕ) (c : ℤ) (s f : ℕ) w
   unfolding testIn
   pure-is e =
       let w = passed (isZero c) (eqb (residue p c) 0) (on (flow p c s) k) (flow p c s) f e in
-      let some : residue p c ≡ 0 → ⊥ = eqb-false _ _ (w .0) in
+      let nonzero : residue p c ≡ 0 → ⊥ = eqb-false _ _ (w .0) in
       (omega arith, subst (λ (g : ℕ). on g k ≡ true) (w .2) (w .1), w .2)
 
 -- and where it finds a count with no inverse
@@ -58,7 +58,7 @@ module _ (p : ℕ) (on : ℕ → ℕ → Bool) (k : ℕ) (c : ℤ) (s : ℕ) whe
   unfolding testIn
   has-inverse h l e =
       let w = lacked (isZero c) (eqb (residue p c) 0) (on (flow p c s) k) (flow p c s) e in
-      let some : natAbs c ≡ 0 → ⊥ = eqb-false (natAbs c) 0 (w .0) in
+      let nonzero : natAbs c ≡ 0 → ⊥ = eqb-false (natAbs c) 0 (w .0) in
       omega (arith, residue-nonzero p h c (omega arith) l, eqb-true (residue p c) 0 (w .1))
 
   -- the test passes where the flow stands
@@ -119,14 +119,14 @@ pub pure-at : (P : Params) (k : ℕ) (c : ℤ) (s f : ℕ) → pureTest P k c s 
 pure-at P k c s f e = stands-at P f k (sound P .standing k c s f e)
 
 -- a count other than 0 within the limits has a residue other than 0
-pub some-residue : (P : Params) (c : ℤ) → (c ≡ pos 0 → ⊥) → inLimits c ≡ true → 0 < residue (primeOf P) c
-some-residue P c d l =
-    let some : natAbs c ≡ 0 → ⊥ = eqb-false (natAbs c) 0 (not-zero c d) in
+pub nonzero-residue : (P : Params) (c : ℤ) → (c ≡ pos 0 → ⊥) → inLimits c ≡ true → 0 < residue (primeOf P) c
+nonzero-residue P c d l =
+    let nonzero : natAbs c ≡ 0 → ⊥ = eqb-false (natAbs c) 0 (not-zero c d) in
     residue-nonzero (primeOf P) (omega arith) c (omega arith) (omega (arith, limits-size c l))
 
 -- the bucket k with count c and idsum s is pure with flow f: c is not 0, and f is a flow with c * f congruent to s, and stands there
 pub record PureWith (P : Params) (k : ℕ) (c : ℤ) (s f : ℕ) : Type 0 where
-  pub some : c ≡ pos 0 → ⊥
+  pub nonzero : c ≡ pos 0 → ⊥
   pub a-flow : f < primeOf P
   pub solves : residue (primeOf P) (c *ℤ pos f) ≡ s
   pub there : stands P f k ≡ true
@@ -135,7 +135,7 @@ module _ (P : Params) (k : ℕ) (c : ℤ) (s f : ℕ) where
   pub pure-only : s < primeOf P → pureTest P k c s ≡ Pure f → PureWith P k c s f
   pure-only l e =
       record {
-        some = λ z. let i : pureTest P k c s ≡ Impure = ap (λ (c : ℤ). pureTest P k c s) z ∙ sound P .empty k s in let n : _≡_ {A = ℕ} 0 1 = cc in omega arith;
+        nonzero = λ z. let i : pureTest P k c s ≡ Impure = ap (λ (c : ℤ). pureTest P k c s) z ∙ sound P .empty k s in let n : _≡_ {A = ℕ} 0 1 = cc in omega arith;
         a-flow = sound P .a-flow k c s f e;
         solves = sound P .solves k c s f l e;
         there = sound P .standing k c s f e;
@@ -143,9 +143,9 @@ module _ (P : Params) (k : ℕ) (c : ℤ) (s f : ℕ) where
 
   pub pure-if : inLimits c ≡ true → s < primeOf P → PureWith P k c s f → pureTest P k c s ≡ Pure f
   pure-if i l h =
-      let r = some-residue P c (h .some) i in
+      let r = nonzero-residue P c (h .nonzero) i in
       let one : f ≡ flow (primeOf P) c s = the-flow (primeOf P) prime-31 c r s l .only f (h .a-flow) (h .solves) in
-      subst⁻¹ (λ (g : ℕ). pureTest P k c s ≡ Pure g) one (flow-pure (primeOf P) (stands P) k c s (h .some) r (subst (λ (g : ℕ). stands P g k ≡ true) one (h .there)))
+      subst⁻¹ (λ (g : ℕ). pureTest P k c s ≡ Pure g) one (flow-pure (primeOf P) (stands P) k c s (h .nonzero) r (subst (λ (g : ℕ). stands P g k ≡ true) one (h .there)))
 
   -- in a bucket within its limits, the test passes exactly where that is so
   pub pure-exactly : inLimits c ≡ true → s < primeOf P → (pureTest P k c s ≡ Pure f → PureWith P k c s f) × (PureWith P k c s f → pureTest P k c s ≡ Pure f)

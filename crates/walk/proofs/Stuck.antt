@@ -77,9 +77,9 @@ module _ (R : Rule) (sound : Sound R) (size : ℕ) (by-arrays : ByArrays R) wher
       -- in one of f's buckets
       go j g l true w p =
           let a = by-arrays .array j f w in
-          let some : isZero (countIn S j) ≡ false = passes j g S _ refl p in
+          let nonzero : isZero (countIn S j) ≡ false = passes j g S _ refl p in
           subst (λ (j : ℕ). waits j (requeue at S 1 (R .arrays) q) ≡ true) (a .3)
-          (requeue-adds at S 1 (R .arrays) (a .0) q (a .1) (omega (arith, a .2)) (rw (a .3) some))
+          (requeue-adds at S 1 (R .arrays) (a .0) q (a .1) (omega (arith, a .2)) (rw (a .3) nonzero))
       -- in another, which waited before
       go j g l false w p =
           let was : waits j (k ∷ q) ≡ true = subst (λ (q : List ℕ). waits j q ≡ true) e (h .pure-waits j g l (sym (same j l w) ∙ p)) in

@@ -134,13 +134,13 @@ ks-of c = c .before .positions .last .1 .1 .0
 pure-is : (c : Inner) → pureTest (start (walk-of c) .args .p) (pop-of (test-of c) .pop .result) (count-of (test-of c)) (getD (walk-of c .walk .idsums) (pop-of (test-of c) .pop .result) 0) ≡ Pure (flow c)
 pure-is c = sym (test-is (test-of c)) ∙ c .before .before .before .before .found .given .1
 
-placed-is : (c : Inner) → Positioned (start (walk-of c) .args .p) (flow c) (ks-of c)
-placed-is c =
+positions-are : (c : Inner) → Positioned (start (walk-of c) .args .p) (flow c) (ks-of c)
+positions-are c =
     subst⁻¹ (Positioned (start (walk-of c) .args .p) (flow c)) (c .before .positions .ensures)
     (positions-found (start (walk-of c) .args .p) (flow c) _ (start (walk-of c) .pre .dimensions) (walk-of c .walk .inv .2))
 
 reached-is : (c : Inner) → WithinArrays (start (walk-of c) .args .p .d) (start (walk-of c) .args .p .m) (ks-of c) (length (walk-of c .walk .counts)) (length (walk-of c .walk .idsums))
-reached-is c = let h = walk-of c .walk .inv .0 .holds in reached (h .dimensions) (h .sane .long) (h .sane .long-ids) (placed-is c)
+reached-is c = let h = walk-of c .walk .inv .0 .holds in reached (h .dimensions) (h .sane .long) (h .sane .long-ids) (positions-are c)
 
 -- the marks once a bucket is popped, and f's bucket in array 1
 abbrev marks-of : Inner → List ℕ
@@ -155,7 +155,7 @@ first-below c = omega (arith, first-bucket c .bucket, popped-is (pop-of (test-of
 -- by it f can be looked up
 chained-is : (c : Inner) → let a = walk-of c in
     Chained (start a .args .p .d * start a .args .p .m) (a .walk .flows) (a .walk .queue) (marks-of c) (a .walk .entries) (flow c) (getD (ks-of c) 0 0)
-chained-is c = let p = pop-of (test-of c) in turn.chained (walk-of c .walk .inv .0) (unclean-of p) (popped-is p) (more-of p) (pure-is c) (placed-is c)
+chained-is c = let p = pop-of (test-of c) in turn.chained (walk-of c .walk .inv .0) (unclean-of p) (popped-is p) (more-of p) (pure-is c) (positions-are c)
 
 -- f's bucket in the array that i others stand before, and what the test of it says
 bucket : (c : tie.In-loop Inv-loop μ-loop Inv-walk μ-walk) → let b = start (walk-of (c .before)) in
@@ -211,13 +211,13 @@ abbrev meet-of : End → Meet
 meet-of c = c .before .before .before .before .before .before .before .before
 
 -- what it left in the slices
-abbrev left-of : End → Slices
-left-of c =
+abbrev after-of : End → Slices
+after-of c =
     let l = c .take-flow .last .1 .1 in
     slices (l .0) (l .1 .0) (l .1 .1 .0) (l .1 .1 .1 .0) (l .1 .1 .1 .1 .0) (l .1 .1 .1 .1 .1 .0)
 
 took-is : (c : End) → let l = inner-of (meet-of c) in let a = walk-of l in let b = start a in
-    Took (b .args .p) (slices (a .walk .counts) (a .walk .idsums) (a .walk .flows) (a .walk .numbers) (a .walk .queue) (marks-of l)) (ringPlace (b .args .p .d * b .args .p .m) (a .walk .head) 1) (a .walk .waiting - 1) (a .walk .entries) (flow l) (count-of (test-of l)) (getD (a .walk .idsums) (pop-of (test-of l) .pop .result) 0) (c .take-flow .result) (left-of c)
+    Took (b .args .p) (slices (a .walk .counts) (a .walk .idsums) (a .walk .flows) (a .walk .numbers) (a .walk .queue) (marks-of l)) (ringPlace (b .args .p .d * b .args .p .m) (a .walk .head) 1) (a .walk .waiting - 1) (a .walk .entries) (flow l) (count-of (test-of l)) (getD (a .walk .idsums) (pop-of (test-of l) .pop .result) 0) (c .take-flow .result) (after-of c)
 took-is c = let t = test-of (inner-of (meet-of c)) in rw (place-is t, c-is t) at (c .take-flow .ensures)
 
 -- the pop of a turn that ends at a count, at the entry or at the table's end
@@ -357,7 +357,7 @@ take-flow-requires c κs =
     let l = inner-of m in
     let p = pop-of (test-of l) in
     rw (place-is (test-of l), c-is (test-of l))
-    (turn.may-take (walk-of l .walk .inv .0) (unclean-of p) (popped-is p) (more-of p) (pure-is l) (placed-is l) (all-fit (done-of m)) (m .before .find .ensures) (entry m) (free m))
+    (turn.may-take (walk-of l .walk .inv .0) (unclean-of p) (popped-is p) (more-of p) (pure-is l) (positions-are l) (all-fit (done-of m)) (m .before .find .ensures) (entry m) (free m))
 
 walk-less-2 : tie.Need-walk-less-2 Inv-loop μ-loop Inv-walk μ-walk
 walk-less-2 c =
@@ -374,7 +374,7 @@ walk-again-2 c =
     let v = a .walk .inv .0 in
     let n = e .take-flow .kept .1 .1 .1 .1 .0 in (
       rw (place-is (test-of l))
-          (turn.took v (unclean-of p) (popped-is p) (more-of p) (pure-is l) (placed-is l) (all-fit (done-of m)) (m .before .find .ensures) (entry m) (free m) n (took-is e)),
+          (turn.took v (unclean-of p) (popped-is p) (more-of p) (pure-is l) (positions-are l) (all-fit (done-of m)) (m .before .find .ensures) (entry m) (free m) n (took-is e)),
       same-lengths (start a .pre) (took-is e .holds) (n ∙ v .long),
       ap length (l .before .positions .ensures) ∙ positions-long _ _ _ ∙ a .walk .inv .2,
     )
@@ -401,7 +401,7 @@ returns-5 c =
     let n = c .before .before .before in
     let l = n .before in
     let p = pop-of (test-of l) in
-    record { outcome = turn.range-count (walk-of l .walk .inv .0) (unclean-of p) (popped-is p) (more-of p) (pure-is l) (placed-is l) (l .loop .i) (n .loop-test .taken) (sym (fits-is (c .before)) ∙ not-true _ (c .if4 .taken)); room = room-of (walk-of l) }
+    record { outcome = turn.range-count (walk-of l .walk .inv .0) (unclean-of p) (popped-is p) (more-of p) (pure-is l) (positions-are l) (l .loop .i) (n .loop-test .taken) (sym (fits-is (c .before)) ∙ not-true _ (c .if4 .taken)); room = room-of (walk-of l) }
 
 returns-6 : tie.Need-returns-6 Inv-loop μ-loop Inv-walk μ-walk
 returns-6 c =
@@ -409,7 +409,7 @@ returns-6 c =
     let d = f .before .before .before .before in
     let l = d .before in
     let p = pop-of (test-of l) in
-    record { outcome = turn.range-entry (walk-of l .walk .inv .0) (unclean-of p) (popped-is p) (more-of p) (pure-is l) (placed-is l) (all-fit d) (f .find .ensures) (c .before .before .before .if5 .taken) (sym (more-is (c .before)) ∙ not-true _ (c .if6 .taken)); room = room-of (walk-of l) }
+    record { outcome = turn.range-entry (walk-of l .walk .inv .0) (unclean-of p) (popped-is p) (more-of p) (pure-is l) (positions-are l) (all-fit d) (f .find .ensures) (c .before .before .before .if5 .taken) (sym (more-is (c .before)) ∙ not-true _ (c .if6 .taken)); room = room-of (walk-of l) }
 
 returns-7 : tie.Need-returns-7 Inv-loop μ-loop Inv-walk μ-walk
 returns-7 c =
@@ -417,7 +417,7 @@ returns-7 c =
     let d = f .before .before .before .before in
     let l = d .before in
     let p = pop-of (test-of l) in
-    record { outcome = turn.full (walk-of l .walk .inv .0) (unclean-of p) (popped-is p) (more-of p) (pure-is l) (placed-is l) (all-fit d) (f .find .ensures) (c .before .if5 .left) (c .if7 .taken); room = room-of (walk-of l) }
+    record { outcome = turn.full (walk-of l .walk .inv .0) (unclean-of p) (popped-is p) (more-of p) (pure-is l) (positions-are l) (all-fit d) (f .find .ensures) (c .before .if5 .left) (c .if7 .taken); room = room-of (walk-of l) }
 
 pub walk-spec : {M : Type 1} → statement M
 walk-spec =
