@@ -15,8 +15,7 @@ use Rattle.params.specs.declared.answers.Refusal.the-variants.{Param, Form}
 use Rattle.params.specs.Answers.{numberIn, indexIn, locatedNumber, locatedIndex, locatedAt, refuseIf, kept}
 use Rattle.params.specs.Params.{goodParams}
 use Rattle.params.proofs.Rules.{good-dimensions}
-use Rattle.sketch.specs.Sketch.{Sketch}
-use Rattle.walk.specs.Walk.{Outcome, close}
+use Rattle.walk.specs.Walk.{Outcome, closedTable}
 use Rattle.walk.proofs.Promises.{listed-few}
 use Rattle.files.specs.declared.writing.Written.{Written}
 use Rattle.files.specs.declared.heads.Headed.{Headed}
@@ -24,8 +23,9 @@ use Rattle.files.specs.Records.{recordAt}
 use Rattle.files.specs.Heads.{paramsIn, isHead, noParams, headAnswer, headOf}
 use Rattle.files.specs.Writing.{writtenNumber, writtenIndex, writtenLength}
 use Rattle.peel.specs.declared.peeling.Peeled.{Peeled}
+use Rattle.peel.specs.Slices.{Slices, lentSketch}
 use Rattle.peel.specs.Peel.{peeledOf, peeledNumber, peeledIndex, peeledEntries, judged, walked, Peels}
-use Rattle.peel.proofs.Judged.{judged-sound}
+use Rattle.peel.proofs.Judged.{judged-peelable}
 use Rattle.face.specs.Told.{paramsOf, numbersOf, figuresIn, Told, ToldLength, ToldFigures, SpotReturned, HeadReturned}
 
 pub told : {answer : Answer} {Contract : Answer → Type 0} {number place : ℕ} (x : Answer)
@@ -60,16 +60,14 @@ told-figures {Contract} x e held t =
     }
 
 -- a table never has more entries than a table may have slots
-few-in : (x : Answer) (o : Outcome) → (x ≡ Done → length (close (o .table)) ≤ 65536) → peeledEntries (peeledOf x o) ≤ 65536
+few-in : (x : Answer) (o : Outcome) → (x ≡ Done → length (closedTable o) ≤ 65536) → peeledEntries (peeledOf x o) ≤ 65536
 few-in Done o few = few refl
 few-in (Refused w k) o few = omega arith
 
-module _ {P : Params} {a : ℕ} {S : Sketch} {fs : List ℕ} {ns : List ℤ} {q ms : List ℕ} {r : Peeled} {S' : Sketch} {fs' : List ℕ} {ns' : List ℤ} {q' ms' : List ℕ}
-    (h : Peels P a S fs ns q ms r S' fs' ns' q' ms') where
-  pub entries-few : peeledEntries r ≤ 65536
-  entries-few =
-      subst (λ (x : Peeled). peeledEntries x ≤ 65536) (sym (h .answer))
-      (few-in (judged P a S fs ns q ms) (walked P a S fs ns q ms) (λ done. le-trans (listed-few P (length fs) a S) (judged-sound P (S .counts) (S .idsums) fs ns q ms done .few-slots)))
+pub entries-few : {P : Params} {a : ℕ} {L : Slices} {r : Peeled} {L' : Slices} → Peels P a L r L' → peeledEntries r ≤ 65536
+entries-few {P} {a} {L} h =
+    subst (λ (x : Peeled). peeledEntries x ≤ 65536) (sym (h .answer))
+    (few-in (judged P L) (walked P a L) (λ done. le-trans (listed-few P (length (L .flows)) a (lentSketch L)) (judged-peelable P L done .few-slots)))
 
 pub spot-returned : {spot : Located} {number place found : ℕ} (x : Located)
     → x ≡ spot → (number ≡ locatedNumber x) × (place ≡ locatedIndex x) × (found ≡ locatedAt x) → SpotReturned spot number place found

@@ -12,7 +12,8 @@ use Rattle.params.specs.Positions.{positionAnswer, position, index}
 use Rattle.sketch.specs.Sketch.{Sketch, Freshened}
 use Rattle.sketch.specs.Packets.{moveAnswer, allAnswer, Inserted, Withdrawn, AllInserted}
 use Rattle.sums.specs.Sums.{combineAnswer, Combined}
-use Rattle.peel.specs.Peel.{peeledOf, judged, walked, Peels}
+use Rattle.peel.specs.Slices.{Slices}
+use Rattle.peel.specs.Peel.{peelTells, Peels}
 use Rattle.files.specs.Heads.{headOf}
 use Rattle.files.specs.Writing.{writtenOf}
 use Rattle.streamfile.specs.Streams.{streamAnswer, StreamRead}
@@ -63,8 +64,6 @@ abbrev pub SketchWrittenFor : Params → Sketch → List ℕ → ℕ → ℕ →
 SketchWrittenFor P S out r k n out' =
     ToldLength (writtenOf (sketches.sketchWriting P S (length out)) (length (sketches.sketchBytes P S))) (λ x. sketches.SketchWritten P S out x out') r k n
 
--- gs are the figures that the caller is told; fs, ns, q and ms the table's slices, the queue and the marks before, with a tick after
-module _ (P : Params) (allowance : ℕ) (S : Sketch) (fs : List ℕ) (ns : List ℤ) (q ms : List ℕ) where
-  abbrev pub PeelsFor : ℕ → ℕ → List ℤ → Sketch → List ℕ → List ℤ → List ℕ → List ℕ → Type 0
-  PeelsFor r k gs S' fs' ns' q' ms' =
-      ToldFigures (peeledOf (judged P allowance S fs ns q ms) (walked P allowance S fs ns q ms)) (λ x. Peels P allowance S fs ns q ms x S' fs' ns' q' ms') r k gs
+-- gs are the figures that the caller is told; L is what the walk is lent, L' what it holds after
+abbrev pub PeelsFor : Params → ℕ → Slices → ℕ → ℕ → List ℤ → Slices → Type 0
+PeelsFor P allowance L r k gs L' = ToldFigures (peelTells P allowance L) (λ x. Peels P allowance L x L') r k gs

@@ -1,5 +1,5 @@
 // Peeling, for C.
-ghost use Rattle.sketch.specs.Sketch.{sketch};
+ghost use Rattle.peel.specs.Slices.{slices};
 ghost use Rattle.face.specs.Told.{paramsOf};
 ghost use Rattle.face.specs.Calls.{PeelsFor};
 use crate::told::params_of;
@@ -20,7 +20,7 @@ pub extern "C" fn gabunlitik_peel(
     figures: &mut [i64; 4],
     place: &mut usize,
 ) -> u32
-    ensures { λ r. ⌜ PeelsFor (paramsOf (now (params .entry))) allowance (sketch (now (counts .entry)) (now (idsums .entry))) (now («table_flows» .entry)) (now («table_counts» .entry)) (now (queue .entry)) (now (marks .entry)) r (now (place .exit)) (now (figures .exit)) (sketch (now (counts .exit)) (now (idsums .exit))) (now («table_flows» .exit)) (now («table_counts» .exit)) (now (queue .exit)) (now (marks .exit)) ⌝ }
+    ensures { λ r. ⌜ PeelsFor (paramsOf (now (params .entry))) allowance (slices (now (counts .entry)) (now (idsums .entry)) (now («table_flows» .entry)) (now («table_counts» .entry)) (now (queue .entry)) (now (marks .entry))) r (now (place .exit)) (now (figures .exit)) (slices (now (counts .exit)) (now (idsums .exit)) (now («table_flows» .exit)) (now («table_counts» .exit)) (now (queue .exit)) (now (marks .exit))) ⌝ }
 {
     let peeled = peel(
         params_of(params),

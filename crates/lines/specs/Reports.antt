@@ -8,7 +8,7 @@ use lib.ListN.{length, getD}
 use Rattle.buckets.specs.Buckets.{allZero}
 use Rattle.sketch.specs.Sketch.{Entry}
 use Rattle.walk.specs.declared.Ending.{Ending}
-use Rattle.walk.specs.Walk.{Outcome, close, net}
+use Rattle.walk.specs.Walk.{Outcome, closedTable, netOf}
 use Rattle.lines.specs.Lines.{lossLine, leftLine, endLine}
 
 -- a line for each of the table's first n entries
@@ -37,9 +37,9 @@ entryLines (e ∷ es) = lossLine (e .flow) (e .number) ++ entryLines es
 -- the report of a walk: its table after the close, what it left, and its ending
 unfoldable pub walkText : Outcome → List ℕ
 walkText o =
-    entryLines (close (o .table))
-    ++ (leftLines (o .left .counts) (o .left .idsums) (length (o .left .counts))
-    ++ endLine (o .ending) (o .pops) (net (close (o .table))))
+    entryLines (closedTable o)
+    ++ (leftLines (o .remainder .counts) (o .remainder .idsums) (length (o .remainder .counts))
+    ++ endLine (o .ending) (o .pops) (netOf o))
 
 -- whether the entries are within the table, each bucket has both fields, and there is room for 64 bytes a line
 abbrev pub reportFits : ℕ → ℕ → ℕ → ℕ → ℕ → ℕ → Bool

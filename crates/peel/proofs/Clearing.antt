@@ -1,4 +1,4 @@
--- A loop that stores zeros from place n on.
+-- A loop that stores zeros from index n on.
 use mathlib.Core.Path.{_≡_, refl, _∙_}
 use mathlib.Core.List.{List}
 use Prim.Native.Nat.{ℕ, _+_, _<_, _≤_}

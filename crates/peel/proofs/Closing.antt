@@ -12,7 +12,7 @@ use lib.Seq.{getD-set-same, getD-set-other}
 use Rattle.params.specs.Lists.{from}
 use Rattle.sketch.specs.Sketch.{Entry, by}
 use Rattle.sketch.proofs.Tables.{from-same}
-use Rattle.walk.specs.Walk.{close, net}
+use Rattle.walk.specs.Walk.{close, netFigure}
 use Rattle.buckets.specs.Buckets.{isZero}
 use Rattle.peel.specs.Table.{row, tableOf}
 use Rattle.peel.proofs.Froms.{from-last}
@@ -69,18 +69,18 @@ unfolding from close
 close-all fs ns w i k goal e v = sym (append-nil (tableOf fs ns w)) ∙ rw e at v
 
 -- the net figure of the entries from i on
-pub net-step : (fs : List ℕ) (ns : List ℤ) (i n : ℕ) → i < n → net (from i (n - i) (row fs ns)) ≡ getD ns i (pos 0) +ℤ net (from (i + 1) (n - (i + 1)) (row fs ns))
-unfolding from net
+pub net-step : (fs : List ℕ) (ns : List ℤ) (i n : ℕ) → i < n → netFigure (from i (n - i) (row fs ns)) ≡ getD ns i (pos 0) +ℤ netFigure (from (i + 1) (n - (i + 1)) (row fs ns))
+unfolding from netFigure
 net-step fs ns i n l =
     let e : n - i ≡ suc (n - (i + 1)) = omega arith in
-    ap (λ (k : ℕ). net (from i k (row fs ns))) e ∙ rw add-one
+    ap (λ (k : ℕ). netFigure (from i k (row fs ns))) e ∙ rw add-one
 
-pub net-none : (fs : List ℕ) (ns : List ℤ) (n : ℕ) → pos 0 +ℤ net (from 0 (n - 0) (row fs ns)) ≡ net (tableOf fs ns n)
+pub net-none : (fs : List ℕ) (ns : List ℤ) (n : ℕ) → pos 0 +ℤ netFigure (from 0 (n - 0) (row fs ns)) ≡ netFigure (tableOf fs ns n)
 unfolding tableOf
-net-none fs ns n = +ℤ-idl _ ∙ ap (λ (k : ℕ). net (from 0 k (row fs ns))) (sub-zero n)
+net-none fs ns n = +ℤ-idl _ ∙ ap (λ (k : ℕ). netFigure (from 0 k (row fs ns))) (sub-zero n)
 
-pub net-all : (fs : List ℕ) (ns : List ℤ) (i k : ℕ) → k ≡ 0 → net (from i k (row fs ns)) ≡ pos 0
-unfolding from net
+pub net-all : (fs : List ℕ) (ns : List ℤ) (i k : ℕ) → k ≡ 0 → netFigure (from i k (row fs ns)) ≡ pos 0
+unfolding from netFigure
 net-all fs ns i k e = rw e
 
 -- the table below n, with what is past it changed

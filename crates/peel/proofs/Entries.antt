@@ -19,7 +19,7 @@ use Rattle.peel.specs.Table.{row, tableOf, Finds, Credited}
 use Rattle.peel.proofs.Froms.{from-last}
 
 module _ (E : ℕ → Entry) (f : ℕ) where
-  -- f stands at r, and at no place from k on before it
+  -- f is in slot r, and in no slot from k on before it
   entry-at : (k n r : ℕ) → k ≤ r → r < k + n → ((j : ℕ) → j < r → E j .flow ≡ f → ⊥) → E r .flow ≡ f → entryOf f (from k n E) ≡ E r .number
   unfolding from entryOf
   entry-at k zero r l u h e = absurd (omega arith)
@@ -88,7 +88,7 @@ module _ (fs : List ℕ) (ns : List ℤ) (n f r : ℕ) (h : Finds fs n f r) wher
   unfolding tableOf Nowhere
   table-new l = entry-nowhere _ f 0 n (nowhere l)
 
-  -- there is room where f has its place, or a place is free
+  -- there is room where f has its slot, or a slot is free
   pub table-room : (slots : ℕ) → r < slots → hasRoom slots f (tableOf fs ns n) ≡ true
   unfolding tableOf hasRoom Nowhere
   table-room slots u =

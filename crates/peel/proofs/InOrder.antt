@@ -1,12 +1,10 @@
 -- Peeling refuses in the order of the table: of the faults that apply the first decides the number, and the index is that of the lowest damaged bucket, or 0.
 use mathlib.Core.Path.{_≡_, refl, sym, _∙_}
 use mathlib.Core.Bool.{Bool, true, false, not, _&&_, _||_}
-use mathlib.Core.List.{List}
 use Prim.Native.Nat.{ℕ, _≤_}
 use native.Mathlib.Omega.{arith}
 use borrow.Author.Tests.{ltb-true}
 use lib.Dec.{eqb, ltb, leb}
-use lib.IntN.{ℤ}
 use lib.ListN.{length}
 use Rattle.params.specs.declared.params.Params.{Params}
 use Rattle.params.specs.declared.answers.Refusal.{Refusal}
@@ -21,7 +19,8 @@ use Rattle.params.proofs.InOrder.{order, firstOf, lowest-first, some, refuse-nu
 use Rattle.sketch.proofs.InOrder.{wrongLength}
 use Rattle.params.proofs.Lowest.{Lowest, least-lowest}
 use Rattle.peel.specs.declared.peeling.Peeled.{Peeled}
-use Rattle.peel.specs.Peel.{peelAnswer, peeledNumber, peeledIndex, Peels}
+use Rattle.peel.specs.Slices.{Slices, lentSketch}
+use Rattle.peel.specs.Peel.{walkLentAnswer, peelAnswer, judged, peeledNumber, peeledIndex, Peels}
 use Rattle.peel.proofs.Promised.{number-is, index-is}
 
 -- which faults apply: flows, numbers, queue and marks are the lengths of what is lent beside the sketch
@@ -60,34 +59,38 @@ module _ {n : ℕ} {t : ℕ → Bool} where
 
 module _ (P : Params) (S : Sketch) (flows numbers queue marks : ℕ) where
   judged-number : numberIn (peelAnswer P S flows numbers queue marks) ≡ firstOf order (peelFault P S flows numbers queue marks)
-  unfolding peelAnswer lentAnswer lengthsAnswer first
+  unfolding peelAnswer walkLentAnswer lentAnswer lengthsAnswer first
   judged-number = simp (first-refuse, refuse-number, refuse-at-number, cond-either)
 
   judged-index : Index (size P) (damagedAt S) (peelAnswer P S flows numbers queue marks)
-  unfolding peelAnswer lentAnswer lengthsAnswer refuseAt
+  unfolding peelAnswer walkLentAnswer lentAnswer lengthsAnswer refuseAt
   judged-index =
       first-index _ _
+      (first-index _ _
       (refuse-index (not (goodParams P)) Param _ (λ e. omega arith) (refuse-index (wrongLength P S) Length Done (λ e. omega arith) done-index))
-      (refuse-index (not (eqb queue (size P) && eqb marks (size P) && eqb flows numbers && leb flows 65536)) Length _ (λ e. omega arith) (found-index _ refl))
+      (refuse-index (not (eqb queue (size P) && eqb marks (size P) && eqb flows numbers && leb flows 65536)) Length Done (λ e. omega arith) done-index))
+      (found-index _ refl)
 
 -- h is what the contract of `peel` gives
-module _ {P : Params} {a : ℕ} {S : Sketch} {fs : List ℕ} {ns : List ℤ} {q ms : List ℕ} {r : Peeled} {S' : Sketch} {fs' : List ℕ} {ns' : List ℤ} {q' ms' : List ℕ}
-    (h : Peels P a S fs ns q ms r S' fs' ns' q' ms') where
+module _ {P : Params} {a : ℕ} {L : Slices} {r : Peeled} {L' : Slices} (h : Peels P a L r L') where
   abbrev pub fault : Refusal → Bool
-  fault = peelFault P S (length fs) (length ns) (length q) (length ms)
+  fault = peelFault P (lentSketch L) (length (L .flows)) (length (L .numbers)) (length (L .queue)) (length (L .marks))
+
+  index-told : Index (size P) (damagedAt (lentSketch L)) (judged P L)
+  index-told = judged-index P (lentSketch L) (length (L .flows)) (length (L .numbers)) (length (L .queue)) (length (L .marks))
 
   -- the number of the first fault that applies, 0 where none does
   pub peel-number : peeledNumber r ≡ firstOf order fault
-  peel-number = number-is h ∙ judged-number P S (length fs) (length ns) (length q) (length ms)
+  peel-number = number-is h ∙ judged-number P (lentSketch L) (length (L .flows)) (length (L .numbers)) (length (L .queue)) (length (L .marks))
 
   -- so no fault that applies has a lower number
   pub peel-least-number : (w : Refusal) → fault w ≡ true → peeledNumber r ≤ numberOf w
   peel-least-number w e = rw peel-number (lowest-first fault refl w e)
 
   -- with the number of Damage the index is that of the lowest damaged bucket
-  pub peel-lowest : peeledNumber r ≡ 5 → Lowest (size P) (damagedAt S) (peeledIndex r)
-  peel-lowest e = rw (index-is h) (judged-index P S (length fs) (length ns) (length q) (length ms) .lowest (sym (number-is h) ∙ e))
+  pub peel-lowest : peeledNumber r ≡ 5 → Lowest (size P) (damagedAt (lentSketch L)) (peeledIndex r)
+  peel-lowest e = rw (index-is h) (index-told .lowest (sym (number-is h) ∙ e))
 
   -- with any other it is 0
   pub peel-index : (peeledNumber r ≡ 5 → ⊥) → peeledIndex r ≡ 0
-  peel-index d = index-is h ∙ judged-index P S (length fs) (length ns) (length q) (length ms) .zero-else (λ e. d (number-is h ∙ e))
+  peel-index d = index-is h ∙ index-told .zero-else (λ e. d (number-is h ∙ e))

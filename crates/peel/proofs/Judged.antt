@@ -14,7 +14,6 @@ use Rattle.params.specs.declared.answers.Refusal.the-variants.{Length, Damage}
 use Rattle.params.specs.declared.answers.Answer.{Answer}
 use Rattle.params.specs.declared.answers.Answer.the-variants.{Done, Refused}
 use Rattle.params.specs.Lists.{least}
-use Rattle.params.specs.Answers.{refuseAt}
 use Rattle.params.specs.Params.{prime, size, Dimensions, lentAnswer}
 use Rattle.buckets.specs.Buckets.{inLimits}
 use Rattle.sketch.specs.Sketch.{Sketch, sketch, damagedAt}
@@ -22,8 +21,9 @@ use Rattle.params.proofs.Judging.{Refuses, first-refused, first-passed, first-d
 use Rattle.params.proofs.Rules.{lent-done}
 use Rattle.params.proofs.Searches.{and-true}
 use Rattle.walk.proofs.Promises.{Whole}
-use Rattle.peel.specs.Rep.{Sound}
-use Rattle.peel.specs.Peel.{peelAnswer}
+use Rattle.peel.specs.Slices.{Slices, lentSketch}
+use Rattle.peel.specs.Rep.{Peelable}
+use Rattle.peel.specs.Peel.{walkLentAnswer, peelAnswer, judged}
 
 -- the lengths of all that is lent beside the sketch
 pub record Lent (P : Params) (flows numbers queue marks : ℕ) : Type 0 where
@@ -58,33 +58,51 @@ module _ (P : Params) (flows numbers queue marks : ℕ) where
       go true e = absurd (h (lent-is e))
       go false e = refl
 
-  -- the stages: the sketch's shape, the other lengths, the buckets
-  module _ (S : Sketch) where
-    pub ill-shaped : (r : Answer) → r ≡ lentAnswer P (length (S .counts)) (length (S .idsums)) → Refuses r → r ≡ peelAnswer P S flows numbers queue marks
-    unfolding peelAnswer
+  -- the stages of the lengths: the sketch's shape, then all that is lent beside it
+  module _ (counts idsums : ℕ) where
+    pub ill-shaped : (r : Answer) → r ≡ lentAnswer P counts idsums → Refuses r → r ≡ walkLentAnswer P counts idsums flows numbers queue marks
+    unfolding walkLentAnswer
     ill-shaped r e h = first-refused r _ _ e h
 
-    module _ (shaped : lentAnswer P (length (S .counts)) (length (S .idsums)) ≡ Done) where
-      pub ill-lent : (Lent P flows numbers queue marks → ⊥) → Refused Length 0 ≡ peelAnswer P S flows numbers queue marks
-      unfolding peelAnswer
+    module _ (shaped : lentAnswer P counts idsums ≡ Done) where
+      pub ill-lent : (Lent P flows numbers queue marks → ⊥) → Refused Length 0 ≡ walkLentAnswer P counts idsums flows numbers queue marks
+      unfolding walkLentAnswer
       ill-lent h = sym (first-passed _ _ shaped ∙ rw (not-lent h))
 
-      well-lent : (r : Answer) → Lent P flows numbers queue marks → r ≡ refuseAt (size P) (damagedAt S) Damage Done → r ≡ peelAnswer P S flows numbers queue marks
+      pub well-lent : Lent P flows numbers queue marks → Done ≡ walkLentAnswer P counts idsums flows numbers queue marks
+      unfolding walkLentAnswer
+      well-lent l = sym (first-passed _ _ shaped ∙ rw (is-lent l))
+
+    pub lent-passed : walkLentAnswer P counts idsums flows numbers queue marks ≡ Done → Dimensions P × ((counts ≡ size P) × (idsums ≡ size P)) × Lent P flows numbers queue marks
+    unfolding walkLentAnswer
+    lent-passed e =
+        let h = first-done (lentAnswer P counts idsums) _ e in
+        let k = lent-done P counts idsums (h .0) in
+        (k .0, (k .1, k .2), lent-is (not-false _ (refuse-done (not lent) Length 0 Done (h .1) .0)))
+
+  -- the stages of peeling: the lengths, then the buckets
+  module _ (S : Sketch) where
+    abbrev lengths : Answer
+    lengths = walkLentAnswer P (length (S .counts)) (length (S .idsums)) flows numbers queue marks
+
+    pub ill-lengths : (r : Answer) → r ≡ lengths → Refuses r → r ≡ peelAnswer P S flows numbers queue marks
+    unfolding peelAnswer
+    ill-lengths r e h = first-refused r _ _ e h
+
+    module _ (x : ℕ) (good : lengths ≡ Done) (e : x ≡ cond (eqb (length (S .counts)) (length (S .idsums))) (least 0 (length (S .counts)) (damagedAt S)) 0) where
+      long : length (S .counts) ≡ P .d * P .m
+      long = lent-passed _ _ good .1 .0
+
+      lowest : x ≡ least 0 (size P) (damagedAt S)
+      lowest = e ∙ rw (eq-eqb _ _ (long ∙ sym (lent-passed _ _ good .1 .1)), long)
+
+      pub one-damaged : x < length (S .counts) → Refused Damage x ≡ peelAnswer P S flows numbers queue marks
       unfolding peelAnswer
-      well-lent r l e = e ∙ sym (first-passed _ _ shaped ∙ rw (is-lent l))
+      one-damaged h = refuse-found (size P) x (damagedAt S) Damage Done lowest (omega (arith, long)) ∙ sym (first-passed _ _ good)
 
-      module _ (x : ℕ) (l : Lent P flows numbers queue marks) (e : x ≡ cond (eqb (length (S .counts)) (length (S .idsums))) (least 0 (length (S .counts)) (damagedAt S)) 0) where
-        long : length (S .counts) ≡ P .d * P .m
-        long = lent-done P _ _ shaped .1
-
-        lowest : x ≡ least 0 (size P) (damagedAt S)
-        lowest = e ∙ rw (eq-eqb _ _ (long ∙ sym (lent-done P _ _ shaped .2)), long)
-
-        pub one-damaged : x < length (S .counts) → Refused Damage x ≡ peelAnswer P S flows numbers queue marks
-        one-damaged h = well-lent _ l (refuse-found (size P) x (damagedAt S) Damage Done lowest (omega (arith, long)))
-
-        pub none-damaged : length (S .counts) ≤ x → Done ≡ peelAnswer P S flows numbers queue marks
-        none-damaged h = well-lent _ l (refuse-past (size P) x (damagedAt S) Damage Done lowest (omega (arith, long)))
+      pub none-damaged : length (S .counts) ≤ x → Done ≡ peelAnswer P S flows numbers queue marks
+      unfolding peelAnswer
+      none-damaged h = refuse-past (size P) x (damagedAt S) Damage Done lowest (omega (arith, long)) ∙ sym (first-passed _ _ good)
 
 -- a bucket that is not damaged is within its limits, and so is what stands past the end
 module _ (n : ℕ) (cs : List ℤ) (ss : List ℕ) (long : length cs ≡ n) (long-ids : length ss ≡ n) (sound : (k : ℕ) → k < n → damagedAt (sketch cs ss) k ≡ false) (k : ℕ) where
@@ -104,21 +122,16 @@ module _ (n : ℕ) (cs : List ℤ) (ss : List ℕ) (long : length cs ≡ n) (lon
 passed : (P : Params) (S : Sketch) (flows numbers queue marks : ℕ) → peelAnswer P S flows numbers queue marks ≡ Done → Dimensions P × Whole P S × Lent P flows numbers queue marks
 unfolding peelAnswer
 passed P S flows numbers queue marks e =
-    let h = first-done (lentAnswer P (length (S .counts)) (length (S .idsums))) _ e in
-    let k = lent-done P (length (S .counts)) (length (S .idsums)) (h .0) in
-    let t = refuse-done (not (lent P flows numbers queue marks)) Length 0 _ (h .1) in (
-      k .0,
-      record { counts-long = k .1; idsums-long = k .2; undamaged = refuse-at-done (size P) (damagedAt S) Damage Done (t .1) .0 },
-      lent-is P flows numbers queue marks (not-false _ (t .0)),
-    )
+    let h = first-done (walkLentAnswer P (length (S .counts)) (length (S .idsums)) flows numbers queue marks) _ e in
+    let k = lent-passed P flows numbers queue marks (length (S .counts)) (length (S .idsums)) (h .0) in
+    (k .0, record { counts-long = k .1 .0; idsums-long = k .1 .1; undamaged = refuse-at-done (size P) (damagedAt S) Damage Done (h .1) .0 }, k .2)
 
-pub judged-whole : (P : Params) (S : Sketch) (flows numbers queue marks : ℕ) → peelAnswer P S flows numbers queue marks ≡ Done → Whole P S
-judged-whole P S flows numbers queue marks e = passed P S flows numbers queue marks e .1
+pub judged-whole : (P : Params) (L : Slices) → judged P L ≡ Done → Whole P (lentSketch L)
+judged-whole P L e = passed P (lentSketch L) (length (L .flows)) (length (L .numbers)) (length (L .queue)) (length (L .marks)) e .1
 
-pub judged-sound : (P : Params) (cs : List ℤ) (ss fs : List ℕ) (ns : List ℤ) (q ms : List ℕ)
-    → peelAnswer P (sketch cs ss) (length fs) (length ns) (length q) (length ms) ≡ Done → Sound P cs ss fs ns q ms
-judged-sound P cs ss fs ns q ms e =
-    let h = passed P (sketch cs ss) (length fs) (length ns) (length q) (length ms) e in
+pub judged-peelable : (P : Params) (L : Slices) → judged P L ≡ Done → Peelable P L
+judged-peelable P L e =
+    let h = passed P (lentSketch L) (length (L .flows)) (length (L .numbers)) (length (L .queue)) (length (L .marks)) e in
     let w = h .1 in
     let l = h .2 in
     record {
@@ -126,8 +139,8 @@ judged-sound P cs ss fs ns q ms e =
       sane = record {
         long = w .counts-long;
         long-ids = w .idsums-long;
-        counts = λ i. count-within (size P) cs ss (w .counts-long) (w .idsums-long) (w .undamaged) i (decLt i (size P));
-        idsums = λ i. idsum-within (size P) cs ss (w .counts-long) (w .idsums-long) (w .undamaged) i (decLt i (size P));
+        counts = λ i. count-within (size P) (L .counts) (L .idsums) (w .counts-long) (w .idsums-long) (w .undamaged) i (decLt i (size P));
+        idsums = λ i. idsum-within (size P) (L .counts) (L .idsums) (w .counts-long) (w .idsums-long) (w .undamaged) i (decLt i (size P));
       };
       slots = sym (l .same);
       few-slots = l .few;

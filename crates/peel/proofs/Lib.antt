@@ -8,8 +8,8 @@ pub mod Queues
 pub mod Entries
 pub mod Closing
 pub mod Padding
-pub mod Dirtiness
-pub mod Takes
+pub mod Nonzero
+pub mod OneArray
 pub mod Judged
 pub mod Moves
 pub mod RangeLoop

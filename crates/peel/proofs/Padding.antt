@@ -1,4 +1,4 @@
--- A slice that is 0 from a place on, as a list filled up with zeros, and the slices of a table that end so; and back.
+-- A slice that is 0 from an index on, as a list filled up with zeros, and the slices of a table that end so; and back.
 use mathlib.Core.Path.{_≡_, refl, sym, ap, ap₂, _∙_}
 use mathlib.Core.List.{List, [], _∷_, _++_}
 use Prim.Native.Nat.{ℕ, zero, suc, _+_, _-_, _<_, _≤_}
@@ -19,7 +19,7 @@ module _ {A : Type 0} (z : A) where
   all-zeros [] h = refl
   all-zeros (x ∷ l) h = ap₂ {B = List A} _∷_ (h 0) (all-zeros l (λ k. h (suc k)))
 
-  -- the first n places, and z from there on
+  -- the first n, and z from there on
   first-positions : (l : List A) (n : ℕ) → n ≤ length l → take n l ≡ from 0 n (λ i. getD l i z)
   first-positions l n u =
       ext-getD z _ _ (length-take-le n l u ∙ sym (length-from 0 n _))
@@ -43,7 +43,7 @@ unfolding from numbersOf
 numbers-from k zero E = refl
 numbers-from k (suc n) E = ap (λ (l : List ℤ). E k .number ∷ l) (numbers-from (suc k) n E)
 
--- two slices that hold the table T in their first n places
+-- two slices that hold the table T in their first n slots
 module _ (fs : List ℕ) (ns : List ℤ) (n : ℕ) (T : List Entry) (t : tableOf fs ns n ≡ T) where
   pub entries-many : n ≡ length T
   unfolding tableOf

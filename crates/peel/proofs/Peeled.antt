@@ -1,61 +1,52 @@
 -- The record `Peels` put together from its parts, where peeling is refused and where it is done.
 use mathlib.Core.Path.{_≡_, sym, ap, _∙_}
-use mathlib.Core.List.{List}
 use Prim.Native.Nat.{ℕ}
 use native.Mathlib.Omega.{arith}
-use lib.IntN.{ℤ, pos}
 use lib.ListN.{length, replicate}
 use Rattle.params.specs.declared.params.Params.{Params}
 use Rattle.params.specs.declared.answers.Refusal.{Refusal}
 use Rattle.params.specs.declared.answers.Answer.{Answer}
 use Rattle.params.specs.declared.answers.Answer.the-variants.{Done, Refused}
 use Rattle.params.specs.Answers.{kept}
-use Rattle.params.specs.Params.{size}
-use Rattle.sketch.specs.Sketch.{Sketch, sketch}
-use Rattle.walk.specs.Walk.{Outcome, close}
+use Rattle.walk.specs.Walk.{Outcome, closedTable}
 use Rattle.peel.specs.declared.peeling.Figures.{Figures}
 use Rattle.peel.specs.declared.peeling.Peeled.the-variants.{Ended, Refused as NotPeeled}
+use Rattle.peel.specs.Slices.{Slices, slices}
 use Rattle.peel.specs.Rep.{Leaves}
-use Rattle.peel.specs.Peel.{figuresOf, peeledOf, flowsOf, numbersOf, padded, judged, walked, Peels}
+use Rattle.peel.specs.Peel.{figuresOf, peeledOf, closedSlices, judged, walked, Peels}
 use Rattle.peel.proofs.Padding.{all-zeros, entries-many, padded-flows, padded-numbers}
-use Rattle.peel.proofs.Judged.{judged-sound}
+use Rattle.peel.proofs.Judged.{judged-peelable}
 
-figures-are : {o : Outcome} {r : Figures} {cs' : List ℤ} {ss' fs' : List ℕ} {ns' : List ℤ} {q' ms' : List ℕ} → Leaves o r cs' ss' fs' ns' q' ms' → r ≡ figuresOf o
-figures-are {o} {r} {fs'} {ns'} l =
-    let many = entries-many fs' ns' (r .entries) (close (o .table)) (l .table) in
+figures-are : {o : Outcome} {r : Figures} {L : Slices} → Leaves o r L → r ≡ figuresOf o
+figures-are {o} {r} {L} l =
+    let many = entries-many (L .flows) (L .numbers) (r .entries) (closedTable o) (l .table) in
     λ i. record { ending = l .ending i; entries = many i; net = l .net i; pops = l .pops i }
 
-module _ (P : Params) (allowance : ℕ) (S : Sketch) (fs : List ℕ) (ns : List ℤ) (q ms : List ℕ) where
-  -- what a table slice holds where nothing is refused
-  abbrev listedFlows : List ℕ
-  listedFlows = padded (length fs) 0 (flowsOf (close (walked P allowance S fs ns q ms .table)))
-
-  abbrev listedNumbers : List ℤ
-  listedNumbers = padded (length ns) (pos 0) (numbersOf (close (walked P allowance S fs ns q ms .table)))
-
-  pub not-peeled : (w : Refusal) (k : ℕ) → Refused w k ≡ judged P allowance S fs ns q ms → Peels P allowance S fs ns q ms (NotPeeled w k) S fs ns q ms
+module _ (P : Params) (allowance : ℕ) (L : Slices) where
+  pub not-peeled : (w : Refusal) (k : ℕ) → Refused w k ≡ judged P L → Peels P allowance L (NotPeeled w k) L
   unfolding kept
   not-peeled w k e =
       record {
-        answer = ap (λ (r : Answer). peeledOf r (walked P allowance S fs ns q ms)) e;
-        left = ap (λ (r : Answer). kept r S (walked P allowance S fs ns q ms .left)) e;
-        flows = ap (λ (r : Answer). kept r fs listedFlows) e;
-        numbers = ap (λ (r : Answer). kept r ns listedNumbers) e;
-        queue = ap (λ (r : Answer). kept r q (replicate (size P) 0)) e;
-        marks = ap (λ (r : Answer). kept r ms (replicate (size P) 0)) e;
+        answer = ap (λ (r : Answer). peeledOf r (walked P allowance L)) e;
+        after = ap (λ (r : Answer). kept r L (closedSlices P (walked P allowance L) L)) e;
       }
 
-  module _ (done : Done ≡ judged P allowance S fs ns q ms) (r : Figures) (cs' : List ℤ) (ss' fs' : List ℕ) (ns' : List ℤ) (q' ms' : List ℕ) (l : Leaves (walked P allowance S fs ns q ms) r cs' ss' fs' ns' q' ms') (long : length fs' ≡ length fs) (long-numbers : length ns' ≡ length ns) (long-queue : length q' ≡ length q) (long-marks : length ms' ≡ length ms) where
-    pub peeled : Peels P allowance S fs ns q ms (Ended r) (sketch cs' ss') fs' ns' q' ms'
+  -- where nothing is refused, L' is what the walk and the close left
+  module _ (done : Done ≡ judged P L) (r : Figures) (L' : Slices) (l : Leaves (walked P allowance L) r L') (long : length (L' .flows) ≡ length (L .flows)) (long-numbers : length (L' .numbers) ≡ length (L .numbers)) (long-queue : length (L' .queue) ≡ length (L .queue)) (long-marks : length (L' .marks) ≡ length (L .marks)) where
+    closed : L' ≡ closedSlices P (walked P allowance L) L
+    closed =
+        let s = judged-peelable P L (sym done) in
+        let T = closedTable (walked P allowance L) in
+        let flows = padded-flows (L' .flows) (L' .numbers) (r .entries) T (l .table) (length (L .flows)) long (omega (arith, l .room)) (l .past) in
+        let numbers = padded-numbers (L' .flows) (L' .numbers) (r .entries) T (l .table) (length (L .numbers)) long-numbers (omega (arith, l .room, s .slots)) (l .past-numbers) in
+        let queue = all-zeros 0 (L' .queue) (l .queue) ∙ ap (λ (n : ℕ). replicate n 0) (long-queue ∙ s .long) in
+        let marks = all-zeros 0 (L' .marks) (l .marks) ∙ ap (λ (n : ℕ). replicate n 0) (long-marks ∙ s .long-marks) in
+        λ i. slices (l .remainder i .counts) (l .remainder i .idsums) (flows i) (numbers i) (queue i) (marks i)
+
+    pub peeled : Peels P allowance L (Ended r) L'
     unfolding kept
     peeled =
-        let s = judged-sound P (S .counts) (S .idsums) fs ns q ms (sym done) in
-        let T = close (walked P allowance S fs ns q ms .table) in
         record {
-          answer = ap Ended (figures-are l) ∙ ap (λ (x : Answer). peeledOf x (walked P allowance S fs ns q ms)) done;
-          left = l .left ∙ ap (λ (x : Answer). kept x S (walked P allowance S fs ns q ms .left)) done;
-          flows = padded-flows fs' ns' (r .entries) T (l .table) (length fs) long (omega (arith, l .room)) (l .past) ∙ ap (λ (x : Answer). kept x fs listedFlows) done;
-          numbers = padded-numbers fs' ns' (r .entries) T (l .table) (length ns) long-numbers (omega (arith, l .room, s .slots)) (l .past-numbers) ∙ ap (λ (x : Answer). kept x ns listedNumbers) done;
-          queue = all-zeros 0 q' (l .queue) ∙ ap (λ (n : ℕ). replicate n 0) (long-queue ∙ s .long) ∙ ap (λ (x : Answer). kept x q (replicate (size P) 0)) done;
-          marks = all-zeros 0 ms' (l .marks) ∙ ap (λ (n : ℕ). replicate n 0) (long-marks ∙ s .long-marks) ∙ ap (λ (x : Answer). kept x ms (replicate (size P) 0)) done;
+          answer = ap Ended (figures-are l) ∙ ap (λ (x : Answer). peeledOf x (walked P allowance L)) done;
+          after = closed ∙ ap (λ (x : Answer). kept x L (closedSlices P (walked P allowance L) L)) done;
         }

@@ -5,7 +5,7 @@ use mathlib.Core.List.{List}
 use Prim.Native.Nat.{ℕ, _<_, _≤_}
 use native.Mathlib.Nat.{zero-add}
 use native.Mathlib.Omega.{arith}
-use lib.IntN.{ℤ, pos}
+use lib.IntN.{pos}
 use lib.ListN.{length, getD, replicate}
 use Rattle.params.specs.declared.params.Params.{Params}
 use Rattle.params.specs.declared.answers.Refusal.{Refusal}
@@ -20,13 +20,14 @@ use Rattle.sums.specs.Sums.{combined}
 use Rattle.sketch.proofs.Tables.{getD-from}
 use Rattle.walk.specs.declared.Found.the-variants.{Pure}
 use Rattle.walk.specs.Endings.{endingNumber}
-use Rattle.walk.specs.Walk.{Outcome, close, net}
+use Rattle.walk.specs.Walk.{Outcome, closedTable, netFigure}
 use Rattle.walk.specs.Purity.{pureTest}
 use Rattle.walk.proofs.Promises as walks
 use Rattle.walk.proofs.Promises.{Whole, Nothing}
 use Rattle.peel.specs.declared.peeling.Peeled.{Peeled}
+use Rattle.peel.specs.Slices.{Slices, lentSketch}
 use Rattle.peel.specs.Table.{row, tableOf}
-use Rattle.peel.specs.Peel.{peeledOf, peeledNumber, peeledIndex, peeledEnding, peeledPops, peeledNet, peeledEntries, flowsOf, numbersOf, padded, judged, walked, Peels}
+use Rattle.peel.specs.Peel.{peeledOf, peeledNumber, peeledIndex, peeledEnding, peeledPops, peeledNet, peeledEntries, flowsOf, numbersOf, padded, closedSlices, judged, walked, Peels}
 use Rattle.peel.proofs.Padding.{padded-past, flows-many, numbers-many, table-padded}
 use Rattle.peel.proofs.Judged.{judged-whole}
 
@@ -62,21 +63,27 @@ done-alters : {A : Type 0} (x : Answer) (old new : A) → x ≡ Done → kept x 
 unfolding kept
 done-alters x old new e = rw e
 
--- h is what the contract of `peel` gives; with a tick, after
-module _ {P : Params} {a : ℕ} {S : Sketch} {fs : List ℕ} {ns : List ℤ} {q ms : List ℕ} {r : Peeled} {S' : Sketch} {fs' : List ℕ} {ns' : List ℤ} {q' ms' : List ℕ}
-    (h : Peels P a S fs ns q ms r S' fs' ns' q' ms') where
+-- h is what the contract of `peel` gives: L is what was lent, L' what it holds after
+module _ {P : Params} {a : ℕ} {L : Slices} {r : Peeled} {L' : Slices} (h : Peels P a L r L') where
   abbrev o : Outcome
-  o = walked P a S fs ns q ms
+  o = walked P a L
 
   abbrev told : Answer
-  told = judged P a S fs ns q ms
+  told = judged P L
+
+  -- the sketch that was lent, and what it holds after
+  abbrev S : Sketch
+  S = lentSketch L
+
+  abbrev S' : Sketch
+  S' = lentSketch L'
 
   -- the walk's table after the close, and the table as the caller reads it
   abbrev closed : List Entry
-  closed = close (o .table)
+  closed = closedTable o
 
   abbrev pub listed : List Entry
-  listed = tableOf fs' ns' (peeledEntries r)
+  listed = tableOf (L' .flows) (L' .numbers) (peeledEntries r)
 
   -- the answer's number and index are what was judged
   pub number-is : peeledNumber r ≡ numberIn told
@@ -86,18 +93,8 @@ module _ {P : Params} {a : ℕ} {S : Sketch} {fs : List ℕ} {ns : List ℤ} {q 
   index-is = ap peeledIndex (h .answer) ∙ peeled-index told o
 
   -- a refusal alters nothing
-  module _ (refused : peeledNumber r ≡ 0 → ⊥) where
-    not-done : numberIn told ≡ 0 → ⊥
-    not-done e = refused (number-is ∙ e)
-
-    pub refused-keeps : (S' ≡ S) × (fs' ≡ fs) × (ns' ≡ ns) × (q' ≡ q) × (ms' ≡ ms)
-    refused-keeps = (
-      h .left ∙ refusal-keeps told _ _ not-done,
-      h .flows ∙ refusal-keeps told _ _ not-done,
-      h .numbers ∙ refusal-keeps told _ _ not-done,
-      h .queue ∙ refusal-keeps told _ _ not-done,
-      h .marks ∙ refusal-keeps told _ _ not-done,
-    )
+  pub refused-keeps : (peeledNumber r ≡ 0 → ⊥) → L' ≡ L
+  refused-keeps refused = h .after ∙ refusal-keeps told _ _ (λ e. refused (number-is ∙ e))
 
   -- from here on peeling ended
   module _ (ended : peeledNumber r ≡ 0) where
@@ -107,14 +104,17 @@ module _ {P : Params} {a : ℕ} {S : Sketch} {fs : List ℕ} {ns : List ℤ} {q 
     answer-is : r ≡ peeledOf Done o
     answer-is = h .answer ∙ ap (λ (x : Answer). peeledOf x o) done
 
-    left-is : S' ≡ o .left
-    left-is = h .left ∙ done-alters told _ _ done
+    after-is : L' ≡ closedSlices P o L
+    after-is = h .after ∙ done-alters told _ _ done
 
-    flows-are : fs' ≡ padded (length fs) 0 (flowsOf closed)
-    flows-are = h .flows ∙ done-alters told _ _ done
+    remainder-is : S' ≡ o .remainder
+    remainder-is = ap lentSketch after-is
 
-    numbers-are : ns' ≡ padded (length ns) (pos 0) (numbersOf closed)
-    numbers-are = h .numbers ∙ done-alters told _ _ done
+    flows-are : L' .flows ≡ padded (length (L .flows)) 0 (flowsOf closed)
+    flows-are = ap (λ (L : Slices). L .flows) after-is
+
+    numbers-are : L' .numbers ≡ padded (length (L .numbers)) (pos 0) (numbersOf closed)
+    numbers-are = ap (λ (L : Slices). L .numbers) after-is
 
     entries-are : peeledEntries r ≡ length closed
     entries-are = ap peeledEntries answer-is
@@ -123,89 +123,89 @@ module _ {P : Params} {a : ℕ} {S : Sketch} {fs : List ℕ} {ns : List ℤ} {q 
     ending-is = ap peeledEnding answer-is
 
     pub listed-is : listed ≡ closed
-    listed-is = rw (flows-are, numbers-are, entries-are) (table-padded closed (length fs) (length ns))
+    listed-is = rw (flows-are, numbers-are, entries-are) (table-padded closed (length (L .flows)) (length (L .numbers)))
 
     -- what was lent is a whole sketch
     pub sound-input : Whole P S
-    sound-input = judged-whole P S (length fs) (length ns) (length q) (length ms) done
+    sound-input = judged-whole P L done
 
-    -- the table's sketch, added to what is left, is the input
+    -- the table's sketch, added to the remainder, is the input
     pub balance : combined false S' (sketchOf P listed) ≡ S
-    balance = rw (left-is, listed-is) (walks.balance P (length fs) a S sound-input)
+    balance = rw (remainder-is, listed-is) (walks.balance P (length (L .flows)) a S sound-input)
 
-    -- what is left is whole too
-    pub left-whole : Whole P S'
-    left-whole = subst (Whole P) (sym left-is) (walks.left-whole P (length fs) a S sound-input)
+    -- the remainder is whole too
+    pub remainder-whole : Whole P S'
+    remainder-whole = subst (Whole P) (sym remainder-is) (walks.remainder-whole P (length (L .flows)) a S sound-input)
 
-    -- clean exactly where nothing is left, and the table's sketch is the input then
+    -- clean exactly where nothing remains, and the table's sketch is the input then
     pub clean-exactly : (peeledEnding r ≡ 1 → Nothing S') × (Nothing S' → peeledEnding r ≡ 1)
     clean-exactly = (
-      λ e. subst (λ (T : Sketch). Nothing T) (sym left-is) (walks.clean-only P (length fs) a S (sym ending-is ∙ e)),
-      λ n. ending-is ∙ walks.clean-if P (length fs) a S (subst (λ (T : Sketch). Nothing T) left-is n),
+      λ e. subst (λ (T : Sketch). Nothing T) (sym remainder-is) (walks.clean-only P (length (L .flows)) a S (sym ending-is ∙ e)),
+      λ n. ending-is ∙ walks.clean-if P (length (L .flows)) a S (subst (λ (T : Sketch). Nothing T) remainder-is n),
     )
 
     pub clean-table : peeledEnding r ≡ 1 → sketchOf P listed ≡ S
-    clean-table e = ap (sketchOf P) listed-is ∙ walks.clean-table P (length fs) a S sound-input (sym ending-is ∙ e)
+    clean-table e = ap (sketchOf P) listed-is ∙ walks.clean-table P (length (L .flows)) a S sound-input (sym ending-is ∙ e)
 
-    -- stuck only where something is left, and no bucket of it passes the purity test
-    pub stuck-left : peeledEnding r ≡ 2 → Nothing S' → ⊥
-    stuck-left e n = walks.stuck-left P (length fs) a S (sym ending-is ∙ e) (subst (λ (T : Sketch). Nothing T) left-is n)
+    -- stuck only where something remains, and no bucket of it passes the purity test
+    pub stuck-remains : peeledEnding r ≡ 2 → Nothing S' → ⊥
+    stuck-remains e n = walks.stuck-remains P (length (L .flows)) a S (sym ending-is ∙ e) (subst (λ (T : Sketch). Nothing T) remainder-is n)
 
     pub stuck-only : peeledEnding r ≡ 2 → (k f : ℕ) → k < size P → pureTest P k (countIn S' k) (idsumIn S' k) ≡ Pure f → ⊥
     stuck-only e k f l t =
-        walks.stuck-only P (length fs) a S sound-input (sym ending-is ∙ e) k f l
-        (subst (λ (T : Sketch). pureTest P k (countIn T k) (idsumIn T k) ≡ Pure f) left-is t)
+        walks.stuck-only P (length (L .flows)) a S sound-input (sym ending-is ∙ e) k f l
+        (subst (λ (T : Sketch). pureTest P k (countIn T k) (idsumIn T k) ≡ Pure f) remainder-is t)
 
     -- never more pops than allowed, and all of them where the end is spent
     pops-are : peeledPops r ≡ o .pops
     pops-are = ap peeledPops answer-is
 
     pub pops-within : peeledPops r ≤ a
-    pops-within = omega (arith, pops-are, walks.pops-within P (length fs) a S)
+    pops-within = omega (arith, pops-are, walks.pops-within P (length (L .flows)) a S)
 
     pub spent-only : peeledEnding r ≡ 3 → peeledPops r ≡ a
-    spent-only e = pops-are ∙ walks.spent-only P (length fs) a S (sym ending-is ∙ e)
+    spent-only e = pops-are ∙ walks.spent-only P (length (L .flows)) a S (sym ending-is ∙ e)
 
     -- the net figure is that of the table
-    pub net-is : peeledNet r ≡ net listed
-    net-is = ap peeledNet answer-is ∙ ap net (sym listed-is)
+    pub net-is : peeledNet r ≡ netFigure listed
+    net-is = ap peeledNet answer-is ∙ ap netFigure (sym listed-is)
 
     -- slot i of the table, below its entries
-    slot-is : (i : ℕ) → i < peeledEntries r → getD closed i (by 0 (pos 0)) ≡ row fs' ns' i
+    slot-is : (i : ℕ) → i < peeledEntries r → getD closed i (by 0 (pos 0)) ≡ row (L' .flows) (L' .numbers) i
     unfolding tableOf
     slot-is i l =
         ap (λ (t : List Entry). getD t i (by 0 (pos 0))) (sym listed-is)
-        ∙ getD-from 0 (peeledEntries r) (row fs' ns') i (by 0 (pos 0)) l
-        ∙ ap (row fs' ns') (zero-add i)
+        ∙ getD-from 0 (peeledEntries r) (row (L' .flows) (L' .numbers)) i (by 0 (pos 0)) l
+        ∙ ap (row (L' .flows) (L' .numbers)) (zero-add i)
 
-    pub listed-not-zero : (i : ℕ) → i < peeledEntries r → getD ns' i (pos 0) ≡ pos 0 → ⊥
-    listed-not-zero i l z = walks.listed-not-zero P (length fs) a S i (omega (arith, entries-are)) (ap (λ (e : Entry). e .number) (slot-is i l) ∙ z)
+    pub listed-not-zero : (i : ℕ) → i < peeledEntries r → getD (L' .numbers) i (pos 0) ≡ pos 0 → ⊥
+    listed-not-zero i l z = walks.listed-not-zero P (length (L .flows)) a S i (omega (arith, entries-are)) (ap (λ (e : Entry). e .number) (slot-is i l) ∙ z)
 
-    pub listed-within : (i : ℕ) → i < peeledEntries r → inLimits (getD ns' i (pos 0)) ≡ true
+    pub listed-within : (i : ℕ) → i < peeledEntries r → inLimits (getD (L' .numbers) i (pos 0)) ≡ true
     listed-within i l =
-        ap (λ (e : Entry). inLimits (e .number)) (sym (slot-is i l)) ∙ walks.listed-within P (length fs) a S i (omega (arith, entries-are))
+        ap (λ (e : Entry). inLimits (e .number)) (sym (slot-is i l)) ∙ walks.listed-within P (length (L .flows)) a S i (omega (arith, entries-are))
 
-    pub listed-are-flows : (i : ℕ) → i < peeledEntries r → isFlow P (getD fs' i 0) ≡ true
+    pub listed-are-flows : (i : ℕ) → i < peeledEntries r → isFlow P (getD (L' .flows) i 0) ≡ true
     listed-are-flows i l =
-        ap (λ (e : Entry). isFlow P (e .flow)) (sym (slot-is i l)) ∙ walks.listed-are-flows P (length fs) a S i (omega (arith, entries-are))
+        ap (λ (e : Entry). isFlow P (e .flow)) (sym (slot-is i l)) ∙ walks.listed-are-flows P (length (L .flows)) a S i (omega (arith, entries-are))
 
-    pub listed-once : (i j : ℕ) → i < j → j < peeledEntries r → getD fs' i 0 ≡ getD fs' j 0 → ⊥
+    pub listed-once : (i j : ℕ) → i < j → j < peeledEntries r → getD (L' .flows) i 0 ≡ getD (L' .flows) j 0 → ⊥
     listed-once i j b l e =
-        walks.listed-once P (length fs) a S i j b (omega (arith, entries-are))
+        walks.listed-once P (length (L .flows)) a S i j b (omega (arith, entries-are))
         (ap (λ (x : Entry). x .flow) (slot-is i (omega arith)) ∙ e ∙ sym (ap (λ (x : Entry). x .flow) (slot-is j l)))
 
-    pub listed-few : peeledEntries r ≤ length fs
-    listed-few = omega (arith, entries-are, walks.listed-few P (length fs) a S)
+    pub listed-few : peeledEntries r ≤ length (L .flows)
+    listed-few = omega (arith, entries-are, walks.listed-few P (length (L .flows)) a S)
 
     -- table slots past the entries, the queue and the marks are all 0
-    pub cleared-flows : (k : ℕ) → peeledEntries r ≤ k → getD fs' k 0 ≡ 0
-    cleared-flows k l = rw flows-are (padded-past (length fs) 0 (flowsOf closed) k (omega (arith, entries-are, flows-many closed)))
+    pub cleared-flows : (k : ℕ) → peeledEntries r ≤ k → getD (L' .flows) k 0 ≡ 0
+    cleared-flows k l = rw flows-are (padded-past (length (L .flows)) 0 (flowsOf closed) k (omega (arith, entries-are, flows-many closed)))
 
-    pub cleared-numbers : (k : ℕ) → peeledEntries r ≤ k → getD ns' k (pos 0) ≡ pos 0
-    cleared-numbers k l = rw numbers-are (padded-past (length ns) (pos 0) (numbersOf closed) k (omega (arith, entries-are, numbers-many closed)))
+    pub cleared-numbers : (k : ℕ) → peeledEntries r ≤ k → getD (L' .numbers) k (pos 0) ≡ pos 0
+    cleared-numbers k l = rw numbers-are (padded-past (length (L .numbers)) (pos 0) (numbersOf closed) k (omega (arith, entries-are, numbers-many closed)))
 
-    pub cleared-queue : q' ≡ replicate (size P) 0
-    cleared-queue = h .queue ∙ done-alters told _ _ done
+    pub cleared-queue : L' .queue ≡ replicate (size P) 0
+    cleared-queue = ap (λ (L : Slices). L .queue) after-is
 
-    pub cleared-marks : ms' ≡ replicate (size P) 0
-    cleared-marks = h .marks ∙ done-alters told _ _ done
+    pub cleared-marks : L' .marks ≡ replicate (size P) 0
+    cleared-marks = ap (λ (L : Slices). L .marks) after-is

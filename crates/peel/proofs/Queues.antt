@@ -15,7 +15,7 @@ use Rattle.buckets.specs.Buckets.{isZero}
 use Rattle.peel.specs.Ring.{occ}
 use Rattle.peel.proofs.Occurrences.{bit-other, occ-nil, occ-snoc, join-new}
 
--- what is left of the requeueing, from q on, gives the goal
+-- the rest of the requeueing, from q on, gives the goal
 pub record Requeueing (at : ℕ → ℕ) (S : Sketch) (d i : ℕ) (q goal : List ℕ) : Type 0 where
   pub list : requeue at S i (d - i) q ≡ goal
 
@@ -41,7 +41,7 @@ module _ {at : ℕ → ℕ} {S : Sketch} {d i : ℕ} {q goal : List ℕ} (v : Re
       let e : d - i ≡ 0 = omega arith in
       rw e at (v .list)
 
--- q and the buckets that are left to queue give the goal, and none of these waits yet
+-- q and the buckets that are still to be queued give the goal, and none of these waits yet
 pub record Starting (cs : List ℤ) (i : ℕ) (q goal : List ℕ) : Type 0 where
   pub new : (k : ℕ) → i ≤ k → occ k q ≡ 0
   pub list : q ++ firstQueue i (drop i cs) ≡ goal

@@ -11,66 +11,66 @@ use lib.Seq.{getD-set-same, getD-set-other}
 use borrow.Author.Tests.{lt-ltb, le-ltb}
 use Rattle.params.specs.Lists.{from}
 use Rattle.sketch.proofs.Tables.{from-same}
-use Rattle.peel.specs.Ring.{slot, ring, bit, occ, SameBelow, Ring, Popped, Joined}
+use Rattle.peel.specs.Ring.{ringPlace, ring, bit, occ, SameBelow, Ring, Popped, Joined}
 use Rattle.peel.proofs.Froms.{from-first, from-last}
 use Rattle.peel.proofs.Occurrences.{bit-same, bit-other, occ-nil, occ-cons, occ-snoc, join-old, join-new, odds-set, odds-most, odds-room, odds-zeros, odds-same}
 
 -- a place, by the two cases
 module _ (n h i : ℕ) where
-  pub slot-near : h + i < n → slot n h i ≡ h + i
-  unfolding slot
-  slot-near l = rw (lt-ltb (h + i) n l)
+  pub place-near : h + i < n → ringPlace n h i ≡ h + i
+  unfolding ringPlace
+  place-near l = rw (lt-ltb (h + i) n l)
 
-  pub slot-far : n ≤ h + i → slot n h i ≡ h + i - n
-  unfolding slot
-  slot-far l = rw (le-ltb (h + i) n l)
+  pub place-far : n ≤ h + i → ringPlace n h i ≡ h + i - n
+  unfolding ringPlace
+  place-far l = rw (le-ltb (h + i) n l)
 
 -- the places of a ring of n
 module _ (n h : ℕ) (below : h < n) where
-  slot-below : (i : ℕ) → i ≤ n → slot n h i < n
-  slot-below i l = go (decLt (h + i) n)
+  place-below : (i : ℕ) → i ≤ n → ringPlace n h i < n
+  place-below i l = go (decLt (h + i) n)
     where
-      go : Dec (h + i < n) → slot n h i < n
-      go (yes u) = omega (arith, slot-near n h i u)
-      go (no u) = omega (arith, slot-far n h i (omega arith))
+      go : Dec (h + i < n) → ringPlace n h i < n
+      go (yes u) = omega (arith, place-near n h i u)
+      go (no u) = omega (arith, place-far n h i (omega arith))
 
   -- the places after the next one
-  slot-next : (i : ℕ) → suc i < n → slot n h (suc i) ≡ slot n (slot n h 1) i
-  slot-next i l = go (decLt (h + 1) n) (decLt (h + suc i) n)
+  place-next : (i : ℕ) → suc i < n → ringPlace n h (suc i) ≡ ringPlace n (ringPlace n h 1) i
+  place-next i l = go (decLt (h + 1) n) (decLt (h + suc i) n)
     where
-      go : Dec (h + 1 < n) → Dec (h + suc i < n) → slot n h (suc i) ≡ slot n (slot n h 1) i
-      go (yes u) (yes v) = rw (slot-near n h 1 u) (omega (arith, slot-near n h (suc i) v, slot-near n (h + 1) i (omega arith)))
-      go (yes u) (no v) = rw (slot-near n h 1 u) (omega (arith, slot-far n h (suc i) (omega arith), slot-far n (h + 1) i (omega arith)))
+      go : Dec (h + 1 < n) → Dec (h + suc i < n) → ringPlace n h (suc i) ≡ ringPlace n (ringPlace n h 1) i
+      go (yes u) (yes v) = rw (place-near n h 1 u) (omega (arith, place-near n h (suc i) v, place-near n (h + 1) i (omega arith)))
+      go (yes u) (no v) = rw (place-near n h 1 u) (omega (arith, place-far n h (suc i) (omega arith), place-far n (h + 1) i (omega arith)))
       go (no u) v =
-          rw (slot-far n h 1 (omega arith))
-          (omega (arith, slot-far n h (suc i) (omega arith), slot-near n (h + 1 - n) i (omega arith)))
+          rw (place-far n h 1 (omega arith))
+          (omega (arith, place-far n h (suc i) (omega arith), place-near n (h + 1 - n) i (omega arith)))
 
   -- no two places of a ring are one
-  slot-other : (i j : ℕ) → i < j → j < n → slot n h i ≡ slot n h j → ⊥
-  slot-other i j l u e = go (decLt (h + i) n) (decLt (h + j) n)
+  place-other : (i j : ℕ) → i < j → j < n → ringPlace n h i ≡ ringPlace n h j → ⊥
+  place-other i j l u e = go (decLt (h + i) n) (decLt (h + j) n)
     where
       go : Dec (h + i < n) → Dec (h + j < n) → ⊥
-      go (yes a) (yes b) = omega (arith, slot-near n h i a, slot-near n h j b)
-      go (yes a) (no b) = omega (arith, slot-near n h i a, slot-far n h j (omega arith))
-      go (no a) b = omega (arith, slot-far n h i (omega arith), slot-far n h j (omega arith))
+      go (yes a) (yes b) = omega (arith, place-near n h i a, place-near n h j b)
+      go (yes a) (no b) = omega (arith, place-near n h i a, place-far n h j (omega arith))
+      go (no a) b = omega (arith, place-far n h i (omega arith), place-far n h j (omega arith))
 
-  ring-first : (q : List ℕ) (w : ℕ) → length q ≡ n → suc w ≤ n → ring q h (suc w) ≡ getD q h 0 % 65536 ∷ ring q (slot n h 1) w
+  ring-first : (q : List ℕ) (w : ℕ) → length q ≡ n → suc w ≤ n → ring q h (suc w) ≡ getD q h 0 % 65536 ∷ ring q (ringPlace n h 1) w
   unfolding ring
   ring-first q w e l =
       rw e
       (from-first w _
       ∙ ap₂ (λ (x : ℕ) (r : List ℕ). x ∷ r)
-      (ap (λ (k : ℕ). getD q k 0 % 65536) (slot-near n h 0 (omega arith) ∙ add-zero h))
-      (from-same 0 w _ _ (λ i a b. rw (slot-next i (omega arith)))))
+      (ap (λ (k : ℕ). getD q k 0 % 65536) (place-near n h 0 (omega arith) ∙ add-zero h))
+      (from-same 0 w _ _ (λ i a b. rw (place-next i (omega arith)))))
 
-  ring-last : (q : List ℕ) (w x : ℕ) → length q ≡ n → w < n → ring (set q (slot n h w) x) h (suc w) ≡ ring q h w ++ (x % 65536 ∷ [])
+  ring-last : (q : List ℕ) (w x : ℕ) → length q ≡ n → w < n → ring (set q (ringPlace n h w) x) h (suc w) ≡ ring q h w ++ (x % 65536 ∷ [])
   unfolding ring
   ring-last q w x e l =
-      rw (length-set q (slot n h w) x, e)
+      rw (length-set q (ringPlace n h w) x, e)
       (from-last 0 w _
       ∙ ap₂ (λ (x : List ℕ) (y : ℕ). x ++ (y ∷ []))
-      (from-same 0 w _ _ (λ i a b. ap (λ (y : ℕ). y % 65536) (getD-set-other q (slot n h w) (slot n h i) x 0 (slot-other i w (omega arith) l))))
-      (rw zero-add (ap (λ (y : ℕ). y % 65536) (getD-set-same q (slot n h w) x 0 (rw e (slot-below w (omega arith)))))))
+      (from-same 0 w _ _ (λ i a b. ap (λ (y : ℕ). y % 65536) (getD-set-other q (ringPlace n h w) (ringPlace n h i) x 0 (place-other i w (omega arith) l))))
+      (rw zero-add (ap (λ (y : ℕ). y % 65536) (getD-set-same q (ringPlace n h w) x 0 (rw e (place-below w (omega arith)))))))
 
 -- a store that keeps one part of a number keeps that part of every place
 pub store-keeps : (part : ℕ → ℕ) (l : List ℕ) (i x : ℕ) → i < length l → part x ≡ part (getD l i 0) → (k : ℕ) → part (getD (set l i x) k 0) ≡ part (getD l k 0)
@@ -97,7 +97,7 @@ ring-empty n q ms h a b z = record {
 -- what stands above the indexes is nothing to their list
 pub ring-same : (q q' : List ℕ) → length q' ≡ length q → SameBelow 65536 q q' → (h w : ℕ) → ring q' h w ≡ ring q h w
 unfolding ring
-ring-same q q' long low h w = rw long (from-same 0 w _ _ (λ i a b. low (slot (length q) h i)))
+ring-same q q' long low h w = rw long (from-same 0 w _ _ (λ i a b. low (ringPlace (length q) h i)))
 
 module _ {n : ℕ} {q ms : List ℕ} {h w : ℕ} (r : Ring n q ms h w) where
   -- as many wait as there are places, at most; and fewer where one does not wait
@@ -108,22 +108,22 @@ module _ {n : ℕ} {q ms : List ℕ} {h w : ℕ} (r : Ring n q ms h w) where
   ring-room k l e = omega (arith, r .number, r .long-marks, odds-room ms k (omega (arith, r .long-marks)) e)
 
   -- the place after the last that waits
-  pub back-below : slot n h w < n
-  back-below = slot-below n h (r .head-in) w ring-most
+  pub back-below : ringPlace n h w < n
+  back-below = place-below n h (r .head-in) w ring-most
 
   module _ (some : 0 < w) where
     -- the index at the head
     abbrev front : ℕ
     front = getD q h 0 % 65536
 
-    pop-list : ring q h w ≡ front ∷ ring q (slot n h 1) (w - 1)
+    pop-list : ring q h w ≡ front ∷ ring q (ringPlace n h 1) (w - 1)
     pop-list =
         let e : w ≡ suc (w - 1) = omega arith in
         ap (ring q h) e ∙ ring-first n h (r .head-in) q (w - 1) (r .long) (omega (arith, ring-most))
 
     -- how often a number waits, before and after
-    pop-occ : (j : ℕ) → getD ms j 0 % 2 ≡ bit front j + occ j (ring q (slot n h 1) (w - 1))
-    pop-occ j = r .marked j ∙ ap (occ j) pop-list ∙ occ-cons j front (ring q (slot n h 1) (w - 1))
+    pop-occ : (j : ℕ) → getD ms j 0 % 2 ≡ bit front j + occ j (ring q (ringPlace n h 1) (w - 1))
+    pop-occ j = r .marked j ∙ ap (occ j) pop-list ∙ occ-cons j front (ring q (ringPlace n h 1) (w - 1))
 
     pub pop-inside : front < n
     pop-inside = go (decLt front n)
@@ -142,10 +142,10 @@ module _ {n : ℕ} {q ms : List ℕ} {h w : ℕ} (r : Ring n q ms h w) where
     abbrev unmarked : List ℕ
     unmarked = set ms front (getD ms front 0 / 2 * 2)
 
-    popped-mark : (j : ℕ) → getD unmarked j 0 % 2 ≡ occ j (ring q (slot n h 1) (w - 1))
+    popped-mark : (j : ℕ) → getD unmarked j 0 % 2 ≡ occ j (ring q (ringPlace n h 1) (w - 1))
     popped-mark j = go (ℕ-discrete j front)
       where
-        go : Dec (j ≡ front) → getD unmarked j 0 % 2 ≡ occ j (ring q (slot n h 1) (w - 1))
+        go : Dec (j ≡ front) → getD unmarked j 0 % 2 ≡ occ j (ring q (ringPlace n h 1) (w - 1))
         go (yes e) = rw e (omega (
           arith,
           getD-set-same ms front (getD ms front 0 / 2 * 2) 0 (omega (arith, pop-inside, r .long-marks)),
@@ -166,7 +166,7 @@ module _ {n : ℕ} {q ms : List ℕ} {h w : ℕ} (r : Ring n q ms h w) where
       ringed = record {
         long = r .long;
         long-marks = length-set ms front (getD ms front 0 / 2 * 2) ∙ r .long-marks;
-        head-in = slot-below n h (r .head-in) 1 (omega (arith, r .head-in));
+        head-in = place-below n h (r .head-in) 1 (omega (arith, r .head-in));
         marked = popped-mark;
         number = omega (
           arith,
@@ -191,7 +191,7 @@ module _ {n : ℕ} {q ms : List ℕ} {h w : ℕ} (r : Ring n q ms h w) where
   module _ (k : ℕ) (l : k < n) (few : n ≤ 65536) (e : getD ms k 0 % 2 ≡ 0) where
     -- the place after the last with k in it, and the marks with that of k
     abbrev stored : ℕ
-    stored = getD q (slot n h w) 0 / 65536 * 65536 + k
+    stored = getD q (ringPlace n h w) 0 / 65536 * 65536 + k
 
     abbrev marked : List ℕ
     marked = set ms k (getD ms k 0 / 2 * 2 + 1)
@@ -199,7 +199,7 @@ module _ {n : ℕ} {q ms : List ℕ} {h w : ℕ} (r : Ring n q ms h w) where
     stored-low : stored % 65536 ≡ k
     stored-low = omega arith
 
-    pushed-list : ring (set q (slot n h w) stored) h (w + 1) ≡ ring q h w ++ (k ∷ [])
+    pushed-list : ring (set q (ringPlace n h w) stored) h (w + 1) ≡ ring q h w ++ (k ∷ [])
     pushed-list =
         rw (add-one w)
         (ring-last n h (r .head-in) q w stored (r .long) (ring-room k l e) ∙ ap (λ (x : ℕ). ring q h w ++ (x ∷ [])) stored-low)
@@ -216,17 +216,17 @@ module _ {n : ℕ} {q ms : List ℕ} {h w : ℕ} (r : Ring n q ms h w) where
         ))
         go (no d) = omega (arith, getD-set-other ms k j (getD ms k 0 / 2 * 2 + 1) 0 d, r .marked j, bit-other k j (λ s. d (sym s)))
 
-    pub ring-push : Joined n k q ms h w (set q (slot n h w) stored) marked (w + 1)
+    pub ring-push : Joined n k q ms h w (set q (ringPlace n h w) stored) marked (w + 1)
     ring-push = record {
       list = pushed-list ∙ sym (join-new k (ring q h w) (omega (arith, r .marked k)));
       ringed = record {
-        long = length-set q (slot n h w) stored ∙ r .long;
+        long = length-set q (ringPlace n h w) stored ∙ r .long;
         long-marks = length-set ms k (getD ms k 0 / 2 * 2 + 1) ∙ r .long-marks;
         head-in = r .head-in;
         marked = λ j. pushed-mark j ∙ sym (ap (occ j) pushed-list ∙ occ-snoc j k (ring q h w));
         number = omega (arith, odds-set ms k (getD ms k 0 / 2 * 2 + 1) (omega (arith, r .long-marks)), r .number);
       };
-      above = store-keeps (λ x. x / 65536) q (slot n h w) stored (omega (arith, back-below, r .long)) (omega arith);
+      above = store-keeps (λ x. x / 65536) q (ringPlace n h w) stored (omega (arith, back-below, r .long)) (omega arith);
       above-marks = store-keeps (λ x. x / 2) ms k _ (omega (arith, r .long-marks)) (omega arith);
     }
 

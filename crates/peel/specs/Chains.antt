@@ -1,4 +1,4 @@
--- The chains of table slots by which a flow is looked up. A flow has a key, which in the walk is its place in array 1 (`stand P 0`), and the
+-- The chains of table slots by which a flow is looked up. A flow has a key, which in the walk is its position in array 1 (`stand P 0`), and the
 -- slots of the flows with key k make chain k, the newest first: `marks[k] / 2` is 1 + the newest slot of chain k, and `queue[e] / 65536` is
 -- 1 + the slot after e in its chain, a lower one; 0 ends a chain. Slots past the queue's end are in no chain.
 use mathlib.Core.Path.{_≡_}

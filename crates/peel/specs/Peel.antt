@@ -14,28 +14,39 @@ use Rattle.params.specs.Answers.{numberOf, refuseIf, refuseAt, first, kept}
 use Rattle.params.specs.Params.{size, lentAnswer}
 use Rattle.sketch.specs.Sketch.{Sketch, Entry, damagedAt}
 use Rattle.walk.specs.Endings.{endingNumber}
-use Rattle.walk.specs.Walk.{Outcome, walk, close, net}
+use Rattle.walk.specs.Walk.{Outcome, walk, closedTable, netOf}
 use Rattle.walk.specs.Purity.{ruleOf}
+use Rattle.peel.specs.Slices.{Slices, slices, lentSketch}
 use Rattle.peel.specs.declared.peeling.Figures.{Figures}
 use Rattle.peel.specs.declared.peeling.Peeled.{Peeled}
 use Rattle.peel.specs.declared.peeling.Peeled.the-variants.{Ended, Refused as NotPeeled}
 
--- the parameters, the lengths of all that is lent (flows and numbers are the table's two slices), and damage anywhere
+-- the parameters and the lengths of all that a walk is lent: of the counts and idsums, of the table's two slices, of the queue and the marks
+unfoldable pub walkLentAnswer : Params → ℕ → ℕ → ℕ → ℕ → ℕ → ℕ → Answer
+walkLentAnswer P counts idsums flows numbers queue marks =
+    first (lentAnswer P counts idsums)
+    (refuseIf (not (eqb queue (size P) && eqb marks (size P) && eqb flows numbers && leb flows 65536)) Length 0
+    Done)
+
+-- then damage anywhere
 unfoldable pub peelAnswer : Params → Sketch → ℕ → ℕ → ℕ → ℕ → Answer
 peelAnswer P S flows numbers queue marks =
-    first (lentAnswer P (length (S .counts)) (length (S .idsums)))
-    (refuseIf (not (eqb queue (size P) && eqb marks (size P) && eqb flows numbers && leb flows 65536)) Length 0
+    first (walkLentAnswer P (length (S .counts)) (length (S .idsums)) flows numbers queue marks)
     (refuseAt (size P) (damagedAt S) Damage
-    Done))
+    Done)
 
 -- what the caller is told of an outcome
 abbrev pub figuresOf : Outcome → Figures
 figuresOf o =
-    record { ending = o .ending; entries = length (close (o .table)); net = net (close (o .table)); pops = o .pops }
+    record { ending = o .ending; entries = length (closedTable o); net = netOf o; pops = o .pops }
+
+-- a refusal, or else what peeling tells
+abbrev pub unlessRefused : Answer → Peeled → Peeled
+unlessRefused Done x = x
+unlessRefused (Refused w k) x = NotPeeled w k
 
 abbrev pub peeledOf : Answer → Outcome → Peeled
-peeledOf Done o = Ended (figuresOf o)
-peeledOf (Refused w k) o = NotPeeled w k
+peeledOf r o = unlessRefused r (Ended (figuresOf o))
 
 -- the caller's number and values: 0 where peeling ended, else the refusal's number and index; the ending's number, the pops, the
 -- net figure and the table's entries, all 0 where it is refused
@@ -76,18 +87,29 @@ numbersOf (e ∷ es) = e .number ∷ numbersOf es
 unfoldable pub padded : {A : Type 0} → ℕ → A → List A → List A
 padded n z xs = xs ++ replicate (n - length xs) z
 
--- S, fs, ns, q and ms are the sketch, the table's slices, the queue and the marks before; with a tick, after
-module _ (P : Params) (allowance : ℕ) (S : Sketch) (fs : List ℕ) (ns : List ℤ) (q ms : List ℕ) where
-  abbrev pub judged : Answer
-  judged = peelAnswer P S (length fs) (length ns) (length q) (length ms)
+-- what is left in the slices L where nothing is refused: the remainder, the closed table with 0 in the slots past it, and no bucket waiting
+abbrev pub closedSlices : Params → Outcome → Slices → Slices
+closedSlices P o L =
+    slices (o .remainder .counts) (o .remainder .idsums)
+    (padded (length (L .flows)) 0 (flowsOf (closedTable o)))
+    (padded (length (L .numbers)) (pos 0) (numbersOf (closedTable o)))
+    (replicate (size P) 0)
+    (replicate (size P) 0)
 
-  abbrev pub walked : Outcome
-  walked = walk (ruleOf P) (length fs) allowance S
+-- what is judged of the slices, the walk over them, and what peeling so answers and leaves
+abbrev pub judged : Params → Slices → Answer
+judged P L = peelAnswer P (lentSketch L) (length (L .flows)) (length (L .numbers)) (length (L .queue)) (length (L .marks))
 
-  pub record Peels (r : Peeled) (S' : Sketch) (fs' : List ℕ) (ns' : List ℤ) (q' ms' : List ℕ) : Type 0 where
-    pub answer : r ≡ peeledOf judged walked
-    pub left : S' ≡ kept judged S (walked .left)
-    pub flows : fs' ≡ kept judged fs (padded (length fs) 0 (flowsOf (close (walked .table))))
-    pub numbers : ns' ≡ kept judged ns (padded (length ns) (pos 0) (numbersOf (close (walked .table))))
-    pub queue : q' ≡ kept judged q (replicate (size P) 0)
-    pub marks : ms' ≡ kept judged ms (replicate (size P) 0)
+abbrev pub walked : Params → ℕ → Slices → Outcome
+walked P allowance L = walk (ruleOf P) (length (L .flows)) allowance (lentSketch L)
+
+abbrev pub peelTells : Params → ℕ → Slices → Peeled
+peelTells P allowance L = peeledOf (judged P L) (walked P allowance L)
+
+abbrev pub peelLeaves : Params → ℕ → Slices → Slices
+peelLeaves P allowance L = kept (judged P L) L (closedSlices P (walked P allowance L) L)
+
+-- L is what is lent, L' what it holds after
+pub record Peels (P : Params) (allowance : ℕ) (L : Slices) (r : Peeled) (L' : Slices) : Type 0 where
+  pub answer : r ≡ peelTells P allowance L
+  pub after : L' ≡ peelLeaves P allowance L

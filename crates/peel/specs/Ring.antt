@@ -12,12 +12,12 @@ use Rattle.sketch.specs.Sketch.{sketch}
 use Rattle.walk.specs.Walk.{join, requeue, firstQueue}
 
 -- the place i steps after h in a ring of n
-unfoldable pub slot : ℕ → ℕ → ℕ → ℕ
-slot n h i = cond (ltb (h + i) n) (h + i) (h + i - n)
+unfoldable pub ringPlace : ℕ → ℕ → ℕ → ℕ
+ringPlace n h i = cond (ltb (h + i) n) (h + i) (h + i - n)
 
 -- the indexes in the w places from h on
 unfoldable pub ring : List ℕ → ℕ → ℕ → List ℕ
-ring q h w = from 0 w (λ i. getD q (slot (length q) h i) 0 % 65536)
+ring q h w = from 0 w (λ i. getD q (ringPlace (length q) h i) 0 % 65536)
 
 -- how often k stands in a list
 unfoldable pub bit : ℕ → ℕ → ℕ
@@ -50,8 +50,8 @@ pub record Ring (n : ℕ) (queue marks : List ℕ) (head waiting : ℕ) : Type 0
 -- what a pop, a push, a take's requeue and the start leave
 pub record Popped (n : ℕ) (q ms ms' : List ℕ) (head waiting k : ℕ) : Type 0 where
   pub inside : k < n
-  pub list : ring q head waiting ≡ k ∷ ring q (slot n head 1) (waiting - 1)
-  pub ringed : Ring n q ms' (slot n head 1) (waiting - 1)
+  pub list : ring q head waiting ≡ k ∷ ring q (ringPlace n head 1) (waiting - 1)
+  pub ringed : Ring n q ms' (ringPlace n head 1) (waiting - 1)
   pub above-marks : SameAbove 2 ms ms'
 
 pub record Joined (n k : ℕ) (q ms : List ℕ) (head waiting : ℕ) (q' ms' : List ℕ) (r : ℕ) : Type 0 where
@@ -71,7 +71,7 @@ pub record Started (cs : List ℤ) (n : ℕ) (q' ms' : List ℕ) (r : ℕ) : Typ
   pub ringed : Ring n q' ms' 0 r
   pub above-marks : (k : ℕ) → getD ms' k 0 / 2 ≡ 0
 
--- zeros from place n on, and below it what was there
+-- zeros from index n on, and below it what was there
 pub record Cleared {A : Type 0} (z : A) (n : ℕ) (l l' : List A) : Type 0 where
   pub long : length l' ≡ length l
   pub kept : (k : ℕ) → k < n → getD l' k z ≡ getD l k z

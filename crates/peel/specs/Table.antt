@@ -1,4 +1,4 @@
--- The table as the first n places of two slices.
+-- The table as the first n slots of two slices.
 use mathlib.Core.Path.{_≡_}
 use mathlib.Core.List.{List}
 use Prim.Native.Nat.{ℕ, _<_, _≤_}
@@ -6,23 +6,23 @@ use lib.IntN.{ℤ, pos}
 use lib.ListN.{getD, length}
 use Rattle.params.specs.Lists.{from}
 use Rattle.sketch.specs.Sketch.{Entry, by}
-use Rattle.walk.specs.Walk.{credited, close, net as netOf}
+use Rattle.walk.specs.Walk.{credited, close, netFigure}
 use Rattle.peel.specs.declared.table.Listed.{Listed}
 
--- the entry at place i, and the first n entries
+-- the entry in slot i, and the first n entries
 abbrev pub row : List ℕ → List ℤ → ℕ → Entry
 row fs ns i = by (getD fs i 0) (getD ns i (pos 0))
 
 unfoldable pub tableOf : List ℕ → List ℤ → ℕ → List Entry
 tableOf fs ns n = from 0 n (row fs ns)
 
--- r is the first place below n where f stands, or n
+-- r is the first slot below n that holds f, or n
 pub record Finds (fs : List ℕ) (n f r : ℕ) : Type 0 where
   pub within : r ≤ n
   pub before : (j : ℕ) → j < r → getD fs j 0 ≡ f → ⊥
   pub found : r < n → getD fs r 0 ≡ f
 
--- the same from place a on
+-- the same from slot a on
 pub record FindsFrom (a : ℕ) (fs : List ℕ) (n f r : ℕ) : Type 0 where
   pub within : r ≤ n
   pub before : (j : ℕ) → j < r → a ≤ j → getD fs j 0 ≡ f → ⊥
@@ -40,7 +40,7 @@ pub record Closed (fs : List ℕ) (ns : List ℤ) (n : ℕ) (fs' : List ℕ) (ns
 pub record Lists (fs : List ℕ) (ns : List ℤ) (n : ℕ) (r : Listed) (fs' : List ℕ) (ns' : List ℤ) : Type 0 where
   pub table : tableOf fs' ns' (r .entries) ≡ close (tableOf fs ns n)
   pub within : r .entries ≤ n
-  pub net : r .net ≡ netOf (close (tableOf fs ns n))
+  pub net : r .net ≡ netFigure (close (tableOf fs ns n))
   pub long : length fs' ≡ length fs
   pub long-numbers : length ns' ≡ length ns
   pub past : (k : ℕ) → r .entries ≤ k → getD fs' k 0 ≡ 0

@@ -4,8 +4,9 @@ ghost use lib.ListN.{length};
 ghost use Rattle.sketch.specs.Sketch.{sketch};
 ghost use Rattle.walk.specs.Walk.{walk as «walk-of»};
 ghost use Rattle.walk.specs.Purity.{ruleOf};
-ghost use Rattle.peel.specs.Rep.{Sound, Leaves};
-ghost use Rattle.peel.specs.Peel.{peelAnswer, Peels};
+ghost use Rattle.peel.specs.Slices.{slices};
+ghost use Rattle.peel.specs.Rep.{Peelable, Leaves};
+ghost use Rattle.peel.specs.Peel.{walkLentAnswer, peelAnswer, Peels};
 use crate::queue::clear;
 use crate::table::close;
 use crate::walking::walk_whole;
@@ -15,7 +16,7 @@ use params::Params;
 use params::Refusal;
 use walk::Ending;
 
-// What a walk found: its ending, the entries left in the table, the sum of their counts, and the pops made.
+// What a walk found: its ending, the entries of its closed table, the sum of their counts, and the pops made.
 pub struct Figures {
     pub ending: Ending,
     pub entries: usize,
@@ -26,6 +27,38 @@ pub struct Figures {
 pub enum Peeled {
     Ended(Figures),
     Refused(Refusal, usize),
+}
+
+// The answer of the lengths that a walk is lent: those of a sketch's counts and idsums, of the table's two slices, of the queue
+// and of the marks.
+pub fn judge_walk_lent(
+    p: Params,
+    counts: usize,
+    idsums: usize,
+    flows: usize,
+    numbers: usize,
+    queue: usize,
+    marks: usize,
+) -> Answer
+    ensures { λ r. ⌜ r ≡ walkLentAnswer p counts idsums flows numbers queue marks ⌝ }
+{
+    let r = p.judge_lent(counts, idsums);
+    let Answer::Done = r else {
+        return r;
+    };
+    if queue != counts {
+        return Answer::Refused(Refusal::Length, 0);
+    }
+    if marks != counts {
+        return Answer::Refused(Refusal::Length, 0);
+    }
+    if flows != numbers {
+        return Answer::Refused(Refusal::Length, 0);
+    }
+    if 65536 < flows {
+        return Answer::Refused(Refusal::Length, 0);
+    }
+    Answer::Done
 }
 
 // The answer, which alters nothing.
@@ -40,22 +73,10 @@ fn judge(
 ) -> Answer
     ensures { λ r. ⌜ r ≡ peelAnswer p (sketch (now (counts .entry)) (now (idsums .entry))) flows numbers queue marks ⌝ }
 {
-    let r = p.judge_lent(counts.len(), idsums.len());
+    let r = judge_walk_lent(p, counts.len(), idsums.len(), flows, numbers, queue, marks);
     let Answer::Done = r else {
         return r;
     };
-    if queue != counts.len() {
-        return Answer::Refused(Refusal::Length, 0);
-    }
-    if marks != counts.len() {
-        return Answer::Refused(Refusal::Length, 0);
-    }
-    if flows != numbers {
-        return Answer::Refused(Refusal::Length, 0);
-    }
-    if 65536 < flows {
-        return Answer::Refused(Refusal::Length, 0);
-    }
     let x = first_damaged(counts, idsums);
     if x < counts.len() {
         return Answer::Refused(Refusal::Damage, x);
@@ -74,8 +95,8 @@ fn unravel(
     marks: &mut [u32],
     allowance: u32,
 ) -> Figures
-    requires { ⌜ Sound p (now counts) (now idsums) (now flows) (now numbers) (now queue) (now marks) ⌝ }
-    ensures { λ r. ⌜ Leaves («walk-of» (ruleOf p) (length (now (flows .entry))) allowance (sketch (now (counts .entry)) (now (idsums .entry)))) r (now (counts .exit)) (now (idsums .exit)) (now (flows .exit)) (now (numbers .exit)) (now (queue .exit)) (now (marks .exit)) ⌝ }
+    requires { ⌜ Peelable p (slices (now counts) (now idsums) (now flows) (now numbers) (now queue) (now marks)) ⌝ }
+    ensures { λ r. ⌜ Leaves («walk-of» (ruleOf p) (length (now (flows .entry))) allowance (sketch (now (counts .entry)) (now (idsums .entry)))) r (slices (now (counts .exit)) (now (idsums .exit)) (now (flows .exit)) (now (numbers .exit)) (now (queue .exit)) (now (marks .exit))) ⌝ }
 {
     let walked = walk_whole(p, counts, idsums, flows, numbers, queue, marks, allowance);
     let ending = walked.ending;
@@ -104,7 +125,7 @@ pub fn peel(
     marks: &mut [u32],
     allowance: u32,
 ) -> Peeled
-    ensures { λ r. ⌜ Peels p allowance (sketch (now (counts .entry)) (now (idsums .entry))) (now («table_flows» .entry)) (now («table_counts» .entry)) (now (queue .entry)) (now (marks .entry)) r (sketch (now (counts .exit)) (now (idsums .exit))) (now («table_flows» .exit)) (now («table_counts» .exit)) (now (queue .exit)) (now (marks .exit)) ⌝ }
+    ensures { λ r. ⌜ Peels p allowance (slices (now (counts .entry)) (now (idsums .entry)) (now («table_flows» .entry)) (now («table_counts» .entry)) (now (queue .entry)) (now (marks .entry))) r (slices (now (counts .exit)) (now (idsums .exit)) (now («table_flows» .exit)) (now («table_counts» .exit)) (now (queue .exit)) (now (marks .exit))) ⌝ }
 {
     let judged = judge(
         p,

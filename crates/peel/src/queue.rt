@@ -1,15 +1,15 @@
-// The ring of waiting buckets: `queue[e] % 65536` is the bucket at place e, for `waiting` places from `head` on, and `marks[k] % 2` is 1
+// The ring of waiting buckets: `queue[e] % 65536` is the bucket at place e of the ring, for `waiting` places from `head` on, and `marks[k] % 2` is 1
 // where bucket k waits. What stands above these belongs to the table's chains, and stays.
 ghost use mathlib.Core.Path.{_≡_};
 ghost use Prim.Native.Nat.{_+_, _*_, _<_, _≤_};
 ghost use lib.ListN.{length};
 ghost use Rattle.params.specs.Positions.{WithinArrays};
-ghost use Rattle.peel.specs.Ring.{slot, Ring, Popped, Joined, Requeued, Started, Cleared};
+ghost use Rattle.peel.specs.Ring.{ringPlace, Ring, Popped, Joined, Requeued, Started, Cleared};
 
 // The place i steps after head in a ring of n.
-pub(crate) fn place(head: usize, i: usize, n: usize) -> usize
+pub(crate) fn ring_place(head: usize, i: usize, n: usize) -> usize
     requires { ⌜ (head < n) × (i ≤ n) × (n ≤ 65536) ⌝ }
-    ensures { λ r. ⌜ r ≡ slot n head i ⌝ }
+    ensures { λ r. ⌜ r ≡ ringPlace n head i ⌝ }
 {
     if head + i < n { head + i } else { head + i - n }
 }
@@ -30,7 +30,7 @@ fn push(queue: &mut [u32], marks: &mut [u32], head: usize, waiting: usize, k: us
     ensures { λ r. ⌜ Joined (length (now (queue .entry))) k (now (queue .entry)) (now (marks .entry)) head waiting (now (queue .exit)) (now (marks .exit)) r ⌝ }
 {
     if marks[k] % 2 == 0 {
-        let at = place(head, waiting, queue.len());
+        let at = ring_place(head, waiting, queue.len());
         queue[at] = queue[at] / 65536 * 65536 + k as u32;
         marks[k] = marks[k] / 2 * 2 + 1;
         return waiting + 1;
@@ -64,7 +64,7 @@ pub(crate) fn requeue(
     waiting
 }
 
-// Zeros from place n on.
+// Zeros from index n on.
 pub(crate) fn clear(s: &mut [u32], n: usize)
     ensures { λ _. ⌜ Cleared 0 n (now (s .entry)) (now (s .exit)) ⌝ }
 {

@@ -1,6 +1,6 @@
-// The table of flows: the first n places of two slices, in the order of first takes. Flows that stand at one place of array 1 are
-// chained, so that a flow is looked up among these alone: `marks[k] / 2` is 1 + the newest slot of a flow that stands at k, and
-// `queue[e] / 65536` is 1 + the next lower slot with the place of slot e. A slot past the queue's end has no place for a link, and is scanned.
+// The table of flows: the first n slots of two slices, in the order of first takes. Flows with one position in array 1 are
+// chained, so that a flow is looked up among these alone: `marks[k] / 2` is 1 + the newest slot of a flow with position k, and
+// `queue[e] / 65536` is 1 + the next lower slot with the position of slot e. A slot past the queue's end has no room for a link, and is scanned.
 ghost use mathlib.Core.Path.{_≡_};
 ghost use mathlib.Core.Bool.{true};
 ghost use mathlib.Core.List.{List};
@@ -8,7 +8,7 @@ ghost use Prim.Native.Nat.{ℕ, _/_, _<_, _≤_};
 ghost use lib.IntN.{pos, _+ℤ_};
 ghost use lib.ListN.{length, getD};
 ghost use Rattle.buckets.specs.Buckets.{inLimits};
-ghost use Rattle.walk.specs.Walk.{entryOf, net};
+ghost use Rattle.walk.specs.Walk.{entryOf, netFigure};
 ghost use Rattle.peel.specs.Ring.{Cleared};
 ghost use Rattle.peel.specs.Chains.{Chained, Linked, Relinked};
 ghost use Rattle.peel.specs.Table.{tableOf, Finds, FindsFrom, Credited, Closed, Lists};
@@ -20,7 +20,7 @@ pub(crate) struct Listed {
     pub net: i64,
 }
 
-// The place of f among the flows from place `first` on and below n, or n.
+// The slot of f among those from `first` on and below n, or n.
 fn scan(flows: &[u32], first: usize, n: usize, f: u32) -> usize
     requires { ⌜ n ≤ length (now flows) ⌝ }
     ensures { λ r. ⌜ FindsFrom first (now (flows .entry)) n f r ⌝ }
@@ -35,7 +35,7 @@ fn scan(flows: &[u32], first: usize, n: usize, f: u32) -> usize
     n
 }
 
-// The place of f, which stands at k in array 1, among the first n flows, or n.
+// The slot of f, which stands at k in array 1, among the first n, or n.
 pub(crate) fn find(flows: &[u32], queue: &[u32], marks: &[u32], n: usize, f: u32, k: usize) -> usize
     requires { ⌜ Chained (length (now queue)) (now flows) (now queue) (now marks) n f k × (n ≤ length (now flows)) × (k < length (now marks)) ⌝ }
     ensures { λ r. ⌜ Finds (now (flows .entry)) n f r ⌝ }
@@ -60,7 +60,7 @@ fn link(queue: &mut [u32], marks: &mut [u32], e: usize, k: usize)
     marks[k] = (e as u32 + 1) * 2 + marks[k] % 2;
 }
 
-// c more for f, whose place is `at` and which stands at k in array 1: the number of entries then.
+// c more for f, whose slot is `at` and which stands at k in array 1: the number of entries then.
 pub(crate) fn credit(
     flows: &mut [u32],
     numbers: &mut [i32],
@@ -108,7 +108,7 @@ fn compact(flows: &mut [u32], numbers: &mut [i32], n: usize) -> usize
     w
 }
 
-// Zeros from place n on.
+// Zeros from slot n on.
 fn clear_numbers(s: &mut [i32], n: usize)
     ensures { λ _. ⌜ Cleared (pos 0) n (now (s .entry)) (now (s .exit)) ⌝ }
 {
@@ -122,7 +122,7 @@ fn clear_numbers(s: &mut [i32], n: usize)
 // The net figure: the sum of the first n entries' numbers.
 fn net_of(numbers: &[i32], n: usize) -> i64
     requires { ⌜ (n ≤ length (now numbers)) × (n ≤ 65536) ⌝ }
-    ensures { λ r. ⌜ ((fs : List ℕ) → r ≡ net (tableOf fs (now (numbers .entry)) n)) ⌝ }
+    ensures { λ r. ⌜ ((fs : List ℕ) → r ≡ netFigure (tableOf fs (now (numbers .entry)) n)) ⌝ }
 {
     let mut sum: i64 = 0;
     let mut i = 0;

@@ -4,16 +4,15 @@ ghost use lib.ListN.{length};
 ghost use Rattle.sketch.specs.Sketch.{sketch};
 ghost use Rattle.walk.specs.Walk.{run, walk as «walk-of»};
 ghost use Rattle.walk.specs.Purity.{ruleOf};
-ghost use Rattle.peel.specs.Rep.{Holds, Sound, stateOf, Walks};
-use crate::queue::place;
+ghost use Rattle.peel.specs.Slices.{slices};
+ghost use Rattle.peel.specs.Rep.{Holds, Peelable, stateOf, Walks};
 use crate::queue::pop;
-use crate::queue::requeue;
+use crate::queue::ring_place;
 use crate::queue::start;
-use crate::table::credit;
 use crate::table::find;
-use crate::take::apply;
-use crate::take::count_left;
+use crate::take::count_nonzero;
 use crate::take::fits;
+use crate::take::take_flow;
 use params::Params;
 use walk::Ending;
 use walk::Found;
@@ -25,7 +24,7 @@ pub(crate) struct Walked {
     pub entries: usize,
 }
 
-// The walk from a queue of `first` buckets, with `dirt` buckets that are not all zero.
+// The walk from a queue of `first_waiting` buckets, where `first_nonzero` buckets are not all zero.
 fn walk(
     p: Params,
     counts: &mut [i32],
@@ -34,12 +33,12 @@ fn walk(
     numbers: &mut [i32],
     queue: &mut [u32],
     marks: &mut [u32],
-    first: usize,
-    dirt: usize,
+    first_waiting: usize,
+    first_nonzero: usize,
     allowance: u32,
 ) -> Walked
-    requires { ⌜ Holds p (now counts) (now idsums) (now flows) (now numbers) (now queue) (now marks) 0 first dirt 0 ⌝ }
-    ensures { λ r. ⌜ Walks (run (ruleOf p) (length (now (flows .entry))) allowance 0 (stateOf (now (counts .entry)) (now (idsums .entry)) (now (flows .entry)) (now (numbers .entry)) (now (queue .entry)) 0 first 0)) (length (now (flows .entry))) r (now (counts .exit)) (now (idsums .exit)) (now (flows .exit)) (now (numbers .exit)) ⌝ }
+    requires { ⌜ Holds p (slices (now counts) (now idsums) (now flows) (now numbers) (now queue) (now marks)) 0 «first_waiting» «first_nonzero» 0 ⌝ }
+    ensures { λ r. ⌜ Walks (run (ruleOf p) (length (now (flows .entry))) allowance 0 (stateOf (slices (now (counts .entry)) (now (idsums .entry)) (now (flows .entry)) (now (numbers .entry)) (now (queue .entry)) (now (marks .entry))) 0 «first_waiting» 0)) (length (now (flows .entry))) r (slices (now (counts .exit)) (now (idsums .exit)) (now (flows .exit)) (now (numbers .exit)) (now (queue .exit)) (now (marks .exit))) ⌝ }
 {
     let d = p.d;
     let m = p.m;
@@ -47,12 +46,12 @@ fn walk(
     let slots = flows.len();
     let mut ks: [usize; 4] = [0; 4];
     let mut head: usize = 0;
-    let mut waiting = first;
-    let mut left = dirt;
+    let mut waiting = first_waiting;
+    let mut nonzero = first_nonzero;
     let mut entries: usize = 0;
     let mut pops: u32 = 0;
     let ending = 'walk: loop {
-        if left == 0 {
+        if nonzero == 0 {
             break Ending::Clean;
         }
         if waiting == 0 {
@@ -63,7 +62,7 @@ fn walk(
         }
         pops += 1;
         let k = pop(queue, marks, head, waiting);
-        head = place(head, 1, size);
+        head = ring_place(head, 1, size);
         waiting -= 1;
         let c = counts[k];
         let s = idsums[k];
@@ -91,9 +90,27 @@ fn walk(
                 } else if at == slots {
                     break 'walk Ending::Full;
                 }
-                left = apply(d, m, &ks, counts, idsums, c, s, left);
-                entries = credit(flows, numbers, queue, marks, entries, at, f, ks[0], c);
-                waiting = requeue(d, m, &ks, counts, queue, marks, head, waiting);
+                let taken = take_flow(
+                    p,
+                    &ks,
+                    counts,
+                    idsums,
+                    flows,
+                    numbers,
+                    queue,
+                    marks,
+                    head,
+                    waiting,
+                    nonzero,
+                    entries,
+                    at,
+                    f,
+                    c,
+                    s,
+                );
+                waiting = taken.waiting;
+                nonzero = taken.nonzero;
+                entries = taken.entries;
             }
         }
     };
@@ -115,11 +132,11 @@ pub(crate) fn walk_whole(
     marks: &mut [u32],
     allowance: u32,
 ) -> Walked
-    requires { ⌜ Sound p (now counts) (now idsums) (now flows) (now numbers) (now queue) (now marks) ⌝ }
-    ensures { λ r. ⌜ Walks («walk-of» (ruleOf p) (length (now (flows .entry))) allowance (sketch (now (counts .entry)) (now (idsums .entry)))) (length (now (flows .entry))) r (now (counts .exit)) (now (idsums .exit)) (now (flows .exit)) (now (numbers .exit)) ⌝ }
+    requires { ⌜ Peelable p (slices (now counts) (now idsums) (now flows) (now numbers) (now queue) (now marks)) ⌝ }
+    ensures { λ r. ⌜ Walks («walk-of» (ruleOf p) (length (now (flows .entry))) allowance (sketch (now (counts .entry)) (now (idsums .entry)))) (length (now (flows .entry))) r (slices (now (counts .exit)) (now (idsums .exit)) (now (flows .exit)) (now (numbers .exit)) (now (queue .exit)) (now (marks .exit))) ⌝ }
 {
-    let first = start(counts, queue, marks);
-    let dirt = count_left(counts, idsums);
+    let waiting = start(counts, queue, marks);
+    let nonzero = count_nonzero(counts, idsums);
     walk(
         p,
         counts,
@@ -128,8 +145,8 @@ pub(crate) fn walk_whole(
         numbers,
         queue,
         marks,
-        first,
-        dirt,
+        waiting,
+        nonzero,
         allowance,
     )
 }

@@ -8,19 +8,19 @@ use borrow.Author.Tests.{leb-true, le-leb, eq-eqb}
 use lib.IntN.{ℤ, pos}
 use lib.ListN.{length, drop, replicate, length-append, length-replicate}
 use Rattle.params.specs.declared.params.Params.{Params}
-use Rattle.params.specs.declared.answers.Answer.{Answer}
 use Rattle.params.specs.declared.answers.Answer.the-variants.{Done}
 use Rattle.params.specs.Params.{size}
 use Rattle.sketch.specs.Sketch.{Sketch, Entry, zeros}
 use Rattle.sums.specs.Sums.{combined}
-use Rattle.walk.specs.Walk.{Outcome, walk, close, net}
+use Rattle.walk.specs.Walk.{Outcome, walk, closedTable, netOf}
 use Rattle.walk.specs.Purity.{ruleOf}
 use Rattle.peel.specs.declared.peeling.Figures.{Figures}
 use Rattle.peel.specs.declared.peeling.Peeled.{Peeled}
 use Rattle.peel.specs.declared.peeling.Peeled.the-variants.{Ended, Refused as NotPeeled}
-use Rattle.peel.specs.Peel.{figuresOf, peeledOf, flowsOf, numbersOf, padded}
+use Rattle.peel.specs.Slices.{Slices, lentSketch}
+use Rattle.peel.specs.Peel.{figuresOf, peeledOf, flowsOf, numbersOf, padded, closedSlices, judged, walked, Peels}
 use Rattle.peel.proofs.Padding.{flows-many, numbers-many}
-use Rattle.peel.proofs.Promised.{left-whole, listed-few}
+use Rattle.peel.proofs.Promised.{remainder-whole, listed-few}
 use Rattle.lines.specs.Lines.{lossLine, endLine}
 use Rattle.lines.specs.Reports.{lossLines, leftLines, entryLines, reportText, walkText, reportFits}
 use Rattle.lines.proofs.Reporting.{losses-first, losses-none}
@@ -32,8 +32,8 @@ use Rattle.desk.specs.declared.states.Fed.{Fed}
 use Rattle.desk.specs.Desk.{fewEnough, beginOf, started, Feeds, finishAnswer}
 use Rattle.desk.proofs.Accepted.{TwoStreams, few-begun, near-done, accepted}
 use Rattle.desk.proofs.Accepts.{accepts}
-use Rattle.settle.specs.Settling.{settleJudged, settleWalked, Settles}
-use Rattle.settle.proofs.Settled.{settled-is-peeled}
+use Rattle.settle.specs.Settling.{settleJudged, lessDownstream, Settles}
+use Rattle.settle.proofs.Settled.{settled-is-peeled, settled-ends}
 use Rattle.settle.proofs.TwoStreams.{streams-settle, lost, by-net-counts}
 
 -- slices that begin with a table have its lines
@@ -43,108 +43,100 @@ table-lines [] fs ns = losses-none fs ns
 table-lines (e ∷ es) fs ns =
     losses-first (e .flow) (e .number) (flowsOf es ++ fs) (numbersOf es ++ ns) (length es) ∙ ap (λ ys. lossLine (e .flow) (e .number) ++ ys) (table-lines es fs ns)
 
--- the text that is written of a walk's figures, of what it left and of the slices that hold its table
-walk-text : (o : Outcome) (n m : ℕ) → let es = close (o .table) in let g = figuresOf o in
-    reportText (padded n 0 (flowsOf es)) (padded m (pos 0) (numbersOf es)) (g .entries) (o .left .counts) (o .left .idsums) (g .ending) (g .pops) (g .net) ≡ walkText o
+-- the text that is written of a walk's figures, of its remainder and of the slices that hold its table
+walk-text : (o : Outcome) (n m : ℕ) → let es = closedTable o in let g = figuresOf o in
+    reportText (padded n 0 (flowsOf es)) (padded m (pos 0) (numbersOf es)) (g .entries) (o .remainder .counts) (o .remainder .idsums) (g .ending) (g .pops) (g .net) ≡ walkText o
 unfolding reportText walkText padded
 walk-text o n m =
-    ap (λ ys. ys ++ (leftLines (o .left .counts) (o .left .idsums) (length (o .left .counts)) ++ endLine (o .ending) (o .pops) (net (close (o .table)))))
-    (table-lines (close (o .table)) _ _)
+    ap (λ ys. ys ++ (leftLines (o .remainder .counts) (o .remainder .idsums) (length (o .remainder .counts)) ++ endLine (o .ending) (o .pops) (netOf o)))
+    (table-lines (closedTable o) _ _)
 
 -- a list in as many slots as are there
 padded-long : {A : Type 0} (n : ℕ) (z : A) (xs : List A) → length xs ≤ n → length (padded n z xs) ≡ n
 unfolding padded
 padded-long n z xs h = length-append xs (replicate (n - length xs) z) ∙ omega (arith, length-replicate (n - length xs) z)
 
-abbrev figuresIn : Peeled → Figures → Figures
-figuresIn (Ended g) h = g
-figuresIn (NotPeeled w k) h = h
+abbrev toldFigures : Peeled → Figures → Figures
+toldFigures (Ended g) h = g
+toldFigures (NotPeeled w k) h = h
 
--- a report as the desk makes it: the first head is judged, the records behind it are fed to two fresh sketches, and at the end of the input
--- nothing more is due; the difference is settled with slices of the sketch's size, and the text written of what that leaves
+-- a report as the desk makes it: the first head is judged, the records behind it are fed to two fresh sketches, of which `lent` has the first,
+-- and at the end of the input nothing more is due; the difference is settled with slices of the sketch's size, and the text written of what
+-- that leaves
 pub record Reported (P : Params) (input text : List ℕ) : Type 0 where
-  pub up : Sketch
+  pub lent : Slices
   pub down : Sketch
   pub fed : Fed
   pub head : beginOf input ≡ record { answer = Done; params = P }
-  pub feeding : Feeds P (drop 38 input) (zeros P) (zeros P) started fed up down
+  pub feeding : Feeds P (drop 38 input) (zeros P) (zeros P) started fed (lentSketch lent) down
   pub finished : finishAnswer (fed .state .stage) (fed .state .at) ≡ Done
-  pub flows : List ℕ
-  pub numbers : List ℤ
-  pub queue : List ℕ
-  pub marks : List ℕ
-  pub lent : (length flows ≡ size P) × (length numbers ≡ size P) × (length queue ≡ size P) × (length marks ≡ size P)
+  pub long : (length (lent .flows) ≡ size P) × (length (lent .numbers) ≡ size P) × (length (lent .queue) ≡ size P) × (length (lent .marks) ≡ size P)
   pub figures : Figures
-  pub left : Sketch
-  pub table-flows : List ℕ
-  pub table-numbers : List ℤ
-  pub cleared-queue : List ℕ
-  pub cleared-marks : List ℕ
-  pub settled : Settles P up down flows numbers queue marks (Ended figures) left table-flows table-numbers cleared-queue cleared-marks
-  pub written : text ≡ reportText table-flows table-numbers (figures .entries) (left .counts) (left .idsums) (figures .ending) (figures .pops) (figures .net)
+  pub after : Slices
+  pub settled : Settles P down lent (Ended figures) after
+  pub written : text ≡ reportText (after .flows) (after .numbers) (figures .entries) (after .counts) (after .idsums) (figures .ending) (figures .pops) (figures .net)
 
 module _ {P : Params} {input text : List ℕ} (r : Reported P input text) where
   -- the two streams that the input is
-  pub streams : TwoStreams P input (r .up) (r .down)
-  streams = accepted P input (r .fed) (r .up) (r .down) (r .head) (r .feeding) (r .finished)
+  pub streams : TwoStreams P input (lentSketch (r .lent)) (r .down)
+  streams = accepted P input (r .fed) (lentSketch (r .lent)) (r .down) (r .head) (r .feeding) (r .finished)
 
   abbrev pub difference : Sketch
-  difference = combined true (r .up) (r .down)
+  difference = combined true (lentSketch (r .lent)) (r .down)
 
   small : size P ≤ 65536
   small = dimensions-small (good-dimensions P (fresh-grown (streams .first-read) .good))
 
-  abbrev told : Answer
-  told = settleJudged P (r .up) (r .down) (r .flows) (r .numbers) (r .queue) (r .marks)
+  not-refused : settleJudged P (r .down) (r .lent) ≡ Done
+  not-refused =
+      streams-settle (streams .first-read) (streams .second-read) _ _ _ _ (r .long .0 ∙ sym (r .long .1)) (omega (arith, r .long .0, small)) (r .long .2) (r .long .3)
+
+  -- what the slices and the figures then say: the difference is peeled
+  abbrev peeled : Slices
+  peeled = lessDownstream P (r .down) (r .lent)
 
   abbrev outcome : Outcome
-  outcome = settleWalked P (r .up) (r .down) (r .flows) (r .numbers) (r .queue) (r .marks)
+  outcome = walked P (8 * size P) peeled
 
-  not-refused : told ≡ Done
-  not-refused =
-      streams-settle (streams .first-read) (streams .second-read) _ _ _ _ (r .lent .0 ∙ sym (r .lent .1)) (omega (arith, r .lent .0, small)) (r .lent .2) (r .lent .3)
+  peels : Peels P (8 * size P) peeled (Ended (r .figures)) (r .after)
+  peels = settled-is-peeled P (r .down) (r .lent) not-refused (r .settled)
 
-  -- what the slices and the figures then say
-  flows-are : r .table-flows ≡ padded (length (r .flows)) 0 (flowsOf (close (outcome .table)))
-  flows-are = r .settled .flows ∙ sym (kept-new told _ _ not-refused)
+  ends : judged P peeled ≡ Done
+  ends = settled-ends P (r .down) (r .lent) not-refused
 
-  numbers-are : r .table-numbers ≡ padded (length (r .numbers)) (pos 0) (numbersOf (close (outcome .table)))
-  numbers-are = r .settled .numbers ∙ sym (kept-new told _ _ not-refused)
-
-  left-is : r .left ≡ outcome .left
-  left-is = r .settled .left ∙ sym (kept-new told _ _ not-refused)
+  after-is : r .after ≡ closedSlices P outcome peeled
+  after-is = peels .after ∙ sym (kept-new (judged P peeled) _ _ ends)
 
   figures-are : r .figures ≡ figuresOf outcome
-  figures-are = ap (λ x. figuresIn x (r .figures)) (r .settled .answer ∙ ap (λ x. peeledOf x outcome) not-refused)
+  figures-are = ap (λ x. toldFigures x (r .figures)) (peels .answer ∙ ap (λ x. peeledOf x outcome) ends)
 
   -- the text is that of the walk over their difference, with 8 * d * m pops and d * m slots
   pub report-of-walk : text ≡ walkText (walk (ruleOf P) (size P) (8 * size P) difference)
   report-of-walk =
       let g = r .figures in
-      let read : reportText (r .table-flows) (r .table-numbers) (g .entries) (r .left .counts) (r .left .idsums) (g .ending) (g .pops) (g .net) ≡ walkText outcome =
-      rw (flows-are, numbers-are, left-is, figures-are) (walk-text outcome (length (r .flows)) (length (r .numbers)))
+      let read : reportText (r .after .flows) (r .after .numbers) (g .entries) (r .after .counts) (r .after .idsums) (g .ending) (g .pops) (g .net) ≡ walkText outcome =
+      rw (after-is, figures-are) (walk-text outcome (length (r .lent .flows)) (length (r .lent .numbers)))
       in
-      r .written ∙ read ∙ ap (λ n. walkText (walk (ruleOf P) n (8 * size P) difference)) (r .lent .0)
+      r .written ∙ read ∙ ap (λ n. walkText (walk (ruleOf P) n (8 * size P) difference)) (r .long .0)
 
   -- it fits in 64 bytes for each of twice 1536 lines and one more, which is what the program lends
-  pub report-fits : reportFits (64 * (2 * 1536 + 1)) (length (r .table-flows)) (length (r .table-numbers)) (r .figures .entries) (length (r .left .counts)) (length (r .left .idsums)) ≡ true
+  pub report-fits : reportFits (64 * (2 * 1536 + 1)) (length (r .after .flows)) (length (r .after .numbers)) (r .figures .entries) (length (r .after .counts)) (length (r .after .idsums)) ≡ true
   unfolding fewEnough
   report-fits =
-      let peeled = settled-is-peeled P (r .up) (r .down) (r .flows) (r .numbers) (r .queue) (r .marks) not-refused (r .settled) in
-      let whole = left-whole peeled refl in
+      let whole = remainder-whole peels refl in
       let few = leb-true (size P) 1536 (few-begun P input (r .head)) in
-      let entries = listed-few peeled refl in
-      let entries-are : r .figures .entries ≡ length (close (outcome .table)) = ap (λ g. g .entries) figures-are in
-      let flows = ap length flows-are ∙ padded-long (length (r .flows)) 0 _ (omega (arith, entries, entries-are, flows-many (close (outcome .table)))) in
-      let numbers = ap length numbers-are ∙ padded-long (length (r .numbers)) (pos 0) _ (omega (arith, entries, entries-are, numbers-many (close (outcome .table)), r .lent .0, r .lent .1)) in
-      rw (le-leb (r .figures .entries) (length (r .table-flows)) (omega (arith, flows, entries)), le-leb (r .figures .entries) (length (r .table-numbers)) (omega (arith, numbers, entries, r .lent .0, r .lent .1)), eq-eqb (length (r .left .idsums)) (length (r .left .counts)) (omega (arith, whole .counts-long, whole .idsums-long)), le-leb (64 * (r .figures .entries + length (r .left .counts) + 1)) (64 * (2 * 1536 + 1)) (omega (arith, entries, few, r .lent .0, whole .counts-long)))
+      let entries = listed-few peels refl in
+      let entries-are : r .figures .entries ≡ length (closedTable outcome) = ap (λ g. g .entries) figures-are in
+      let flows = ap (λ (L : Slices). length (L .flows)) after-is ∙ padded-long (length (r .lent .flows)) 0 _ (omega (arith, entries, entries-are, flows-many (closedTable outcome))) in
+      let numbers = ap (λ (L : Slices). length (L .numbers)) after-is ∙ padded-long (length (r .lent .numbers)) (pos 0) _ (omega (arith, entries, entries-are, numbers-many (closedTable outcome), r .long .0, r .long .1)) in
+      rw (le-leb (r .figures .entries) (length (r .after .flows)) (omega (arith, flows, entries)), le-leb (r .figures .entries) (length (r .after .numbers)) (omega (arith, numbers, entries, r .long .0, r .long .1)), eq-eqb (length (r .after .idsums)) (length (r .after .counts)) (omega (arith, whole .counts-long, whole .idsums-long)), le-leb (64 * (r .figures .entries + length (r .after .counts) + 1)) (64 * (2 * 1536 + 1)) (omega (arith, entries, few, r .long .0, whole .counts-long)))
 
   -- where the input is two streams, one directly after the other, the sketches are what their reader makes of them
   module _ {a b : List ℕ} {S T : Sketch} (is : input ≡ a ++ b) (one : StreamRead P a (zeros P) Done S) (two : StreamRead P b (zeros P) Done T) where
     pub difference-is : difference ≡ combined true S T
     difference-is =
         let fed = rw is at (r .feeding) in
-        let same = accepts one two (few-begun P input (r .head)) (r .fed) (r .up) (r .down) (near-done fed (r .finished)) fed in
+        let same = accepts one two (few-begun P input (r .head)) (r .fed) (lentSketch (r .lent)) (r .down) (near-done fed (r .finished)) fed in
         ap₂ (combined true) (same .1) (same .2)
 
 -- so two inputs of the same parameters, whose streams differ by the same packets of each flow, have the same report

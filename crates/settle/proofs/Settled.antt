@@ -1,60 +1,27 @@
 -- Laws of settling: the stages of its answer, and the record `Settles` put together where it is refused and where it is done.
 use mathlib.Core.Path.{_≡_, sym, ap, ap₂, subst, _∙_}
-use mathlib.Core.Bool.{Bool, true, false, _&&_}
-use mathlib.Core.List.{List}
-use Prim.Native.Nat.{ℕ, _*_, _≤_, _<_}
+use mathlib.Core.Bool.{true}
+use Prim.Native.Nat.{ℕ, _*_, _≤_}
 use native.Mathlib.Omega.{arith}
-use lib.IntN.{ℤ}
-use lib.Dec.{eqb, leb}
 use lib.ListN.{length}
 use Rattle.params.specs.declared.params.Params.{Params}
 use Rattle.params.specs.declared.answers.Refusal.{Refusal}
-use Rattle.params.specs.declared.answers.Refusal.the-variants.{Length, Damage}
+use Rattle.params.specs.declared.answers.Refusal.the-variants.{Damage}
 use Rattle.params.specs.declared.answers.Answer.{Answer}
 use Rattle.params.specs.declared.answers.Answer.the-variants.{Done, Refused}
 use Rattle.params.specs.Answers.{kept}
-use Rattle.params.specs.Params.{size, Dimensions, lentAnswer}
+use Rattle.params.specs.Params.{size}
 use Rattle.params.proofs.Judging.{Refuses, first-refused, first-passed, first-done, kept-new, refuse-none}
-use Rattle.params.proofs.Rules.{dimensions-small, lent-done}
+use Rattle.params.proofs.Rules.{dimensions-small}
 use Rattle.sketch.specs.Sketch.{Sketch, damagedAt}
 use Rattle.sums.specs.Sums.{combineAnswer, combined}
-use Rattle.walk.specs.Walk.{Outcome}
 use Rattle.peel.specs.declared.peeling.Peeled.{Peeled}
 use Rattle.peel.specs.declared.peeling.Peeled.the-variants.{Refused as NotPeeled}
-use Rattle.peel.specs.Peel.{peelAnswer, peeledOf, Peels}
-use Rattle.settle.specs.Settling.{walkLentAnswer, settleAnswer, settleJudged, settleWalked, Settles}
+use Rattle.peel.specs.Slices.{Slices, lentSketch, withSketch}
+use Rattle.peel.specs.Peel.{walkLentAnswer, peelAnswer, unlessRefused, judged, peelTells, Peels}
+use Rattle.peel.proofs.Judged.{lent-passed}
+use Rattle.settle.specs.Settling.{settleAnswer, settleJudged, lessDownstream, Settles}
 use Rattle.settle.proofs.Differences.{combined-long, combined-undamaged}
-
-module _ (P : Params) (c s flows numbers queue marks : ℕ) where
-  abbrev answer : Answer
-  answer = walkLentAnswer P c s flows numbers queue marks
-
-  abbrev fitting : Bool
-  fitting = eqb queue (size P) && eqb marks (size P) && eqb flows numbers && leb flows 65536
-
-  -- the stages of the lengths: the shape of the first sketch, then all that is lent beside it
-  pub ill-shaped : (r : Answer) → r ≡ lentAnswer P c s → Refuses r → r ≡ answer
-  unfolding walkLentAnswer
-  ill-shaped r e h = first-refused r _ _ e h
-
-  module _ (shaped : lentAnswer P c s ≡ Done) where
-    pub ill-lent : fitting ≡ false → Refused Length 0 ≡ answer
-    unfolding walkLentAnswer
-    ill-lent e = sym (first-passed _ _ shaped ∙ rw e)
-
-    pub well-lent : fitting ≡ true → Done ≡ answer
-    unfolding walkLentAnswer
-    well-lent e = sym (first-passed _ _ shaped ∙ rw e)
-
-  lent-shaped : answer ≡ Done → Dimensions P × (c ≡ size P) × (s ≡ size P)
-  unfolding walkLentAnswer
-  lent-shaped e = lent-done P c s (first-done (lentAnswer P c s) _ e .0)
-
--- a sketch that is undamaged is refused for its lengths alone
-undamaged-peels : (P : Params) (D : Sketch) (flows numbers queue marks : ℕ) → ((k : ℕ) → k < size P → damagedAt D k ≡ false)
-    → peelAnswer P D flows numbers queue marks ≡ walkLentAnswer P (length (D .counts)) (length (D .idsums)) flows numbers queue marks
-unfolding peelAnswer walkLentAnswer
-undamaged-peels P D flows numbers queue marks none = rw (refuse-none (size P) (damagedAt D) Damage Done none)
 
 module _ (P : Params) (S T : Sketch) (flows numbers queue marks : ℕ) where
   abbrev lengths : Answer
@@ -79,69 +46,54 @@ module _ (P : Params) (S T : Sketch) (flows numbers queue marks : ℕ) where
     both = first-done _ _ done
 
     pub settled-small : size P ≤ 65536
-    settled-small = dimensions-small (lent-shaped P _ _ flows numbers queue marks (both .0) .0)
+    settled-small = dimensions-small (lent-passed P flows numbers queue marks _ _ (both .0) .0)
 
     settled-peels : peelAnswer P (combined true S T) flows numbers queue marks ≡ Done
+    unfolding peelAnswer
     settled-peels =
-        let long = lent-shaped P _ _ flows numbers queue marks (both .0) .1 in
-        undamaged-peels P (combined true S T) flows numbers queue marks (λ k l. combined-undamaged true S T P P (both .1) k (omega (arith, long)))
-        ∙ ap₂ (λ (c s : ℕ). walkLentAnswer P c s flows numbers queue marks) (combined-long true S T .0) (combined-long true S T .1)
-        ∙ both .0
+        let long = lent-passed P flows numbers queue marks _ _ (both .0) .1 in
+        first-passed _ _ (ap₂ (λ (c s : ℕ). walkLentAnswer P c s flows numbers queue marks) (combined-long true S T .0) (combined-long true S T .1) ∙ both .0)
+        ∙ refuse-none (size P) (damagedAt (combined true S T)) Damage Done (λ k l. combined-undamaged true S T P P (both .1) k (omega (arith, long .0)))
 
--- what two answers keep: the old value where one is a refusal, the same new one where both are Done
+-- what a refusal keeps
 kept-refused : {A : Type 0} {w : Refusal} {k : ℕ} (r : Answer) (old new : A) → Refused w k ≡ r → old ≡ kept r old new
 unfolding kept
 kept-refused r old new e = rw (← e)
 
-kept-done : {A : Type 0} {x : A} (r q : Answer) (old old' new : A) → r ≡ Done → q ≡ Done → x ≡ kept r old new → x ≡ kept q old' new
-kept-done r q old old' new e h l = l ∙ sym (kept-new r old new e) ∙ kept-new q old' new h
-
-module _ (P : Params) (S T : Sketch) (fs : List ℕ) (ns : List ℤ) (q ms : List ℕ) where
+module _ (P : Params) (T : Sketch) (L : Slices) where
   abbrev told : Answer
-  told = settleJudged P S T fs ns q ms
+  told = settleJudged P T L
 
-  abbrev walked : Outcome
-  walked = settleWalked P S T fs ns q ms
+  abbrev S : Sketch
+  S = lentSketch L
 
   -- r is the answer of the difference, and D what it left of S
   module _ (r : Answer) (D : Sketch) (e : r ≡ told) (l : D ≡ kept r S (combined true S T)) where
-    pub not-settled : (w : Refusal) (k : ℕ) → r ≡ Refused w k → Settles P S T fs ns q ms (NotPeeled w k) D fs ns q ms
+    pub not-settled : (w : Refusal) (k : ℕ) → r ≡ Refused w k → Settles P T L (NotPeeled w k) (withSketch D L)
     not-settled w k h =
         let refused : Refused w k ≡ told = sym h ∙ e in
         record {
-          answer = ap (λ (x : Answer). peeledOf x walked) refused;
-          left = l ∙ sym (kept-refused r S (combined true S T) (sym h)) ∙ kept-refused told S _ refused;
-          flows = kept-refused told fs _ refused;
-          numbers = kept-refused told ns _ refused;
-          queue = kept-refused told q _ refused;
-          marks = kept-refused told ms _ refused;
+          answer = ap (λ (x : Answer). unlessRefused x (peelTells P (8 * size P) (lessDownstream P T L))) refused;
+          after = ap (λ (D : Sketch). withSketch D L) (l ∙ sym (kept-refused r S (combined true S T) (sym h))) ∙ kept-refused told L _ refused;
         }
 
-    pub settled : (x : Peeled) (S' : Sketch) (fs' : List ℕ) (ns' : List ℤ) (q' ms' : List ℕ) → r ≡ Done → Peels P (8 * size P) D fs ns q ms x S' fs' ns' q' ms'
-        → Settles P S T fs ns q ms x S' fs' ns' q' ms'
-    settled x S' fs' ns' q' ms' h peels =
+    pub settled : (x : Peeled) (L' : Slices) → r ≡ Done → Peels P (8 * size P) (withSketch D L) x L' → Settles P T L x L'
+    settled x L' h peels =
         let done : told ≡ Done = sym e ∙ h in
-        let p = subst (λ (D : Sketch). Peels P (8 * size P) D fs ns q ms x S' fs' ns' q' ms') (l ∙ sym (kept-new r S (combined true S T) h)) peels in
-        let j = settled-peels P S T (length fs) (length ns) (length q) (length ms) done in
+        let p = subst (λ (D : Sketch). Peels P (8 * size P) (withSketch D L) x L') (l ∙ sym (kept-new r S (combined true S T) h)) peels in
         record {
-          answer = p .answer ∙ ap (λ (x : Answer). peeledOf x walked) (j ∙ sym done);
-          left = kept-done _ told _ S _ j done (p .left);
-          flows = kept-done _ told _ fs _ j done (p .flows);
-          numbers = kept-done _ told _ ns _ j done (p .numbers);
-          queue = kept-done _ told _ q _ j done (p .queue);
-          marks = kept-done _ told _ ms _ j done (p .marks);
+          answer = p .answer ∙ ap (λ (x : Answer). unlessRefused x (peelTells P (8 * size P) (lessDownstream P T L))) (sym done);
+          after = p .after ∙ kept-new told L _ done;
         }
 
   -- the other way: where nothing is refused, what is settled is the difference peeled, and all that is promised of peeling holds of it
-  pub settled-is-peeled : {x : Peeled} {S' : Sketch} {fs' : List ℕ} {ns' : List ℤ} {q' ms' : List ℕ} → told ≡ Done → Settles P S T fs ns q ms x S' fs' ns' q' ms'
-      → Peels P (8 * size P) (combined true S T) fs ns q ms x S' fs' ns' q' ms'
+  pub settled-is-peeled : {x : Peeled} {L' : Slices} → told ≡ Done → Settles P T L x L' → Peels P (8 * size P) (lessDownstream P T L) x L'
   settled-is-peeled done s =
-      let j = settled-peels P S T (length fs) (length ns) (length q) (length ms) done in
       record {
-        answer = s .answer ∙ ap (λ (x : Answer). peeledOf x walked) (done ∙ sym j);
-        left = kept-done told _ S _ _ done j (s .left);
-        flows = kept-done told _ fs fs _ done j (s .flows);
-        numbers = kept-done told _ ns ns _ done j (s .numbers);
-        queue = kept-done told _ q q _ done j (s .queue);
-        marks = kept-done told _ ms ms _ done j (s .marks);
+        answer = s .answer ∙ ap (λ (x : Answer). unlessRefused x (peelTells P (8 * size P) (lessDownstream P T L))) done;
+        after = s .after ∙ sym (kept-new told L _ done);
       }
+
+  -- and peeling it refuses nothing
+  pub settled-ends : told ≡ Done → judged P (lessDownstream P T L) ≡ Done
+  settled-ends done = settled-peels P S T (length (L .flows)) (length (L .numbers)) (length (L .queue)) (length (L .marks)) done

@@ -1,10 +1,9 @@
 -- Two streams that were read into fresh sketches: of their subtraction comes no RANGE, nothing else is refused, and the difference depends on the parameters and net counts alone.
 use mathlib.Core.Path.{_≡_, refl, sym}
-use mathlib.Core.Bool.{true, _&&_}
+use mathlib.Core.Bool.{true}
 use mathlib.Core.List.{List}
 use Prim.Native.Nat.{ℕ, _≤_}
-use borrow.Author.Tests.{eq-eqb, le-leb}
-use lib.Dec.{eqb, leb}
+use borrow.Author.Tests.{eq-eqb}
 use lib.IntN.{ℤ, pos, _-ℤ_}
 use lib.ListN.{length, length-replicate}
 use Rattle.params.specs.declared.params.Params.{Params}
@@ -20,21 +19,18 @@ use Rattle.walk.proofs.Promises.{Whole}
 use Rattle.streamfile.specs.Streams.{flowsIn, numbersIn, StreamRead}
 use Rattle.streamfile.proofs.AsInserted.{reading-on}
 use Rattle.streamfile.proofs.FreshStreams.{Grown, fresh-grown}
+use Rattle.peel.proofs.Judged.{well-lent}
 use Rattle.settle.specs.Settling.{settleAnswer}
 use Rattle.settle.proofs.Differences.{never-refused}
-use Rattle.settle.proofs.Settled.{well-lent, lent-first}
+use Rattle.settle.proofs.Settled.{lent-first}
 
 grown-whole : {P : Params} {S : Sketch} → Grown P S → Whole P S
 grown-whole g = record { counts-long = g .counts-long; idsums-long = g .idsums-long; undamaged = g .undamaged }
 
--- nothing is wrong with the shape of a sketch of the right lengths, nor with what is lent beside it
+-- nothing is wrong with the shape of a sketch of the right lengths
 lent-good : (P : Params) (c s : ℕ) → goodParams P ≡ true → c ≡ size P → s ≡ size P → lentAnswer P c s ≡ Done
 unfolding lentAnswer lengthsAnswer
 lent-good P c s good h k = rw (good, eq-eqb c (size P) h, eq-eqb s (size P) k)
-
-lent-fits : (N flows numbers queue marks : ℕ) → flows ≡ numbers → flows ≤ 65536 → queue ≡ N → marks ≡ N
-    → (eqb queue N && eqb marks N && eqb flows numbers && leb flows 65536) ≡ true
-lent-fits N flows numbers queue marks e l h k = rw (eq-eqb queue N h, eq-eqb marks N k, eq-eqb flows numbers e, le-leb flows 65536 l)
 
 -- S and T are what the two streams left, each in a sketch of its own
 module _ {P : Params} {a b : List ℕ} {S T : Sketch} (up : StreamRead P a (zeros P) Done S) (down : StreamRead P b (zeros P) Done T) where
@@ -51,7 +47,7 @@ module _ {P : Params} {a b : List ℕ} {S T : Sketch} (up : StreamRead P a (zero
   streams-settle flows numbers queue marks e l h k =
       let s = fresh-grown up in
       let shaped = lent-good P (length (S .counts)) (length (S .idsums)) (s .good) (s .counts-long) (s .idsums-long) in
-      let lent = well-lent P (length (S .counts)) (length (S .idsums)) flows numbers queue marks shaped (lent-fits (size P) flows numbers queue marks e l h k) in
+      let lent = well-lent P flows numbers queue marks (length (S .counts)) (length (S .idsums)) shaped (record { queue-long = h; marks-long = k; same = e; few = l }) in
       sym (lent-first P S T flows numbers queue marks Done (sym lent) (sym streams-subtract))
 
 -- the packets of a stream, and how many of a flow two streams differ by

@@ -4,44 +4,14 @@ ghost use mathlib.Core.Bool.{true};
 ghost use Rattle.params.specs.Answers.{kept};
 ghost use Rattle.sketch.specs.Sketch.{sketch};
 ghost use Rattle.sums.specs.Sums.{combined};
-ghost use Rattle.settle.specs.Settling.{walkLentAnswer, settleAnswer, Settles};
+ghost use Rattle.peel.specs.Slices.{slices};
+ghost use Rattle.settle.specs.Settling.{settleAnswer, Settles};
 use params::Answer;
 use params::Params;
-use params::Refusal;
 use peel::peeling::Peeled;
+use peel::peeling::judge_walk_lent;
 use peel::peeling::peel;
 use sums::subtract;
-
-// The answer of the lengths.
-fn lent(
-    p: Params,
-    counts: usize,
-    idsums: usize,
-    flows: usize,
-    numbers: usize,
-    queue: usize,
-    marks: usize,
-) -> Answer
-    ensures { λ r. ⌜ r ≡ walkLentAnswer p counts idsums flows numbers queue marks ⌝ }
-{
-    let r = p.judge_lent(counts, idsums);
-    let Answer::Done = r else {
-        return r;
-    };
-    if queue != counts {
-        return Answer::Refused(Refusal::Length, 0);
-    }
-    if marks != counts {
-        return Answer::Refused(Refusal::Length, 0);
-    }
-    if flows != numbers {
-        return Answer::Refused(Refusal::Length, 0);
-    }
-    if 65536 < flows {
-        return Answer::Refused(Refusal::Length, 0);
-    }
-    Answer::Done
-}
 
 // Takes the downstream's sketch from the upstream's. The lengths that the walk needs are judged before, so that a refusal of them
 // alters nothing either.
@@ -58,7 +28,7 @@ fn difference(
 ) -> Answer
     ensures { λ r. ⌜ (r ≡ settleAnswer p (sketch (now («up_counts» .entry)) (now («up_idsums» .entry))) (sketch (now («down_counts» .entry)) (now («down_idsums» .entry))) flows numbers queue marks) × (sketch (now («up_counts» .exit)) (now («up_idsums» .exit)) ≡ kept r (sketch (now («up_counts» .entry)) (now («up_idsums» .entry))) (combined true (sketch (now («up_counts» .entry)) (now («up_idsums» .entry))) (sketch (now («down_counts» .entry)) (now («down_idsums» .entry))))) ⌝ }
 {
-    let r = lent(
+    let r = judge_walk_lent(
         p,
         up_counts.len(),
         up_idsums.len(),
@@ -86,7 +56,7 @@ pub fn settle(
     queue: &mut [u32],
     marks: &mut [u32],
 ) -> Peeled
-    ensures { λ r. ⌜ Settles p (sketch (now («up_counts» .entry)) (now («up_idsums» .entry))) (sketch (now («down_counts» .entry)) (now («down_idsums» .entry))) (now («table_flows» .entry)) (now («table_counts» .entry)) (now (queue .entry)) (now (marks .entry)) r (sketch (now («up_counts» .exit)) (now («up_idsums» .exit))) (now («table_flows» .exit)) (now («table_counts» .exit)) (now (queue .exit)) (now (marks .exit)) ⌝ }
+    ensures { λ r. ⌜ Settles p (sketch (now («down_counts» .entry)) (now («down_idsums» .entry))) (slices (now («up_counts» .entry)) (now («up_idsums» .entry)) (now («table_flows» .entry)) (now («table_counts» .entry)) (now (queue .entry)) (now (marks .entry))) r (slices (now («up_counts» .exit)) (now («up_idsums» .exit)) (now («table_flows» .exit)) (now («table_counts» .exit)) (now (queue .exit)) (now (marks .exit))) ⌝ }
 {
     let judged = difference(
         p,

@@ -1,4 +1,4 @@
--- Laws of `all` and of `nothingLeft`, place by place.
+-- Laws of `all` and of `nothingRemains`, place by place.
 use mathlib.Core.Path.{_≡_, refl}
 use mathlib.Core.Bool.{Bool, true, _&&_}
 use mathlib.Core.List.{List, [], _∷_}
@@ -11,7 +11,7 @@ use lib.IntN.{pos}
 use lib.ListN.{length, getD, List·getD-eq-default}
 use Rattle.sketch.specs.Sketch.{Sketch, countIn, idsumIn}
 use Rattle.params.proofs.Searches.{and-true}
-use Rattle.walk.specs.Walk.{all, nothingLeft}
+use Rattle.walk.specs.Walk.{all, nothingRemains}
 use Rattle.buckets.specs.Buckets.{isZero}
 use Rattle.buckets.proofs.Zeros.{is-zero, zero-is}
 
@@ -32,24 +32,24 @@ module _ {A : Type 0} (t : A → Bool) where
 
 -- every count and every idsum is 0
 module _ (S : Sketch) where
-  pub nothing-count : nothingLeft S ≡ true → (k : ℕ) → countIn S k ≡ pos 0
-  unfolding nothingLeft
+  pub nothing-count : nothingRemains S ≡ true → (k : ℕ) → countIn S k ≡ pos 0
+  unfolding nothingRemains
   nothing-count e k = go (decLt k (length (S .counts)))
     where
       go : Dec (k < length (S .counts)) → countIn S k ≡ pos 0
       go (yes l) = zero-is _ (all-at isZero (S .counts) k (pos 0) (and-true (all isZero (S .counts)) (all (λ s. eqb s 0) (S .idsums)) e .0) l)
       go (no l) = List·getD-eq-default (S .counts) (pos 0) {n = k} (omega arith)
 
-  pub nothing-idsum : nothingLeft S ≡ true → (k : ℕ) → idsumIn S k ≡ 0
-  unfolding nothingLeft
+  pub nothing-idsum : nothingRemains S ≡ true → (k : ℕ) → idsumIn S k ≡ 0
+  unfolding nothingRemains
   nothing-idsum e k = go (decLt k (length (S .idsums)))
     where
       go : Dec (k < length (S .idsums)) → idsumIn S k ≡ 0
       go (yes l) = eqb-true _ 0 (all-at (λ s. eqb s 0) (S .idsums) k 0 (and-true (all isZero (S .counts)) (all (λ s. eqb s 0) (S .idsums)) e .1) l)
       go (no l) = List·getD-eq-default (S .idsums) 0 {n = k} (omega arith)
 
-  pub all-zero : ((k : ℕ) → countIn S k ≡ pos 0) → ((k : ℕ) → idsumIn S k ≡ 0) → nothingLeft S ≡ true
-  unfolding nothingLeft
+  pub all-zero : ((k : ℕ) → countIn S k ≡ pos 0) → ((k : ℕ) → idsumIn S k ≡ 0) → nothingRemains S ≡ true
+  unfolding nothingRemains
   all-zero c s =
       both-true _ _
       (all-of isZero (S .counts) (pos 0) (λ k l. is-zero _ (c k)))

@@ -1,4 +1,4 @@
--- The balance: what the table lists and what is left of the sketch make up the input, in both fields, after every walk by a rule whose test is sound.
+-- The balance: what the table lists and the remainder make up the input, in both fields, after every walk by a rule whose test is sound.
 use mathlib.Core.Path.{_≡_, refl, sym, ap, ap₂, _∙_}
 use mathlib.Core.Bool.{Bool, true, false, cond}
 use mathlib.Core.List.{List, []}
@@ -23,7 +23,7 @@ pub record Sound (R : Rule) : Type 0 where
   pub positive : 0 < R .prime
   pub solves : (k : ℕ) (c : ℤ) (s f : ℕ) → s < R .prime → R .test k c s ≡ Pure f → residue (R .prime) (c *ℤ pos f) ≡ s
   pub a-flow : (k : ℕ) (c : ℤ) (s f : ℕ) → R .test k c s ≡ Pure f → f < R .prime
-  pub placed : (k : ℕ) (c : ℤ) (s f : ℕ) → R .test k c s ≡ Pure f → R .stands f k ≡ true
+  pub standing : (k : ℕ) (c : ℤ) (s f : ℕ) → R .test k c s ≡ Pure f → R .stands f k ≡ true
   pub empty : (k s : ℕ) → R .test k (pos 0) s ≡ Impure
 
 -- what one packet of f brings to the count of bucket k, and to its idsum
@@ -33,13 +33,13 @@ once R k f = cond (R .stands f k) (pos 1) (pos 0)
 abbrev pub own : Rule → ℕ → ℕ → ℤ
 own R k f = cond (R .stands f k) (pos f) (pos 0)
 
--- what is left and the table t make up the sketch S
-pub record Balanced (R : Rule) (S left : Sketch) (t : List Entry) : Type 0 where
-  pub counts-long : length (left .counts) ≡ length (S .counts)
-  pub idsums-long : length (left .idsums) ≡ length (S .idsums)
-  pub below : (k : ℕ) → idsumIn left k < R .prime
-  pub counts : (k : ℕ) → k < length (S .counts) → countIn left k +ℤ weighted (once R k) t ≡ countIn S k
-  pub idsums : (k : ℕ) → k < length (S .idsums) → residue (R .prime) (pos (idsumIn left k) +ℤ weighted (own R k) t) ≡ idsumIn S k
+-- a remainder and the table t make up the sketch S
+pub record Balanced (R : Rule) (S remainder : Sketch) (t : List Entry) : Type 0 where
+  pub counts-long : length (remainder .counts) ≡ length (S .counts)
+  pub idsums-long : length (remainder .idsums) ≡ length (S .idsums)
+  pub below : (k : ℕ) → idsumIn remainder k < R .prime
+  pub counts : (k : ℕ) → k < length (S .counts) → countIn remainder k +ℤ weighted (once R k) t ≡ countIn S k
+  pub idsums : (k : ℕ) → k < length (S .idsums) → residue (R .prime) (pos (idsumIn remainder k) +ℤ weighted (own R k) t) ≡ idsumIn S k
 
 -- c less in a bucket, and c more in the table
 moves-over : (x w c : ℤ) → (x -ℤ c) +ℤ (w +ℤ c) ≡ x +ℤ w
@@ -99,7 +99,7 @@ module _ (R : Rule) (sound : Sound R) (S : Sketch) where
             ∙ h .idsums k u;
       }
 
-  -- at the start the table is empty, and all is left
+  -- at the start the table is empty, and all remains
   at-start : ((k : ℕ) → idsumIn S k < R .prime) → Balanced R S S []
   unfolding weighted
   at-start below =
@@ -111,20 +111,20 @@ module _ (R : Rule) (sound : Sound R) (S : Sketch) where
         idsums = λ k l. ap (residue (R .prime)) (+ℤ-idr (pos (idsumIn S k))) ∙ residue-own (R .prime) (sound .positive) (idsumIn S k) (below k);
       }
 
-  pub balanced : (slots allowance : ℕ) → ((k : ℕ) → idsumIn S k < R .prime) → let o : Outcome = walk R slots allowance S in Balanced R S (o .left) (o .table)
+  pub balanced : (slots allowance : ℕ) → ((k : ℕ) → idsumIn S k < R .prime) → let o : Outcome = walk R slots allowance S in Balanced R S (o .remainder) (o .table)
   unfolding walk
   balanced slots allowance below =
-      carried R slots Kept (λ o. Balanced R S (o .left) (o .table)) (λ e n st h x. h) (λ k q st h e i. h)
+      carried R slots Kept (λ o. Balanced R S (o .remainder) (o .table)) (λ e n st h x. h) (λ k q st h e i. h)
       (λ k f q st h e t. taken-keeps _ f (countIn (st .held) k) (idsumIn (st .held) k) (h .below k) (sound .solves k _ _ f (h .below k) (t .pure)) h)
       allowance 0 _ (at-start below)
 
 -- the close changes nothing of it
-pub balanced-closed : {R : Rule} {S left : Sketch} {t : List Entry} → Balanced R S left t → Balanced R S left (close t)
-balanced-closed {R} {S} {left} {t} h =
+pub balanced-closed : {R : Rule} {S remainder : Sketch} {t : List Entry} → Balanced R S remainder t → Balanced R S remainder (close t)
+balanced-closed {R} {S} {remainder} {t} h =
     record {
       counts-long = h .counts-long;
       idsums-long = h .idsums-long;
       below = h .below;
-      counts = λ k l. ap (_+ℤ_ (countIn left k)) (weighted-close (once R k) t) ∙ h .counts k l;
-      idsums = λ k l. ap (λ (w : ℤ). residue (R .prime) (pos (idsumIn left k) +ℤ w)) (weighted-close (own R k) t) ∙ h .idsums k l;
+      counts = λ k l. ap (_+ℤ_ (countIn remainder k)) (weighted-close (once R k) t) ∙ h .counts k l;
+      idsums = λ k l. ap (λ (w : ℤ). residue (R .prime) (pos (idsumIn remainder k) +ℤ w)) (weighted-close (own R k) t) ∙ h .idsums k l;
     }

@@ -10,7 +10,7 @@ use Rattle.field.proofs.Parts.{int, up-down-add}
 use Rattle.sketch.specs.Sketch.{Entry, by}
 use Rattle.sums.proofs.NetCounts.{times-sum}
 use Rattle.sums.proofs.Weighted.{weighted}
-use Rattle.walk.specs.Walk.{credited, close, net}
+use Rattle.walk.specs.Walk.{credited, close, netFigure}
 use Rattle.buckets.specs.Buckets.{isZero}
 use Rattle.buckets.proofs.Zeros.{zero-is}
 
@@ -43,11 +43,11 @@ module _ (h : ℕ → ℤ) where
       go false q ih = ap (_+ℤ_ (e .number *ℤ h (e .flow))) ih
 
 -- nor does it count
-pub net-close : (t : List Entry) → net (close t) ≡ net t
-unfolding net close
+pub net-close : (t : List Entry) → netFigure (close t) ≡ netFigure t
+unfolding netFigure close
 net-close [] = refl
 net-close (e ∷ es) = go (isZero (e .number)) refl (net-close es)
   where
-    go : (b : Bool) → isZero (e .number) ≡ b → net (close es) ≡ net es → net (cond b (close es) (e ∷ close es)) ≡ e .number +ℤ net es
-    go true q ih = ih ∙ sym (ap (λ (z : ℤ). z +ℤ net es) (zero-is (e .number) q) ∙ +ℤ-idl (net es))
+    go : (b : Bool) → isZero (e .number) ≡ b → netFigure (close es) ≡ netFigure es → netFigure (cond b (close es) (e ∷ close es)) ≡ e .number +ℤ netFigure es
+    go true q ih = ih ∙ sym (ap (λ (z : ℤ). z +ℤ netFigure es) (zero-is (e .number) q) ∙ +ℤ-idl (netFigure es))
     go false q ih = ap (_+ℤ_ (e .number)) ih

@@ -36,10 +36,10 @@ module _ (t : Entry → Bool) where
       go false ih = both-true _ _ (and-true (t e) (all t es) a .0) ih
 
 -- the close leaves no entry with count 0
-pub close-some : (es : List Entry) → all (λ e. not (isZero (e .number))) (close es) ≡ true
+pub close-nonzero : (es : List Entry) → all (λ e. not (isZero (e .number))) (close es) ≡ true
 unfolding all close
-close-some [] = refl
-close-some (e ∷ es) = go (isZero (e .number)) refl (close-some es)
+close-nonzero [] = refl
+close-nonzero (e ∷ es) = go (isZero (e .number)) refl (close-nonzero es)
   where
     go : (b : Bool) → isZero (e .number) ≡ b → all (λ e. not (isZero (e .number))) (close es) ≡ true → all (λ e. not (isZero (e .number))) (cond b (close es) (e ∷ close es)) ≡ true
     go true q ih = ih

@@ -18,7 +18,7 @@ use Rattle.sketch.specs.Packets.{packetAnswer, entryAnswer, stepAnswer, changed
 use Rattle.walk.specs.declared.Found.{Found}
 use Rattle.walk.specs.declared.Found.the-variants.{Impure, Pure}
 use Rattle.walk.specs.Endings.{endingNumber}
-use Rattle.walk.specs.Walk.{State, Move, stops, goes, Outcome, queued, all, any, nothingLeft, less, has, entryOf, credited, waits, requeue, inRange, hasRoom, taken, takes, follows, popped, before, after, run, firstQueue, walk, close, net}
+use Rattle.walk.specs.Walk.{State, Move, stops, goes, Outcome, queued, all, any, nothingRemains, less, has, entryOf, credited, waits, requeue, inRange, hasRoom, taken, takes, follows, popped, before, after, run, firstQueue, walk, close, netFigure, closedTable, netOf}
 use Rattle.walk.specs.Purity.{testIn, pureTest, ruleOf}
 
 -- d = 2, m = 5, pairs (1, 0) and (1073741824, 0)
@@ -39,13 +39,13 @@ pub data Told : Type 0 where
   at : ℕ → Told
   holds : Sketch → Told
   finds : (flow : ℕ) → Found → Told
-  ends : (ending pops : ℕ) (net : ℤ) (table : List Entry) (left : Sketch) → Told
+  ends : (ending pops : ℕ) (net : ℤ) (table : List Entry) (remainder : Sketch) → Told
   waits-on : List ℕ → Told
   says : (number index : ℕ) → Sketch → Told
 
 -- the ending by its number, and the table after the close
 abbrev ended : Outcome → Told
-ended o = ends (endingNumber (o .ending)) (o .pops) (net (close (o .table))) (close (o .table)) (o .left)
+ended o = ends (endingNumber (o .ending)) (o .pops) (netOf o) (closedTable o) (o .remainder)
 
 -- the walk's own moves, pop by pop
 abbrev moved : Move → State → State
@@ -105,8 +105,8 @@ S1 = buckets (o ∷ o ∷ b (pos 3) 31 ∷ o ∷ o ∷ o ∷ b (pos 2) 24 ∷ b 
 abbrev S3 : Sketch
 S3 = buckets (o ∷ o ∷ b (pos 2) 14 ∷ o ∷ o ∷ o ∷ b (pos 2) 14 ∷ o ∷ o ∷ o ∷ [])
 
-abbrev left3 : Sketch
-left3 = buckets (o ∷ o ∷ o ∷ o ∷ o ∷ o ∷ b (pos 2) 14 ∷ b (negsuc 1) 2147483633 ∷ o ∷ o ∷ [])
+abbrev remainder3 : Sketch
+remainder3 = buckets (o ∷ o ∷ o ∷ o ∷ o ∷ o ∷ b (pos 2) 14 ∷ b (negsuc 1) 2147483633 ∷ o ∷ o ∷ [])
 
 abbrev S5 : Sketch
 S5 = buckets (o ∷ o ∷ b (pos 0) 2147483637 ∷ o ∷ o ∷ o ∷ b (pos 0) 2147483637 ∷ o ∷ o ∷ o ∷ [])
@@ -140,7 +140,7 @@ examples =
     -- E3
     ∷ (sketch-of (by 2 (pos 1) ∷ by 12 (pos 1) ∷ []) gives holds S3)
     ∷ (test-of 2 (pos 2) 14 gives finds 7 (Pure 7))
-    ∷ (peeling S3 10 10 gives ends 3 10 (pos 2) (by 7 (pos 2) ∷ []) left3)
+    ∷ (peeling S3 10 10 gives ends 3 10 (pos 2) (by 7 (pos 2) ∷ []) remainder3)
     -- E4
     ∷ (peeling S3 10 9 gives ends 3 9 (pos 0) [] S3)
     -- E5
@@ -166,12 +166,12 @@ examples =
 
 -- every line of the table is right, and the walk of E3 goes on without end: it is spent whatever it is allowed
 pub all-right : (map (λ l. told (l .asked)) examples ≡ map (λ l. l .answer) examples) × ((n : ℕ) → endingNumber (walk (ruleOf K) 10 n S3 .ending) ≡ 3)
-unfolding residue inverseIn inverse flow below least mapFrom touched from refuseAt first kept pairAt twins goodDimensions goodParams lengthsAnswer dimensionsAnswer stand standsIn inLimits countAt weightAt sketchOf damagedIn leavesIn flowBucketsAnswer changedIn packetAnswer entryAnswer stepAnswer changed moveAnswer all any nothingLeft less has entryOf credited waits requeue inRange hasRoom taken takes follows popped before after run firstQueue walk close net testIn pops
+unfolding residue inverseIn inverse flow below least mapFrom touched from refuseAt first kept pairAt twins goodDimensions goodParams lengthsAnswer dimensionsAnswer stand standsIn inLimits countAt weightAt sketchOf damagedIn leavesIn flowBucketsAnswer changedIn packetAnswer entryAnswer stepAnswer changed moveAnswer all any nothingRemains less has entryOf credited waits requeue inRange hasRoom taken takes follows popped before after run firstQueue walk close netFigure testIn pops
 all-right = (refl, without-end)
   where
     -- flow 7 goes in and comes out
     in-and-out : (n i : ℕ) → (endingNumber (run (ruleOf K) 10 n i (record { held = S3; queue = 2 ∷ []; table = by 7 (pos 0) ∷ [] }) .ending) ≡ 3)
-        × (endingNumber (run (ruleOf K) 10 n i (record { held = left3; queue = 7 ∷ []; table = by 7 (pos 2) ∷ [] }) .ending) ≡ 3)
+        × (endingNumber (run (ruleOf K) 10 n i (record { held = remainder3; queue = 7 ∷ []; table = by 7 (pos 2) ∷ [] }) .ending) ≡ 3)
     in-and-out zero i = (refl, refl)
     in-and-out (suc n) i = (in-and-out n (suc i) .1, in-and-out n (suc i) .0)
 

@@ -7,7 +7,7 @@ use native.Mathlib.Omega.{arith}
 use Rattle.sketch.specs.Sketch.{Sketch}
 use Rattle.walk.specs.declared.Ending.{Ending}
 use Rattle.walk.specs.declared.Ending.the-variants.{Clean, Stuck, Spent, NoInverse, Range, Full}
-use Rattle.walk.specs.Walk.{Rule, State, Move, stops, goes, Outcome, out, queued, nothingLeft, popped, before, after, run, walk}
+use Rattle.walk.specs.Walk.{Rule, State, Move, stops, goes, Outcome, out, queued, nothingRemains, popped, before, after, run, walk}
 use Rattle.walk.proofs.Carried.{AtPop, lacks, out-of-range, table-full, Keeps, pop-keeps, apart}
 
 -- all pops: those made before, and those allowed
@@ -15,10 +15,10 @@ pub record Made (all : ℕ) (o : Outcome) : Type 0 where
   pub within : o .pops ≤ all
   pub spent : o .ending ≡ Spent → o .pops ≡ all
 
-at-pop : (R : Rule) (S : Sketch) (e : Ending) → AtPop R S e → e ≡ Spent → ⊥
-at-pop R S e (lacks l) = apart NoInverse Spent refl
-at-pop R S e out-of-range = apart Range Spent refl
-at-pop R S e table-full = apart Full Spent refl
+at-pop : (R : Rule) (slots k : ℕ) (st : State) (e : Ending) → AtPop R slots k st e → e ≡ Spent → ⊥
+at-pop R slots k st e (lacks l) = apart NoInverse Spent refl
+at-pop R slots k st e (out-of-range f o) = apart Range Spent refl
+at-pop R slots k st e (table-full f o) = apart Full Spent refl
 
 ended : (e : Ending) (all n : ℕ) (st : State) → n ≤ all → (e ≡ Spent → ⊥) → Made all (out e n st)
 ended e all n st l d = record { within = l; spent = λ x. absurd (d x) }
@@ -29,19 +29,19 @@ tested true q all n st pop l h = ended Clean all n st l (apart Clean Spent refl)
 tested false [] all n st pop l h = ended Stuck all n st l (apart Stuck Spent refl)
 tested false (k ∷ q) all n st pop l h = h k q
 
-moved : (R : Rule) (m : Move) (all n : ℕ) (st : State) (next : State → Outcome) → n ≤ all → Keeps R (st .held) (λ st. Unit {0}) m → ((st : State) → Made all (next st)) → Made all (after m n st next)
+moved : (R : Rule) (slots k : ℕ) (q : List ℕ) (m : Move) (all n : ℕ) (st : State) (next : State → Outcome) → n ≤ all → Keeps R slots k (queued st q) (λ st. Unit {0}) m → ((st : State) → Made all (next st)) → Made all (after m n st next)
 unfolding after
-moved R (stops e) all n st next l i h = ended e all n st l (at-pop R (st .held) e i)
-moved R (goes st') all n st next l i h = h st'
+moved R slots k q (stops e) all n st next l i h = ended e all n st l (at-pop R slots k (queued st q) e i)
+moved R slots k q (goes st') all n st next l i h = h st'
 
 run-made : (R : Rule) (slots all a n : ℕ) (st : State) → n + a ≡ all → Made all (run R slots a n st)
 unfolding run
 run-made R slots all zero n st e =
-    tested (nothingLeft (st .held)) (st .queue) all n st _ (omega arith) (λ k q. record { within = omega arith; spent = λ x. omega arith })
+    tested (nothingRemains (st .held)) (st .queue) all n st _ (omega arith) (λ k q. record { within = omega arith; spent = λ x. omega arith })
 run-made R slots all (suc a) n st e =
-    tested (nothingLeft (st .held)) (st .queue) all n st _ (omega arith)
+    tested (nothingRemains (st .held)) (st .queue) all n st _ (omega arith)
     (λ k q.
-    moved R (popped R slots k (queued st q)) all (suc n) st (run R slots a (suc n)) (omega arith)
+    moved R slots k q (popped R slots k (queued st q)) all (suc n) st (run R slots a (suc n)) (omega arith)
     (pop-keeps R slots (λ st. Unit {0}) k (queued st q) (λ x. tt) (λ f x. tt))
     (λ st. run-made R slots all a (suc n) st (omega arith)))
 

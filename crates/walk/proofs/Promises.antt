@@ -22,7 +22,7 @@ use Rattle.buckets.proofs.Limits.{limits-size, whole, whole-back}
 use Rattle.walk.specs.declared.Ending.the-variants.{Clean, Stuck, Spent, NoInverse}
 use Rattle.walk.specs.declared.Found.the-variants.{Pure}
 use Rattle.walk.specs.Endings.{endingNumber}
-use Rattle.walk.specs.Walk.{Outcome, nothingLeft, walk, close, net}
+use Rattle.walk.specs.Walk.{Outcome, nothingRemains, walk, closedTable, netFigure, netOf}
 use Rattle.buckets.specs.Buckets.{isZero}
 use Rattle.walk.specs.Purity.{pureTest, ruleOf}
 use Rattle.walk.proofs.Numbers.{ending-by-number}
@@ -30,13 +30,13 @@ use Rattle.buckets.proofs.Zeros.{is-zero}
 use Rattle.walk.proofs.Alls.{all-at, nothing-count, nothing-idsum, all-zero}
 use Rattle.walk.proofs.Balance.{Balanced, balanced, balanced-closed}
 use Rattle.walk.proofs.Rebuilt.{rebuilt, rebuilt-alone}
-use Rattle.walk.proofs.Purity.{sound, placed, has-inverse, flow-pure, some-residue}
+use Rattle.walk.proofs.Purity.{sound, by-arrays, has-inverse, flow-pure, nonzero-residue}
 use Rattle.walk.proofs.Stuck.{stuck-only as none-passes}
 use Rattle.walk.proofs.Remainder.{within}
 use Rattle.walk.proofs.Clean.{cleanly}
 use Rattle.walk.proofs.NoInverse.{no-inverse-only}
 use Rattle.walk.proofs.Pops.{made}
-use Rattle.walk.proofs.Entries.{all-close, close-some, close-fewer, once-close, once-at}
+use Rattle.walk.proofs.Entries.{all-close, close-nonzero, close-fewer, once-close, once-at}
 use Rattle.walk.proofs.Credits.{net-close as same-net}
 use Rattle.walk.proofs.TableFacts.{listed as table-facts}
 
@@ -66,71 +66,71 @@ module _ (P : Params) (slots allowance : ℕ) (S : Sketch) where
   outcome = walk (ruleOf P) slots allowance S
 
   abbrev pub listed : List Entry
-  listed = close (outcome .table)
+  listed = closedTable outcome
 
-  in-balance : Whole P S → Balanced (ruleOf P) S (outcome .left) listed
+  in-balance : Whole P S → Balanced (ruleOf P) S (outcome .remainder) listed
   in-balance w = balanced-closed (balanced (ruleOf P) (sound P) S slots allowance (λ k. idsum-below P S w k (decLt k (length (S .idsums)))))
 
-  -- the table's sketch, added to what is left, is the input
-  pub balance : Whole P S → combined false (outcome .left) (sketchOf P listed) ≡ S
-  balance w = rebuilt P S (outcome .left) listed (w .counts-long) (w .idsums-long) (in-balance w)
+  -- the table's sketch, added to the remainder, is the input
+  pub balance : Whole P S → combined false (outcome .remainder) (sketchOf P listed) ≡ S
+  balance w = rebuilt P S (outcome .remainder) listed (w .counts-long) (w .idsums-long) (in-balance w)
 
   -- a clean end, by its number, leaves nothing
-  clean-nothing : endingNumber (outcome .ending) ≡ 1 → nothingLeft (outcome .left) ≡ true
+  clean-nothing : endingNumber (outcome .ending) ≡ 1 → nothingRemains (outcome .remainder) ≡ true
   clean-nothing e = cleanly (ruleOf P) slots allowance S .clean (ending-by-number (outcome .ending) Clean e)
 
   -- after a clean end, the table's sketch is the input
   pub clean-table : Whole P S → endingNumber (outcome .ending) ≡ 1 → sketchOf P listed ≡ S
-  clean-table w e = rebuilt-alone P S (outcome .left) listed (w .counts-long) (w .idsums-long) (in-balance w) (clean-nothing e)
+  clean-table w e = rebuilt-alone P S (outcome .remainder) listed (w .counts-long) (w .idsums-long) (in-balance w) (clean-nothing e)
 
-  -- what is left has the size of P, and is within the limits
-  pub left-whole : Whole P S → Whole P (outcome .left)
-  left-whole w =
+  -- the remainder has the size of P, and is within the limits
+  pub remainder-whole : Whole P S → Whole P (outcome .remainder)
+  remainder-whole w =
       let b = in-balance w in
-      let c = within (ruleOf P) (size P) (placed P) slots allowance S (record { long = w .counts-long; limits = λ k l. whole (countIn S k) (idsumIn S k) (w .undamaged k l) .0 }) in
+      let c = within (ruleOf P) (size P) (by-arrays P) slots allowance S (record { long = w .counts-long; limits = λ k l. whole (countIn S k) (idsumIn S k) (w .undamaged k l) .0 }) in
       record {
         counts-long = c .long;
         idsums-long = b .idsums-long ∙ w .idsums-long;
-        undamaged = λ k l. whole-back (countIn (outcome .left) k) (idsumIn (outcome .left) k) (c .limits k l) (b .below k);
+        undamaged = λ k l. whole-back (countIn (outcome .remainder) k) (idsumIn (outcome .remainder) k) (c .limits k l) (b .below k);
       }
 
-  -- clean exactly where nothing is left
-  pub clean-only : endingNumber (outcome .ending) ≡ 1 → Nothing (outcome .left)
-  clean-only e = λ k. (nothing-count (outcome .left) (clean-nothing e) k, nothing-idsum (outcome .left) (clean-nothing e) k)
+  -- clean exactly where nothing remains
+  pub clean-only : endingNumber (outcome .ending) ≡ 1 → Nothing (outcome .remainder)
+  clean-only e = λ k. (nothing-count (outcome .remainder) (clean-nothing e) k, nothing-idsum (outcome .remainder) (clean-nothing e) k)
 
-  pub clean-if : Nothing (outcome .left) → endingNumber (outcome .ending) ≡ 1
-  clean-if n = ap endingNumber (cleanly (ruleOf P) slots allowance S .nothing (all-zero (outcome .left) (λ k. n k .0) (λ k. n k .1)))
+  pub clean-if : Nothing (outcome .remainder) → endingNumber (outcome .ending) ≡ 1
+  clean-if n = ap endingNumber (cleanly (ruleOf P) slots allowance S .nothing (all-zero (outcome .remainder) (λ k. n k .0) (λ k. n k .1)))
 
-  -- stuck only where something is left, and no bucket of it passes the purity test
-  pub stuck-left : endingNumber (outcome .ending) ≡ 2 → Nothing (outcome .left) → ⊥
-  stuck-left e n = omega (arith, clean-if n)
+  -- stuck only where something remains, and no bucket of it passes the purity test
+  pub stuck-remains : endingNumber (outcome .ending) ≡ 2 → Nothing (outcome .remainder) → ⊥
+  stuck-remains e n = omega (arith, clean-if n)
 
-  pub stuck-only : Whole P S → endingNumber (outcome .ending) ≡ 2 → (k f : ℕ) → k < size P → pureTest P k (countIn (outcome .left) k) (idsumIn (outcome .left) k) ≡ Pure f → ⊥
-  stuck-only w e = none-passes (ruleOf P) (sound P) (size P) (placed P) slots allowance S (w .counts-long) (w .idsums-long) (ending-by-number (outcome .ending) Stuck e)
+  pub stuck-only : Whole P S → endingNumber (outcome .ending) ≡ 2 → (k f : ℕ) → k < size P → pureTest P k (countIn (outcome .remainder) k) (idsumIn (outcome .remainder) k) ≡ Pure f → ⊥
+  stuck-only w e = none-passes (ruleOf P) (sound P) (size P) (by-arrays P) slots allowance S (w .counts-long) (w .idsums-long) (ending-by-number (outcome .ending) Stuck e)
 
-  -- so where a count is left, the one flow of its bucket does not stand there
-  pub stuck-stands : Whole P S → endingNumber (outcome .ending) ≡ 2 → (k : ℕ) → k < size P → (countIn (outcome .left) k ≡ pos 0 → ⊥)
-      → stands P (flow (primeOf P) (countIn (outcome .left) k) (idsumIn (outcome .left) k)) k ≡ false
+  -- so where a count remains, the one flow of its bucket does not stand there
+  pub stuck-stands : Whole P S → endingNumber (outcome .ending) ≡ 2 → (k : ℕ) → k < size P → (countIn (outcome .remainder) k ≡ pos 0 → ⊥)
+      → stands P (flow (primeOf P) (countIn (outcome .remainder) k) (idsumIn (outcome .remainder) k)) k ≡ false
   stuck-stands w e k l d = go _ refl
     where
       c : ℤ
-      c = countIn (outcome .left) k
+      c = countIn (outcome .remainder) k
 
       s : ℕ
-      s = idsumIn (outcome .left) k
+      s = idsumIn (outcome .remainder) k
 
       go : (b : Bool) → stands P (flow (primeOf P) c s) k ≡ b → b ≡ false
       go true h =
-          let i = whole c s (left-whole w .undamaged k l) .0 in
-          absurd (stuck-only w e k (flow (primeOf P) c s) l (flow-pure (primeOf P) (stands P) k c s d (some-residue P c d i) h))
+          let i = whole c s (remainder-whole w .undamaged k l) .0 in
+          absurd (stuck-only w e k (flow (primeOf P) c s) l (flow-pure (primeOf P) (stands P) k c s d (nonzero-residue P c d i) h))
       go false h = refl
 
   -- the end is never no inverse: within the limits, every count other than 0 has one
   pub no-inverse-never : Whole P S → endingNumber (outcome .ending) ≡ 4 → ⊥
   no-inverse-never w e =
       let n = no-inverse-only (ruleOf P) slots allowance S (ending-by-number (outcome .ending) NoInverse e) in
-      has-inverse (primeOf P) (stands P) (n .0) (countIn (outcome .left) (n .0)) (idsumIn (outcome .left) (n .0)) prime-pos
-      (count-below P (outcome .left) (left-whole w) (n .0) (decLt (n .0) (length (outcome .left .counts)))) (n .1)
+      has-inverse (primeOf P) (stands P) (n .0) (countIn (outcome .remainder) (n .0)) (idsumIn (outcome .remainder) (n .0)) prime-pos
+      (count-below P (outcome .remainder) (remainder-whole w) (n .0) (decLt (n .0) (length (outcome .remainder .counts)))) (n .1)
 
   -- never more pops than allowed
   pub pops-within : outcome .pops ≤ allowance
@@ -147,7 +147,7 @@ module _ (P : Params) (slots allowance : ℕ) (S : Sketch) where
   pub listed-not-zero : (i : ℕ) → i < length listed → entry i .number ≡ pos 0 → ⊥
   listed-not-zero i l e =
       let z : isZero (entry i .number) ≡ true = is-zero (entry i .number) e in
-      let n = all-at (λ e. not (isZero (e .number))) listed i (by 0 (pos 0)) (close-some (outcome .table)) l in
+      let n = all-at (λ e. not (isZero (e .number))) listed i (by 0 (pos 0)) (close-nonzero (outcome .table)) l in
       true≢false (sym z ∙ not-true _ n)
 
   pub listed-are-flows : (i : ℕ) → i < length listed → isFlow P (entry i .flow) ≡ true
@@ -165,5 +165,5 @@ module _ (P : Params) (slots allowance : ℕ) (S : Sketch) where
   listed-few = le-trans (close-fewer (outcome .table)) (table-facts (ruleOf P) (sound P) slots allowance S .few)
 
   -- entries with count 0 make no difference to the net figure
-  pub net-closed : net listed ≡ net (outcome .table)
+  pub net-closed : netOf outcome ≡ netFigure (outcome .table)
   net-closed = same-net (outcome .table)

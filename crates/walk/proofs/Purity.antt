@@ -1,10 +1,10 @@
 -- The purity test is sound modulo every prime and for every placing of flows; with a sketch's parameters it passes exactly where the one flow stands, and that bucket is one of the flow's.
 use mathlib.Core.Path.{_≡_, refl, ap, subst, subst⁻¹, _∙_}
-use mathlib.Core.Bool.{Bool, true, false, cond}
-use Prim.Native.Nat.{ℕ, _+_, _*_, _/_, _%_, _<_}
+use mathlib.Core.Bool.{Bool, true, false, cond, _&&_}
+use Prim.Native.Nat.{ℕ, suc, _+_, _-_, _*_, _/_, _%_, _<_, _≤_}
 use native.Mathlib.Nat.{mod-add-div'}
 use native.Mathlib.Omega.{arith}
-use borrow.Author.Tests.{eqb-true, eqb-false, ne-eqb, ltb-true}
+use borrow.Author.Tests.{eq-eqb, eqb-true, eqb-false, ne-eqb, ltb-true}
 use lib.Dec.{eqb, ltb}
 use lib.IntN.{ℤ, pos, natAbs, _*ℤ_}
 use Rattle.field.specs.Prime.{Prime}
@@ -15,17 +15,20 @@ use Rattle.field.proofs.Inverses.{prime-pos}
 use Rattle.field.proofs.Residues.{residue-below, residue-nonzero}
 use Rattle.field.proofs.OneFlow.{the-flow}
 use Rattle.params.specs.declared.params.Params.{Params}
-use Rattle.params.specs.Params.{primeOf, size}
-use Rattle.params.specs.Positions.{stand, standsIn, stands}
+use Rattle.params.specs.Params.{primeOf, Dimensions}
+use Rattle.params.specs.Positions.{stand, index, standsIn, stands}
 use Rattle.buckets.specs.Buckets.{inLimits}
+use Rattle.params.proofs.Rules.{dimensions-good}
 use Rattle.params.proofs.Searches.{and-true}
+use Rattle.params.proofs.Standing.{standing-in}
+use Rattle.sketch.proofs.Steps.{stand-below}
 use Rattle.buckets.proofs.Limits.{limits-size}
 use Rattle.walk.specs.declared.Found.the-variants.{Undefined, Impure, Pure}
 use Rattle.buckets.specs.Buckets.{isZero}
-use Rattle.walk.specs.Purity.{testIn, pureTest, ruleOf}
+use Rattle.walk.specs.Purity.{testIn, pureTest, guardedTest, ruleOf}
 use Rattle.buckets.proofs.Zeros.{not-zero}
 use Rattle.walk.proofs.Balance.{Sound}
-use Rattle.walk.proofs.Stuck.{Placed}
+use Rattle.walk.proofs.Stuck.{ByArrays}
 
 -- what the test says where it passes
 passed : (a b t : Bool) (g f : ℕ) → cond a Impure (cond b Undefined (cond t (Pure g) Impure)) ≡ Pure f → (b ≡ false) × (t ≡ true) × (g ≡ f)
@@ -39,7 +42,7 @@ module _ (p : ℕ) (on : ℕ → ℕ → Bool) (k : ℕ) (c : ℤ) (s f : ℕ) w
   unfolding testIn
   pure-is e =
       let w = passed (isZero c) (eqb (residue p c) 0) (on (flow p c s) k) (flow p c s) f e in
-      let some : residue p c ≡ 0 → ⊥ = eqb-false _ _ (w .0) in
+      let nonzero : residue p c ≡ 0 → ⊥ = eqb-false _ _ (w .0) in
       (omega arith, subst (λ (g : ℕ). on g k ≡ true) (w .2) (w .1), w .2)
 
 -- and where it finds a count with no inverse
@@ -55,7 +58,7 @@ module _ (p : ℕ) (on : ℕ → ℕ → Bool) (k : ℕ) (c : ℤ) (s : ℕ) whe
   unfolding testIn
   has-inverse h l e =
       let w = lacked (isZero c) (eqb (residue p c) 0) (on (flow p c s) k) (flow p c s) e in
-      let some : natAbs c ≡ 0 → ⊥ = eqb-false (natAbs c) 0 (w .0) in
+      let nonzero : natAbs c ≡ 0 → ⊥ = eqb-false (natAbs c) 0 (w .0) in
       omega (arith, residue-nonzero p h c (omega arith) l, eqb-true (residue p c) 0 (w .1))
 
   -- the test passes where the flow stands
@@ -74,12 +77,16 @@ module _ (p : ℕ) (prime : Prime p) (arrays : ℕ) (index : ℕ → ℕ → ℕ
             let w = pure-is p on k c s f e in
             subst (λ (g : ℕ). residue p (c *ℤ pos g) ≡ s) (w .2) (the-flow p prime c (w .0) s l .solves);
         a-flow = λ k c s f e. subst (λ (g : ℕ). g < p) (pure-is p on k c s f e .2) (residue-below p (prime-pos p prime) _);
-        placed = λ k c s f e. pure-is p on k c s f e .1;
+        standing = λ k c s f e. pure-is p on k c s f e .1;
         empty = λ k s. refl;
       }
 
+-- where the dimensions keep their rules, the code's test is the definition's
+pub guarded-is-pure : {P : Params} (k : ℕ) (c : ℤ) (s : ℕ) → Dimensions P → guardedTest P k c s ≡ pureTest P k c s
+guarded-is-pure {P} k c s h = ap (λ b. testIn (primeOf P) (λ f k. b && stands P f k) k c s) (dimensions-good h)
+
 pub sound : (P : Params) → Sound (ruleOf P)
-sound P = sound-in (primeOf P) prime-31 (P .d) (λ i f. i * P .m + stand P i f) (stands P)
+sound P = sound-in (primeOf P) prime-31 (P .d) (index P) (stands P)
 
 -- the bucket in which a flow stands is its bucket in one of the arrays
 pub stands-at : (P : Params) (f k : ℕ) → stands P f k ≡ true → (k / P .m < P .d) × (k / P .m * P .m + stand P (k / P .m) f ≡ k)
@@ -88,23 +95,38 @@ stands-at P f k e =
     let w = and-true (ltb (k / P .m) (P .d)) (eqb (stand P (k / P .m) f) (k % P .m)) e in
     (ltb-true _ _ (w .0), omega (arith, eqb-true (stand P (k / P .m) f) (k % P .m) (w .1), mod-add-div' k (P .m)))
 
+-- arrays count from 1: the index in the array that i others stand before
+pub index-next : (P : Params) (i f : ℕ) → index P (suc i) f ≡ i * P .m + stand P i f
+index-next P i f = let e : suc i - 1 ≡ i = omega arith in ap (λ (n : ℕ). n * P .m + stand P n f) e
+
+-- a flow stands at its index in each array
+index-stands : {P : Params} → Dimensions P → (i f : ℕ) → 1 ≤ i → i ≤ P .d → stands P f (index P i f) ≡ true
+index-stands {P} h i f l u =
+    let below : stand P (i - 1) f < P .m = stand-below P (i - 1) f (h .m-low) in
+    standing-in (P .d) (P .m) (λ j. stand P j f) (i - 1) (index P i f) (omega arith) (omega arith) (omega arith) ∙ eq-eqb (index P i f) (index P i f) refl
+
 -- so the parameters' rule places flows by its arrays
-pub placed : (P : Params) → Placed (ruleOf P) (size P)
-placed P = record { array = λ k f l e. (k / P .m, stands-at P f k e .0, stands-at P f k e .1) }
+pub by-arrays : (P : Params) → ByArrays (ruleOf P)
+by-arrays P = record { array = λ k f e. (suc (k / P .m), omega arith, stands-at P f k e .0, index-next P (k / P .m) f ∙ stands-at P f k e .1) }
+
+-- and f stands in bucket k exactly where k is its index in one of the arrays 1 to d
+pub stands-exactly : {P : Params} → Dimensions P → (f k : ℕ)
+    → (stands P f k ≡ true → (i : ℕ) × (1 ≤ i) × (i ≤ P .d) × (index P i f ≡ k)) × ((i : ℕ) → 1 ≤ i → i ≤ P .d → index P i f ≡ k → stands P f k ≡ true)
+stands-exactly {P} h f k = (by-arrays P .array k f, λ i l u e. subst (λ (k : ℕ). stands P f k ≡ true) e (index-stands h i f l u))
 
 -- and the bucket in which a flow is pure is one of the flow's
 pub pure-at : (P : Params) (k : ℕ) (c : ℤ) (s f : ℕ) → pureTest P k c s ≡ Pure f → (k / P .m < P .d) × (k / P .m * P .m + stand P (k / P .m) f ≡ k)
-pure-at P k c s f e = stands-at P f k (sound P .placed k c s f e)
+pure-at P k c s f e = stands-at P f k (sound P .standing k c s f e)
 
 -- a count other than 0 within the limits has a residue other than 0
-pub some-residue : (P : Params) (c : ℤ) → (c ≡ pos 0 → ⊥) → inLimits c ≡ true → 0 < residue (primeOf P) c
-some-residue P c d l =
-    let some : natAbs c ≡ 0 → ⊥ = eqb-false (natAbs c) 0 (not-zero c d) in
+pub nonzero-residue : (P : Params) (c : ℤ) → (c ≡ pos 0 → ⊥) → inLimits c ≡ true → 0 < residue (primeOf P) c
+nonzero-residue P c d l =
+    let nonzero : natAbs c ≡ 0 → ⊥ = eqb-false (natAbs c) 0 (not-zero c d) in
     residue-nonzero (primeOf P) (omega arith) c (omega arith) (omega (arith, limits-size c l))
 
 -- the bucket k with count c and idsum s is pure with flow f: c is not 0, and f is a flow with c * f congruent to s, and stands there
 pub record PureWith (P : Params) (k : ℕ) (c : ℤ) (s f : ℕ) : Type 0 where
-  pub some : c ≡ pos 0 → ⊥
+  pub nonzero : c ≡ pos 0 → ⊥
   pub a-flow : f < primeOf P
   pub solves : residue (primeOf P) (c *ℤ pos f) ≡ s
   pub there : stands P f k ≡ true
@@ -113,17 +135,17 @@ module _ (P : Params) (k : ℕ) (c : ℤ) (s f : ℕ) where
   pub pure-only : s < primeOf P → pureTest P k c s ≡ Pure f → PureWith P k c s f
   pure-only l e =
       record {
-        some = λ z. let i : pureTest P k c s ≡ Impure = ap (λ (c : ℤ). pureTest P k c s) z ∙ sound P .empty k s in let n : _≡_ {A = ℕ} 0 1 = cc in omega arith;
+        nonzero = λ z. let i : pureTest P k c s ≡ Impure = ap (λ (c : ℤ). pureTest P k c s) z ∙ sound P .empty k s in let n : _≡_ {A = ℕ} 0 1 = cc in omega arith;
         a-flow = sound P .a-flow k c s f e;
         solves = sound P .solves k c s f l e;
-        there = sound P .placed k c s f e;
+        there = sound P .standing k c s f e;
       }
 
   pub pure-if : inLimits c ≡ true → s < primeOf P → PureWith P k c s f → pureTest P k c s ≡ Pure f
   pure-if i l h =
-      let r = some-residue P c (h .some) i in
+      let r = nonzero-residue P c (h .nonzero) i in
       let one : f ≡ flow (primeOf P) c s = the-flow (primeOf P) prime-31 c r s l .only f (h .a-flow) (h .solves) in
-      subst⁻¹ (λ (g : ℕ). pureTest P k c s ≡ Pure g) one (flow-pure (primeOf P) (stands P) k c s (h .some) r (subst (λ (g : ℕ). stands P g k ≡ true) one (h .there)))
+      subst⁻¹ (λ (g : ℕ). pureTest P k c s ≡ Pure g) one (flow-pure (primeOf P) (stands P) k c s (h .nonzero) r (subst (λ (g : ℕ). stands P g k ≡ true) one (h .there)))
 
   -- in a bucket within its limits, the test passes exactly where that is so
   pub pure-exactly : inLimits c ≡ true → s < primeOf P → (pureTest P k c s ≡ Pure f → PureWith P k c s f) × (PureWith P k c s f → pureTest P k c s ≡ Pure f)

@@ -1,4 +1,4 @@
--- With a sketch's parameters, the balance says that the sketch of the table, added to what is left, is the input; where nothing is left, it is the input itself.
+-- With a sketch's parameters, the balance says that the sketch of the table, added to the remainder, is the input; where nothing remains, it is the input itself.
 use mathlib.Core.Path.{_≡_, refl, sym, ap, ap₂, _∙_}
 use mathlib.Core.Bool.{true, false}
 use mathlib.Core.List.{List}
@@ -19,7 +19,7 @@ use Rattle.params.proofs.Changes.{length-touched, getD-touched, touched-all}
 use Rattle.sketch.proofs.Tables.{length-from, getD-from}
 use Rattle.buckets.proofs.Idsums.{prime-pos}
 use Rattle.sums.proofs.Weighted.{count-weighted, weight-weighted}
-use Rattle.walk.specs.Walk.{nothingLeft}
+use Rattle.walk.specs.Walk.{nothingRemains}
 use Rattle.walk.specs.Purity.{ruleOf}
 use Rattle.walk.proofs.Alls.{nothing-count, nothing-idsum}
 use Rattle.walk.proofs.Balance.{Balanced}
@@ -45,35 +45,35 @@ residue-inner a w =
     ∙ residue-add-same prime prime-pos (pos (residue prime w)) w a (residue-twice prime prime-pos w)
     ∙ ap (residue prime) (+ℤ-comm w a)
 
-module _ (P : Params) (S left : Sketch) (t : List Entry) (counts-long : length (S .counts) ≡ size P) (idsums-long : length (S .idsums) ≡ size P) (h : Balanced (ruleOf P) S left t) where
-  count-back : (k : ℕ) → k < size P → countIn left k +ℤ countIn (sketchOf P t) k ≡ countIn S k
+module _ (P : Params) (S remainder : Sketch) (t : List Entry) (counts-long : length (S .counts) ≡ size P) (idsums-long : length (S .idsums) ≡ size P) (h : Balanced (ruleOf P) S remainder t) where
+  count-back : (k : ℕ) → k < size P → countIn remainder k +ℤ countIn (sketchOf P t) k ≡ countIn S k
   unfolding sketchOf
   count-back k l =
-      ap (_+ℤ_ (countIn left k)) (from-at (size P) (countAt P t) k (pos 0) l ∙ count-weighted P t k)
+      ap (_+ℤ_ (countIn remainder k)) (from-at (size P) (countAt P t) k (pos 0) l ∙ count-weighted P t k)
       ∙ h .counts k (omega arith)
 
-  idsum-back : (k : ℕ) → k < size P → residue prime (pos (idsumIn left k) +ℤ pos (idsumIn (sketchOf P t) k)) ≡ idsumIn S k
+  idsum-back : (k : ℕ) → k < size P → residue prime (pos (idsumIn remainder k) +ℤ pos (idsumIn (sketchOf P t) k)) ≡ idsumIn S k
   unfolding sketchOf
   idsum-back k l =
-      ap (λ (r : ℕ). residue prime (pos (idsumIn left k) +ℤ pos r)) (from-at (size P) (λ k. residue prime (weightAt P t k)) k 0 l)
-      ∙ residue-inner (pos (idsumIn left k)) (weightAt P t k)
-      ∙ ap (λ (w : ℤ). residue prime (pos (idsumIn left k) +ℤ w)) (weight-weighted P t k)
+      ap (λ (r : ℕ). residue prime (pos (idsumIn remainder k) +ℤ pos r)) (from-at (size P) (λ k. residue prime (weightAt P t k)) k 0 l)
+      ∙ residue-inner (pos (idsumIn remainder k)) (weightAt P t k)
+      ∙ ap (λ (w : ℤ). residue prime (pos (idsumIn remainder k) +ℤ w)) (weight-weighted P t k)
       ∙ h .idsums k (omega arith)
 
-  pub rebuilt : combined false left (sketchOf P t) ≡ S
+  pub rebuilt : combined false remainder (sketchOf P t) ≡ S
   unfolding combined
   rebuilt =
       sym (ap₂ sketch
-      (ext-getD (pos 0) (S .counts) _ (sym (map-long _ (left .counts) (pos 0) ∙ h .counts-long))
-      (λ k l. sym (map-at _ (left .counts) (pos 0) k (omega (arith, h .counts-long)) ∙ count-back k (omega arith))))
-      (ext-getD 0 (S .idsums) _ (sym (map-long _ (left .idsums) 0 ∙ h .idsums-long))
-      (λ k l. sym (map-at _ (left .idsums) 0 k (omega (arith, h .idsums-long)) ∙ idsum-back k (omega arith)))))
+      (ext-getD (pos 0) (S .counts) _ (sym (map-long _ (remainder .counts) (pos 0) ∙ h .counts-long))
+      (λ k l. sym (map-at _ (remainder .counts) (pos 0) k (omega (arith, h .counts-long)) ∙ count-back k (omega arith))))
+      (ext-getD 0 (S .idsums) _ (sym (map-long _ (remainder .idsums) 0 ∙ h .idsums-long))
+      (λ k l. sym (map-at _ (remainder .idsums) 0 k (omega (arith, h .idsums-long)) ∙ idsum-back k (omega arith)))))
 
-  -- where nothing is left
-  module _ (e : nothingLeft left ≡ true) where
+  -- where nothing remains
+  module _ (e : nothingRemains remainder ≡ true) where
     count-alone : (k : ℕ) → k < size P → countIn (sketchOf P t) k ≡ countIn S k
     count-alone k l =
-        sym (ap (λ (z : ℤ). z +ℤ countIn (sketchOf P t) k) (nothing-count left e k) ∙ +ℤ-idl (countIn (sketchOf P t) k))
+        sym (ap (λ (z : ℤ). z +ℤ countIn (sketchOf P t) k) (nothing-count remainder e k) ∙ +ℤ-idl (countIn (sketchOf P t) k))
         ∙ count-back k l
 
     idsum-alone : (k : ℕ) → k < size P → idsumIn (sketchOf P t) k ≡ idsumIn S k
@@ -81,7 +81,7 @@ module _ (P : Params) (S left : Sketch) (t : List Entry) (counts-long : length (
     idsum-alone k l =
         let r : idsumIn (sketchOf P t) k ≡ residue prime (weightAt P t k) = from-at (size P) (λ k. residue prime (weightAt P t k)) k 0 l in
         let low : residue prime (weightAt P t k) < prime = residue-below prime prime-pos (weightAt P t k) in
-        sym (ap (λ (x : ℕ). residue prime (pos x +ℤ pos (idsumIn (sketchOf P t) k))) (nothing-idsum left e k)
+        sym (ap (λ (x : ℕ). residue prime (pos x +ℤ pos (idsumIn (sketchOf P t) k))) (nothing-idsum remainder e k)
         ∙ ap (residue prime) (+ℤ-idl (pos (idsumIn (sketchOf P t) k)))
         ∙ residue-own prime prime-pos (idsumIn (sketchOf P t) k) (omega arith))
         ∙ idsum-back k l

@@ -1,8 +1,8 @@
--- A walk by a sound rule that places flows by its arrays is stuck only where no bucket that is left passes the test.
+-- A walk by a sound rule that places flows by its arrays is stuck only where no bucket of the remainder passes the test.
 use mathlib.Core.Path.{_≡_, refl, sym, ap, ap₂, subst, _∙_}
 use mathlib.Core.Bool.{Bool, true, false, true≢false}
 use mathlib.Core.List.{List, _∷_}
-use Prim.Native.Nat.{ℕ, _<_}
+use Prim.Native.Nat.{ℕ, _<_, _≤_}
 use native.Mathlib.Nat.{zero-add}
 use native.Mathlib.Omega.{arith}
 use lib.IntN.{ℤ}
@@ -18,11 +18,11 @@ use Rattle.walk.proofs.Lessened.{less-counts, less-idsums, less-count, 
 use Rattle.walk.proofs.Waiting.{none-waits, waits-behind, requeue-keeps, requeue-adds, starts}
 use Rattle.walk.proofs.Balance.{Sound}
 
--- a bucket below `size` in which a flow stands is the flow's bucket in one of the arrays
-pub record Placed (R : Rule) (size : ℕ) : Type 0 where
-  pub array : (k f : ℕ) → k < size → R .stands f k ≡ true → (i : ℕ) × (i < R .arrays) × (R .index i f ≡ k)
+-- a bucket in which a flow stands is the flow's bucket in one of the arrays
+pub record ByArrays (R : Rule) : Type 0 where
+  pub array : (k f : ℕ) → R .stands f k ≡ true → (i : ℕ) × (1 ≤ i) × (i ≤ R .arrays) × (R .index i f ≡ k)
 
-module _ (R : Rule) (sound : Sound R) (size : ℕ) (placed : Placed R size) where
+module _ (R : Rule) (sound : Sound R) (size : ℕ) (by-arrays : ByArrays R) where
   -- a bucket that passes the test waits
   record Waiting (st : State) : Type 0 where
     counts-long : length (st .held .counts) ≡ size
@@ -73,22 +73,22 @@ module _ (R : Rule) (sound : Sound R) (size : ℕ) (placed : Placed R size) wher
           (less-count R f c s (st .held) j (omega (arith, h .counts-long)) ∙ rw w)
           (less-idsum R f c s (st .held) j (omega (arith, h .idsums-long)) ∙ rw w)
 
-      go : (j g : ℕ) → j < size → (b : Bool) → R .stands f j ≡ b → found R j S ≡ Pure g → waits j (requeue at S 0 (R .arrays) q) ≡ true
+      go : (j g : ℕ) → j < size → (b : Bool) → R .stands f j ≡ b → found R j S ≡ Pure g → waits j (requeue at S 1 (R .arrays) q) ≡ true
       -- in one of f's buckets
       go j g l true w p =
-          let a = placed .array j f l w in
-          let some : isZero (countIn S j) ≡ false = passes j g S _ refl p in
-          subst (λ (j : ℕ). waits j (requeue at S 0 (R .arrays) q) ≡ true) (a .2)
-          (requeue-adds at S 0 (R .arrays) (a .0) q (omega arith) (omega (arith, a .1)) (rw (a .2) some))
+          let a = by-arrays .array j f w in
+          let nonzero : isZero (countIn S j) ≡ false = passes j g S _ refl p in
+          subst (λ (j : ℕ). waits j (requeue at S 1 (R .arrays) q) ≡ true) (a .3)
+          (requeue-adds at S 1 (R .arrays) (a .0) q (a .1) (omega (arith, a .2)) (rw (a .3) nonzero))
       -- in another, which waited before
       go j g l false w p =
           let was : waits j (k ∷ q) ≡ true = subst (λ (q : List ℕ). waits j q ≡ true) e (h .pure-waits j g l (sym (same j l w) ∙ p)) in
-          requeue-keeps at S j 0 (R .arrays) q
-          (waits-behind j k q (λ y. true≢false (sym (sound .placed k c s f x) ∙ ap (R .stands f) y ∙ w)) was)
+          requeue-keeps at S j 1 (R .arrays) q
+          (waits-behind j k q (λ y. true≢false (sym (sound .standing k c s f x) ∙ ap (R .stands f) y ∙ w)) was)
 
   -- where the walk is stuck, no bucket passes the test
   abbrev pub NonePasses : Outcome → Type 0
-  NonePasses o = o .ending ≡ Stuck → (k f : ℕ) → k < size → found R k (o .left) ≡ Pure f → ⊥
+  NonePasses o = o .ending ≡ Stuck → (k f : ℕ) → k < size → found R k (o .remainder) ≡ Pure f → ⊥
 
   pub stuck-only : (slots allowance : ℕ) (S : Sketch) → length (S .counts) ≡ size → length (S .idsums) ≡ size → NonePasses (walk R slots allowance S)
   unfolding walk

@@ -2,7 +2,7 @@
 use mathlib.Core.Path.{_≡_, refl}
 use mathlib.Core.Bool.{true}
 use mathlib.Core.List.{List}
-use Prim.Native.Nat.{ℕ, _≤_}
+use Prim.Native.Nat.{ℕ, suc, _≤_}
 use native.Mathlib.Omega.{arith}
 use borrow.Author.Tests.{lt-ltb}
 use lib.Dec.{ltb}
@@ -13,7 +13,7 @@ use Rattle.buckets.specs.Buckets.{inLimits}
 use Rattle.sketch.specs.Sketch.{Sketch, Entry, countIn}
 use Rattle.params.proofs.Searches.{and-true}
 use Rattle.walk.specs.Walk.{Rule, State, queued, all, entryOf, inRange, taken, walk}
-use Rattle.walk.proofs.Carried.{Takes, takenAt, carried}
+use Rattle.walk.proofs.Carried.{Takeable, takenAt, carried}
 use Rattle.walk.proofs.Balance.{Sound}
 use Rattle.walk.proofs.Entries.{all-credited, credited-fits, once, once-credited}
 
@@ -25,10 +25,10 @@ pub record Listed (p slots : ℕ) (t : List Entry) : Type 0 where
 
 entry-within : (R : Rule) (f : ℕ) (c : ℤ) (st : State) → inRange R f c st ≡ true → inLimits (entryOf f (st .table) +ℤ c) ≡ true
 unfolding inRange
-entry-within R f c st e = and-true (below (R .arrays) (λ i. inLimits (countIn (st .held) (R .index i f) -ℤ c))) _ e .1
+entry-within R f c st e = and-true (below (R .arrays) (λ i. inLimits (countIn (st .held) (R .index (suc i) f) -ℤ c))) _ e .1
 
 module _ (R : Rule) (sound : Sound R) (slots : ℕ) where
-  taken-keeps : (k f : ℕ) (st : State) → Listed (R .prime) slots (st .table) → Takes R slots k f st → Listed (R .prime) slots (takenAt R k f st .table)
+  taken-keeps : (k f : ℕ) (st : State) → Listed (R .prime) slots (st .table) → Takeable R slots k f st → Listed (R .prime) slots (takenAt R k f st .table)
   unfolding taken
   taken-keeps k f st h t =
       record {

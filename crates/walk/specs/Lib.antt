@@ -2,3 +2,4 @@
 pub mod Endings
 pub mod Walk
 pub mod Purity
+pub mod Narrowed

@@ -1,13 +1,13 @@
 -- The purity test, and the rule of a sketch's parameters.
 use mathlib.Core.Bool.{Bool, cond, _&&_}
-use Prim.Native.Nat.{ℕ, _+_, _*_}
+use Prim.Native.Nat.{ℕ}
 use lib.IntN.{ℤ}
 use lib.Dec.{eqb}
 use Rattle.field.specs.Residue.{residue}
 use Rattle.field.specs.Flow.{flow}
 use Rattle.params.specs.declared.params.Params.{Params}
 use Rattle.params.specs.Params.{primeOf, goodDimensions}
-use Rattle.params.specs.Positions.{stand, stands}
+use Rattle.params.specs.Positions.{index, stands}
 use Rattle.walk.specs.declared.Found.{Found}
 use Rattle.walk.specs.declared.Found.the-variants.{Undefined, Impure, Pure}
 use Rattle.walk.specs.Walk.{Rule}
@@ -24,9 +24,9 @@ testIn p on k c s =
 abbrev pub pureTest : Params → ℕ → ℤ → ℕ → Found
 pureTest P = testIn (primeOf P) (stands P)
 
--- the same where the sizes may break a rule: then no flow stands anywhere
-abbrev pub sizedTest : Params → ℕ → ℤ → ℕ → Found
-sizedTest P = testIn (primeOf P) (λ f k. goodDimensions P && stands P f k)
+-- the same where the dimensions may break a rule: then no flow stands anywhere
+abbrev pub guardedTest : Params → ℕ → ℤ → ℕ → Found
+guardedTest P = testIn (primeOf P) (λ f k. goodDimensions P && stands P f k)
 
 -- the walk of a sketch with these parameters
 abbrev pub ruleOf : Params → Rule
@@ -34,7 +34,7 @@ ruleOf P =
     record {
       prime = primeOf P;
       arrays = P .d;
-      index = λ i f. i * P .m + stand P i f;
+      index = index P;
       stands = stands P;
       test = pureTest P;
     }

@@ -14,8 +14,8 @@ use Rattle.walk.specs.declared.Ending.the-variants.{Clean, Stuck, Spent,
 use Rattle.walk.specs.declared.Found.{Found}
 use Rattle.walk.specs.declared.Found.the-variants.{Undefined, Impure, Pure}
 
--- what a walk goes by: the prime, the number of arrays, the index of a flow's bucket in the array that i others stand before,
--- whether a flow stands in a bucket, and the test of bucket k with count c and idsum s
+-- what a walk goes by: the prime, the number of arrays, the index of a flow's bucket in array i (arrays count from 1), whether a flow
+-- stands in a bucket, and the test of bucket k with count c and idsum s
 pub record Rule : Type 0 where
   pub prime : ℕ
   pub arrays : ℕ
@@ -38,8 +38,8 @@ any t [] = false
 any t (x ∷ xs) = t x || any t xs
 
 -- every count and every idsum is 0
-unfoldable pub nothingLeft : Sketch → Bool
-nothingLeft S = all isZero (S .counts) && all (λ s. eqb s 0) (S .idsums)
+unfoldable pub nothingRemains : Sketch → Bool
+nothingRemains S = all isZero (S .counts) && all (λ s. eqb s 0) (S .idsums)
 
 -- c and s subtracted from f's bucket in every array
 unfoldable pub less : Rule → ℕ → ℤ → ℕ → Sketch → Sketch
@@ -76,7 +76,7 @@ requeue at S i (suc n) q = requeue at S (suc i) n (cond (isZero (countIn S (at i
 -- the take brings no count of f's buckets, and not f's entry, outside the limits
 unfoldable pub inRange : Rule → ℕ → ℤ → State → Bool
 inRange R f c st =
-    below (R .arrays) (λ i. inLimits (countIn (st .held) (R .index i f) -ℤ c)) && inLimits (entryOf f (st .table) +ℤ c)
+    below (R .arrays) (λ i. inLimits (countIn (st .held) (R .index (suc i) f) -ℤ c)) && inLimits (entryOf f (st .table) +ℤ c)
 
 -- the take needs no new table slot, or one is left
 unfoldable pub hasRoom : ℕ → ℕ → List Entry → Bool
@@ -86,7 +86,7 @@ hasRoom slots f t = has f t || ltb (length t) slots
 unfoldable pub taken : Rule → ℕ → ℤ → ℕ → State → State
 taken R f c s st =
     let S : Sketch = less R f c s (st .held) in
-    record { held = S; queue = requeue (λ i. R .index i f) S 0 (R .arrays) (st .queue); table = credited f c (st .table) }
+    record { held = S; queue = requeue (λ i. R .index i f) S 1 (R .arrays) (st .queue); table = credited f c (st .table) }
 
 -- a pop ends the walk or leads on
 pub data Move : Type 0 where
@@ -104,22 +104,22 @@ follows R slots c s st Undefined = stops NoInverse
 follows R slots c s st Impure = goes st
 follows R slots c s st (Pure f) = takes R slots f c s st
 
--- bucket k was popped, and st is what is left: c and s are read before any change
+-- bucket k was popped, and st holds the rest of the queue: c and s are read before any change
 unfoldable pub popped : Rule → ℕ → ℕ → State → Move
 popped R slots k st =
     let c : ℤ = countIn (st .held) k in
     let s : ℕ = idsumIn (st .held) k in
     follows R slots c s st (R .test k c s)
 
--- how a walk ended, after how many pops, and what is left and listed then
+-- how a walk ended, after how many pops, and what remains and is listed then
 pub record Outcome : Type 0 where
   pub ending : Ending
   pub pops : ℕ
-  pub left : Sketch
+  pub remainder : Sketch
   pub table : List Entry
 
 abbrev pub out : Ending → ℕ → State → Outcome
-out e n st = record { ending = e; pops = n; left = st .held; table = st .table }
+out e n st = record { ending = e; pops = n; remainder = st .held; table = st .table }
 
 abbrev pub queued : State → List ℕ → State
 queued st q = record { held = st .held; queue = q; table = st .table }
@@ -136,9 +136,9 @@ after (goes st') n st go = go st'
 
 -- the walk from a state, with an allowance of that many pops more, n made already
 unfoldable pub run : Rule → ℕ → ℕ → ℕ → State → Outcome
-run R slots zero n st = before (nothingLeft (st .held)) (st .queue) n st (λ k q. out Spent n st)
+run R slots zero n st = before (nothingRemains (st .held)) (st .queue) n st (λ k q. out Spent n st)
 run R slots (suc allowance) n st =
-    before (nothingLeft (st .held)) (st .queue) n st
+    before (nothingRemains (st .held)) (st .queue) n st
     (λ k q. after (popped R slots k (queued st q)) (suc n) st (run R slots allowance (suc n)))
 
 -- the queue at the start: all buckets from k on with count not 0, in rising index
@@ -157,6 +157,13 @@ close [] = []
 close (e ∷ es) = cond (isZero (e .number)) (close es) (e ∷ close es)
 
 -- the net figure: the sum of all entries' counts
-unfoldable pub net : List Entry → ℤ
-net [] = pos 0
-net (e ∷ es) = e .number +ℤ net es
+unfoldable pub netFigure : List Entry → ℤ
+netFigure [] = pos 0
+netFigure (e ∷ es) = e .number +ℤ netFigure es
+
+-- what is told of an outcome: its table after the close, and the figure of that table
+abbrev pub closedTable : Outcome → List Entry
+closedTable o = close (o .table)
+
+abbrev pub netOf : Outcome → ℤ
+netOf o = netFigure (closedTable o)

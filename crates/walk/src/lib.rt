@@ -1,7 +1,7 @@
 // The walk that peels a sketch: how it may end, and the test of a popped bucket. What the walk is stands in specs/Walk.antt,
 // and what holds of it in proofs/; the crate `peel` does it.
 ghost use mathlib.Core.Path.{_≡_};
-ghost use Rattle.walk.specs.Purity.{sizedTest};
+ghost use Rattle.walk.specs.Purity.{guardedTest};
 use params::PRIME;
 use params::Params;
 
@@ -22,10 +22,10 @@ pub enum Found {
     Pure(u32),
 }
 
-// The purity test of bucket k with count c and idsum s. Where the sizes break a rule, nothing is pure. The arrays and pairs are not
-// judged beyond the sizes, and any count and idsum is taken.
+// The purity test of bucket k with count c and idsum s. Where the dimensions break a rule, nothing is pure. The pairs are not
+// judged, and any count and idsum is taken.
 pub fn test(p: Params, k: usize, c: i32, s: u32) -> Found
-    ensures { λ r. ⌜ r ≡ sizedTest p k c s ⌝ }
+    ensures { λ r. ⌜ r ≡ guardedTest p k c s ⌝ }
 {
     if c == 0 {
         return Found::Impure;

@@ -14,8 +14,8 @@ use Rattle.walk.proofs.test.Statement.{statement}
 use Rattle.walk.proofs.test.Tie as tie
 
 -- the count is not 0; its residue, and the flow
-some : (c : tie.Else1) → c .before .args .c ≡ pos 0 → ⊥
-some c e = c .if1 .left (bits-of-zero _ e)
+nonzero : (c : tie.Else1) → c .before .args .c ≡ pos 0 → ⊥
+nonzero c e = c .if1 .left (bits-of-zero _ e)
 
 residue-is : (c : tie.After-raise) → c .raise .result ≡ residue prime (c .before .before .args .c)
 residue-is c = c .raise .ensures ∙ ap (residue prime) (toZ-ofZ (c .before .before .fits .c))
@@ -32,7 +32,7 @@ raise-requires c κs = search needs
 
 returns-2 : tie.Need-returns-2
 unfolding testIn
-returns-2 c = rw (not-zero (c .before .before .before .args .c) (some (c .before .before)), eq-eqb _ 0 (sym (residue-is (c .before)) ∙ c .if2 .taken))
+returns-2 c = rw (not-zero (c .before .before .before .args .c) (nonzero (c .before .before)), eq-eqb _ 0 (sym (residue-is (c .before)) ∙ c .if2 .taken))
 
 flow-requires : tie.Need-flow-requires
 flow-requires c κs = search needs
@@ -44,13 +44,13 @@ returns-3 : tie.Need-returns-3
 unfolding testIn
 returns-3 c =
     let f = c .before .before in
-    rw (not-zero (c .before .before .before .before .before .before .args .c) (some (c .before .before .before .before .before)), ne-eqb _ 0 (λ e. c .before .before .before .if2 .left (residue-is (c .before .before .before .before) ∙ e)), ← flow-is f, ← c .before .stands .ensures, c .if3 .taken)
+    rw (not-zero (c .before .before .before .before .before .before .args .c) (nonzero (c .before .before .before .before .before)), ne-eqb _ 0 (λ e. c .before .before .before .if2 .left (residue-is (c .before .before .before .before) ∙ e)), ← flow-is f, ← c .before .stands .ensures, c .if3 .taken)
 
 returns-4 : tie.Need-returns-4
 unfolding testIn
 returns-4 c =
     let f = c .before .before in
-    rw (not-zero (c .before .before .before .before .before .before .args .c) (some (c .before .before .before .before .before)), ne-eqb _ 0 (λ e. c .before .before .before .if2 .left (residue-is (c .before .before .before .before) ∙ e)), ← flow-is f, ← c .before .stands .ensures, c .if3 .left)
+    rw (not-zero (c .before .before .before .before .before .before .args .c) (nonzero (c .before .before .before .before .before)), ne-eqb _ 0 (λ e. c .before .before .before .if2 .left (residue-is (c .before .before .before .before) ∙ e)), ← flow-is f, ← c .before .stands .ensures, c .if3 .left)
 
 pub test-spec : {M : Type 1} → statement M
 test-spec =

@@ -1,7 +1,7 @@
 -- `peel::peeling::peel` meets its contract.
 use mathlib.Core.Path.{sym, _∙_}
 use borrow.Author.Needs.{needs}
-use Rattle.peel.proofs.Judged.{judged-sound}
+use Rattle.peel.proofs.Judged.{judged-peelable}
 use Rattle.peel.proofs.Peeled.{not-peeled, peeled}
 use Rattle.peel.proofs.peeling.peel.Statement.{statement}
 use Rattle.peel.proofs.peeling.peel.Tie as tie
@@ -16,7 +16,7 @@ enum-told : tie.Need-enum-told
 enum-told c = search needs
 
 unravel-requires : tie.Need-unravel-requires
-unravel-requires c κs = judged-sound _ _ _ _ _ _ _ (sym (c .before .before .before .before .before .before .before .before .judge .ensures) ∙ c .before .before .before .before .before .before .enum-told .given .1)
+unravel-requires c κs = judged-peelable _ _ (sym (c .before .before .before .before .before .before .before .before .judge .ensures) ∙ c .before .before .before .before .before .before .enum-told .given .1)
 
 same-length : tie.Need-same-length
 same-length c = search needs
@@ -25,7 +25,7 @@ same-length-2 : tie.Need-same-length-2
 same-length-2 c = search needs
 
 returns : tie.Need-returns
-returns c = not-peeled _ _ _ _ _ _ _ _ _ (sym (c .before .judged .given .1) ∙ c .before .before .before .judge .ensures)
+returns c = not-peeled _ _ _ _ _ (sym (c .before .judged .given .1) ∙ c .before .before .before .judge .ensures)
 
 same-length-3 : tie.Need-same-length-3
 same-length-3 c = search needs
@@ -48,7 +48,7 @@ same-length-8 c = search needs
 returns-2 : tie.Need-returns-2
 returns-2 c =
     let u = c .before .before .before .before .before .before .before .before .before .before .unravel in
-    peeled _ _ _ _ _ _ _ (sym (c .before .before .before .before .before .before .before .before .before .before .before .before .before .before .before .before .before .enum-told .given .1) ∙ c .before .before .before .before .before .before .before .before .before .before .before .before .before .before .before .before .before .before .before .judge .ensures) _ _ _ _ _ _ _ (u .ensures) (search needs) (search needs) (search needs) (search needs)
+    peeled _ _ _ (sym (c .before .before .before .before .before .before .before .before .before .before .before .before .before .before .before .before .before .enum-told .given .1) ∙ c .before .before .before .before .before .before .before .before .before .before .before .before .before .before .before .before .before .before .before .judge .ensures) _ _ (u .ensures) (search needs) (search needs) (search needs) (search needs)
 
 pub peel-spec : {M : Type 1} → statement M
 peel-spec =

@@ -3,7 +3,7 @@ use mathlib.Core.Path.{ap, _∙_}
 use native.Mathlib.Omega.{arith}
 use mir.Facts.{toZ-ofZ}
 use borrow.Author.Needs.{needs}
-use Rattle.walk.specs.Walk.{Outcome, close, net}
+use Rattle.walk.specs.Walk.{Outcome, close, netOf}
 use Rattle.peel.proofs.peeling.unravel.Statement.{statement}
 use Rattle.peel.proofs.peeling.unravel.Tie as tie
 
@@ -46,8 +46,8 @@ returns c =
     record {
       ending = ap (λ (o : Outcome). o .ending) e;
       pops = ap (λ (o : Outcome). o .pops) e;
-      net = toZ-ofZ (record { sfits = c .struct-told .given .1 .0 .1 }) ∙ l .ensures .net ∙ ap (λ (o : Outcome). net (close (o .table))) e;
-      left = ap (λ (o : Outcome). o .left) e;
+      net = toZ-ofZ (record { sfits = c .struct-told .given .1 .0 .1 }) ∙ l .ensures .net ∙ ap (λ (o : Outcome). netOf o) e;
+      remainder = ap (λ (o : Outcome). o .remainder) e;
       table = t;
       room = omega (arith, l .ensures .within, w .ensures .room, l .ensures .long, w .kept .1 .1 .1 .0);
       past = l .ensures .past;

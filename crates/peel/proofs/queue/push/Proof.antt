@@ -11,23 +11,23 @@ mul-if1 c = search needs
 slice-read-if1 : tie.Need-slice-read-if1
 slice-read-if1 c = search needs
 
-place-requires : tie.Need-place-requires
-place-requires c κs = let h = c .before .before .before .before .pre in (h .0 .head-in, ring-most (h .0), h .2)
+ring-place-requires : tie.Need-ring-place-requires
+ring-place-requires c κs = let h = c .before .before .before .before .pre in (h .0 .head-in, ring-most (h .0), h .2)
 
 mul-queue : tie.Need-mul-queue
-mul-queue c = let h = c .before .before .before .before .before .pre in omega (arith, c .place .ensures, h .2, back-below (h .0))
+mul-queue c = let h = c .before .before .before .before .before .pre in omega (arith, c .ring-place .ensures, h .2, back-below (h .0))
 
 slice-read-queue : tie.Need-slice-read-queue
-slice-read-queue c = omega (arith, c .before .place .ensures, back-below (c .before .before .before .before .before .before .pre .0))
+slice-read-queue c = omega (arith, c .before .ring-place .ensures, back-below (c .before .before .before .before .before .before .pre .0))
 
 mul-queue-2 : tie.Need-mul-queue-2
-mul-queue-2 c = omega (arith, c .slice-known4 .given (c .before .place .result))
+mul-queue-2 c = omega (arith, c .slice-known4 .given (c .before .ring-place .result))
 
 cast-queue : tie.Need-cast-queue
 cast-queue c = search needs
 
 add-queue : tie.Need-add-queue
-add-queue c = let h = c .before .before .before .before .before .before .pre in omega (arith, c .slice-known4 .given (c .before .place .result), h .1, h .2)
+add-queue c = let h = c .before .before .before .before .before .before .pre in omega (arith, c .slice-known4 .given (c .before .ring-place .result), h .1, h .2)
 
 mul-queue-3 : tie.Need-mul-queue-3
 mul-queue-3 c = mul-queue (c .before)
@@ -65,7 +65,7 @@ same-length-2 c = search needs
 returns : tie.Need-returns
 returns c =
     let h = c .before .before .before .before .before .before .before .pre in
-    rw (c .before .before .place .ensures) (ring-push (h .0) _ (h .1) (h .2) (c .before .before .before .if1 .taken))
+    rw (c .before .before .ring-place .ensures) (ring-push (h .0) _ (h .1) (h .2) (c .before .before .before .if1 .taken))
 
 returns-2 : tie.Need-returns-2
 returns-2 c = ring-stay (c .before .before .before .before .pre .0) _ (c .if1 .left)
@@ -76,7 +76,7 @@ push-spec =
     (tie.spec
     mul-if1
     slice-read-if1
-    place-requires
+    ring-place-requires
     mul-queue
     slice-read-queue
     mul-queue-2

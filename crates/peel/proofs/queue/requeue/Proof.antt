@@ -1,4 +1,4 @@
--- `peel::queue::requeue` meets its contract: what is left of the requeueing, from the ring as it stands, gives the queue that the whole gives from the ring at the start.
+-- `peel::queue::requeue` meets its contract: the rest of the requeueing, from the ring as it stands, gives the queue that the whole gives from the ring at the start.
 use mathlib.Core.Path.{refl, sym, _∙_}
 use mathlib.Core.Logic.{⊎-elim}
 use mathlib.Core.List.{[]}

@@ -1,4 +1,4 @@
--- `peel::queue::start` meets its contract: the ring and the buckets that are left to queue give the first queue.
+-- `peel::queue::start` meets its contract: the ring and the buckets that are still to be queued give the first queue.
 use mathlib.Core.Path.{_≡_, sym, _∙_}
 use mathlib.Core.Logic.{⊎-elim}
 use Prim.Native.Nat.{ℕ, _-_, _/_, _≤_}

@@ -2,7 +2,7 @@
 use mathlib.Core.Path.{ap, _∙_}
 use mir.Facts.{toZ-ofZ}
 use borrow.Author.Needs.{needs, sfits-of}
-use Rattle.walk.specs.Walk.{net}
+use Rattle.walk.specs.Walk.{netFigure}
 use Rattle.peel.proofs.Closing.{table-kept}
 use Rattle.peel.proofs.table.close.Statement.{statement}
 use Rattle.peel.proofs.table.close.Tie as tie
@@ -34,7 +34,7 @@ returns c =
     record {
       table = t;
       within = k .ensures .within;
-      net = toZ-ofZ (sfits-of (c .net-of .ok)) ∙ c .net-of .ensures (f .last .0) ∙ ap net t;
+      net = toZ-ofZ (sfits-of (c .net-of .ok)) ∙ c .net-of .ensures (f .last .0) ∙ ap netFigure t;
       long = f .ensures .long ∙ k .kept .0;
       long-numbers = n .ensures .long ∙ k .kept .1 .0;
       past = f .ensures .zeros;

@@ -12,14 +12,14 @@ use borrow.Author.Needs.{needs, sfits-of}
 use Rattle.field.proofs.Casts.{as-is, widened, widens}
 use Rattle.field.proofs.Parts.{abs-add, abs-of-sfits, sfits-of-abs}
 use Rattle.params.specs.Lists.{from}
-use Rattle.walk.specs.Walk.{net}
+use Rattle.walk.specs.Walk.{netFigure}
 use Rattle.peel.specs.Table.{row, tableOf}
 use Rattle.peel.proofs.Closing.{net-step, net-none, net-all}
 use Rattle.peel.proofs.table.net_of.Statement.{statement}
 use Rattle.peel.proofs.table.net_of.Tie as tie
 
 abbrev Inv-loop : tie.InvT-loop
-Inv-loop numbers n sum₀ i₀ sum i = (i ≤ n) × (natAbs (toZ w64 sum) ≤ i * 2147483648) × ((fs : List ℕ) → toZ w64 sum +ℤ net (from i (n - i) (row fs numbers)) ≡ net (tableOf fs numbers n))
+Inv-loop numbers n sum₀ i₀ sum i = (i ≤ n) × (natAbs (toZ w64 sum) ≤ i * 2147483648) × ((fs : List ℕ) → toZ w64 sum +ℤ netFigure (from i (n - i) (row fs numbers)) ≡ netFigure (tableOf fs numbers n))
 
 abbrev μ-loop : tie.MeasureT-loop
 μ-loop numbers n sum₀ i₀ sum i = n - i

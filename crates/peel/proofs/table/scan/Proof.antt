@@ -1,4 +1,4 @@
--- `peel::table::scan` meets its contract: no place that the loop has passed holds the flow.
+-- `peel::table::scan` meets its contract: no slot that the loop has passed holds the flow.
 use mathlib.Core.Path.{_≡_}
 use Prim.Native.Nat.{ℕ, _-_, _<_, _≤_}
 use native.Mathlib.Omega.{arith}

@@ -1,4 +1,4 @@
--- `peel::take::apply` meets its contract. The invariant: both slices are changed in the first i arrays, and `left` counts what is not all zero in them.
+-- `peel::take::apply` meets its contract. The invariant: both slices are changed in the first i arrays, and `nonzero` counts what is not all zero in them.
 use mathlib.Core.Path.{_≡_, sym, ap, ap₂, _∙_}
 use Prim.Native.Nat.{_*_, _-_, _≤_}
 use native.Mathlib.Omega.{arith}
@@ -17,20 +17,20 @@ use Rattle.sketch.specs.Sketch.{sketch, changedIn}
 use Rattle.params.proofs.Changes.{length-touched}
 use Rattle.sketch.proofs.Standing.{Within, reach}
 use Rattle.sketch.proofs.ArrayTurns.{turns-start}
-use Rattle.peel.specs.Dirt.{dirty}
-use Rattle.peel.proofs.Takes.{bucket-old, bucket-next}
+use Rattle.peel.specs.Nonzero.{nonzeroBuckets}
+use Rattle.peel.proofs.OneArray.{bucket-old, bucket-next}
 use Rattle.peel.proofs.take.apply.Statement.{statement}
 use Rattle.peel.proofs.take.apply.Tie as tie
 
 abbrev Inv-loop : tie.InvT-loop
-Inv-loop d m ks counts₀ idsums₀ c s dirt left₀ i₀ counts idsums left i =
+Inv-loop d m ks counts₀ idsums₀ c s first nonzero₀ i₀ counts idsums nonzero i =
     (i ≤ d)
     × (counts ≡ touched (standsIn i m (λ j. getD ks j 0)) (λ k x. x -ℤ toZ w32 c) counts₀)
     × (idsums ≡ touched (standsIn i m (λ j. getD ks j 0)) (λ k x. residue prime (pos x -ℤ pos s)) idsums₀)
-    × (left ≡ dirty counts idsums)
+    × (nonzero ≡ nonzeroBuckets counts idsums)
 
 abbrev μ-loop : tie.MeasureT-loop
-μ-loop d m ks counts₀ idsums₀ c s dirt left₀ i₀ counts idsums left i = d - i
+μ-loop d m ks counts₀ idsums₀ c s first nonzero₀ i₀ counts idsums nonzero i = d - i
 
 -- the sketch keeps its lengths
 lens : (c : tie.At-loop Inv-loop μ-loop) → (length (c .loop .counts) ≡ c .before .before .args .d * c .before .before .args .m) × (length (c .loop .idsums) ≡ c .before .before .args .d * c .before .before .args .m)
@@ -72,7 +72,7 @@ take-one-requires c κs =
       limits = rw (bucket-old (pos 0) (s .args .m) (λ j. getD (now (s .args .ks)) j 0) (l .i) _ (now (s .args .counts)) _ (r .m-low) (r .inside (l .i) h) (omega (arith, w .bucket, r .counts-long)) (l .inv .1), toZ-ofZ (s .fits .c)) (s .pre .1 .0 (l .i) h);
       idsum = rw (bucket-old 0 (s .args .m) (λ j. getD (now (s .args .ks)) j 0) (l .i) _ (now (s .args .idsums)) _ (r .m-low) (r .inside (l .i) h) (omega (arith, w .bucket, r .idsums-long)) (l .inv .2)) (s .pre .1 .1 .0 (l .i) h);
       small = s .pre .1 .1 .1;
-      dirt = l .inv .3;
+      counted = l .inv .3;
     }
 
 add-i : tie.Need-add-i Inv-loop μ-loop
@@ -92,7 +92,7 @@ loop-again c =
       omega arith,
       bucket-next (pos 0) (s .args .m) (λ j. getD (now (s .args .ks)) j 0) (l .i) _ (now (s .args .counts)) _ (r .m-low) (r .inside (l .i) h) (omega (arith, w .bucket, r .counts-long)) (l .inv .1) _ (t .counts),
       bucket-next 0 (s .args .m) (λ j. getD (now (s .args .ks)) j 0) (l .i) _ (now (s .args .idsums)) _ (r .m-low) (r .inside (l .i) h) (omega (arith, w .bucket, r .idsums-long)) (l .inv .2) _ (t .idsums),
-      t .dirt,
+      t .counted,
     )
 
 same-length : tie.Need-same-length Inv-loop μ-loop
@@ -109,7 +109,7 @@ returns c =
     let end : l .i ≡ s .args .d = omega arith in
     record {
       after = ap₂ sketch (rw (end, toZ-ofZ (s .fits .c)) at (l .inv .1)) (rw end at (l .inv .2));
-      dirt = l .inv .3;
+      counted = l .inv .3;
     }
 
 pub apply-spec : {M : Type 1} → statement M

@@ -11,8 +11,8 @@ use mir.Val.{SFits, toZ, ofZ}
 use borrow.Author.Needs.{needs, sfits-of}
 use Rattle.buckets.proofs.Idsums.{idsum-plus-minus-is}
 use Rattle.buckets.proofs.Limits.{limits-fit}
-use Rattle.peel.specs.Dirt.{some, dirty}
-use Rattle.peel.proofs.Dirtiness.{some-most, dirty-most, dirty-set}
+use Rattle.peel.specs.Nonzero.{oneIfNonzero, nonzeroBuckets}
+use Rattle.peel.proofs.Nonzero.{one-most, nonzero-most, nonzero-set}
 use Rattle.peel.proofs.take.take_one.Statement.{statement}
 use Rattle.peel.proofs.take.take_one.Tie as tie
 
@@ -26,22 +26,22 @@ v-is c =
     let b = c .before .before in
     rw (toZ-ofZ (x-fits c), toZ-ofZ (b .fits .c)) (toZ-ofZ (limits-fit _ (b .pre .limits)))
 
--- what the bucket counts after and counted before, and so what is left
-new-is : (c : tie.After-some-left) → let b = c .before .before .before .before .before in
-    c .some-left .result ≡ some (getD (b .args .counts .now) (b .args .j) (pos 0) -ℤ b .args .c) (c .before .idsum-plus-minus .result)
-new-is c = rw (v-is (c .before .before .before)) at (c .some-left .ensures)
+-- what the bucket counts after and counted before, and so how many buckets are not all zero
+new-is : (c : tie.After-one-if-nonzero) → let b = c .before .before .before .before .before in
+    c .one-if-nonzero .result ≡ oneIfNonzero (getD (b .args .counts .now) (b .args .j) (pos 0) -ℤ b .args .c) (c .before .idsum-plus-minus .result)
+new-is c = rw (v-is (c .before .before .before)) at (c .one-if-nonzero .ensures)
 
-old-is : (c : tie.After-some-left2) → let b = c .before .before .before .before .before .before in
-    c .some-left2 .result ≡ some (getD (b .args .counts .now) (b .args .j) (pos 0)) (getD (b .args .idsums .now) (b .args .j) 0)
-old-is c = rw (toZ-ofZ (x-fits (c .before .before .before .before))) at (c .some-left2 .ensures)
+old-is : (c : tie.After-one-if-nonzero2) → let b = c .before .before .before .before .before .before in
+    c .one-if-nonzero2 .result ≡ oneIfNonzero (getD (b .args .counts .now) (b .args .j) (pos 0)) (getD (b .args .idsums .now) (b .args .j) 0)
+old-is c = rw (toZ-ofZ (x-fits (c .before .before .before .before))) at (c .one-if-nonzero2 .ensures)
 
-account : (c : tie.After-some-left2) → let b = c .before .before .before .before .before .before in
-    dirty (set (b .args .counts .now) (b .args .j) (getD (b .args .counts .now) (b .args .j) (pos 0) -ℤ b .args .c)) (set (b .args .idsums .now) (b .args .j) (c .before .before .idsum-plus-minus .result)) + c .some-left2 .result
-    ≡ b .args .dirt + c .before .some-left .result
+account : (c : tie.After-one-if-nonzero2) → let b = c .before .before .before .before .before .before in
+    nonzeroBuckets (set (b .args .counts .now) (b .args .j) (getD (b .args .counts .now) (b .args .j) (pos 0) -ℤ b .args .c)) (set (b .args .idsums .now) (b .args .j) (c .before .before .idsum-plus-minus .result)) + c .one-if-nonzero2 .result
+    ≡ b .args .nonzero + c .before .one-if-nonzero .result
 account c =
     let b = c .before .before .before .before .before .before in
-    rw (new-is (c .before), old-is c, b .pre .dirt)
-    (dirty-set (b .args .counts .now) (b .args .idsums .now) (b .args .j) _ (c .before .before .idsum-plus-minus .result) (b .pre .inside) (b .pre .inside-ids))
+    rw (new-is (c .before), old-is c, b .pre .counted)
+    (nonzero-set (b .args .counts .now) (b .args .idsums .now) (b .args .j) _ (c .before .before .idsum-plus-minus .result) (b .pre .inside) (b .pre .inside-ids))
 
 mul-x : tie.Need-mul-x
 mul-x c = search needs
@@ -75,17 +75,17 @@ mul-idsums c = search needs
 slice-write-idsums : tie.Need-slice-write-idsums
 slice-write-idsums c = search needs
 
-some-left-requires : tie.Need-some-left-requires
-some-left-requires c κs = search needs
+one-if-nonzero-requires : tie.Need-one-if-nonzero-requires
+one-if-nonzero-requires c κs = search needs
 
 add-result : tie.Need-add-result
 add-result c =
     let b = c .before .before .before .before .before in
-    let one : c .some-left .result ≤ 1 = rw (c .some-left .ensures) (some-most _ _) in
-    omega (arith, b .pre .dirt, dirty-most (b .args .counts .now) (b .args .idsums .now), b .good .0 .0)
+    let one : c .one-if-nonzero .result ≤ 1 = rw (c .one-if-nonzero .ensures) (one-most _ _) in
+    omega (arith, b .pre .counted, nonzero-most (b .args .counts .now) (b .args .idsums .now), b .good .0 .0)
 
-some-left-requires-2 : tie.Need-some-left-requires-2
-some-left-requires-2 c κs = search needs
+one-if-nonzero-requires-2 : tie.Need-one-if-nonzero-requires-2
+one-if-nonzero-requires-2 c κs = search needs
 
 sub-result : tie.Need-sub-result
 sub-result c = omega (arith, account c)
@@ -103,7 +103,7 @@ returns c =
     (record {
       counts = refl;
       idsums = ap (set (b .args .idsums .now) (b .args .j)) (c .before .before .idsum-plus-minus .ensures ∙ idsum-plus-minus-is true _ _ (b .pre .idsum) (b .pre .small));
-      dirt = omega (arith, account c);
+      counted = omega (arith, account c);
     })
 
 pub take-one-spec : {M : Type 1} → statement M
@@ -120,9 +120,9 @@ take-one-spec =
     slice-set-from-v
     mul-idsums
     slice-write-idsums
-    some-left-requires
+    one-if-nonzero-requires
     add-result
-    some-left-requires-2
+    one-if-nonzero-requires-2
     sub-result
     same-length
     same-length-2

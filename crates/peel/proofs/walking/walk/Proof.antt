@@ -23,43 +23,34 @@ use Rattle.sketch.proofs.Standing.{Within, reach}
 use Rattle.walk.specs.declared.Found.the-variants.{Pure}
 use Rattle.walk.specs.Walk.{run}
 use Rattle.walk.specs.Purity.{pureTest, ruleOf}
-use Rattle.peel.specs.Ring.{slot, Popped, Requeued}
-use Rattle.peel.specs.Table.{Credited}
-use Rattle.peel.specs.Chains.{Chained, Relinked}
-use Rattle.peel.specs.Dirt.{Applied}
-use Rattle.peel.specs.Rep.{stateOf}
-use Rattle.peel.proofs.Rings.{ring-kept}
-use Rattle.peel.proofs.RangeLoop.{fitsAt}
-use Rattle.peel.proofs.Turns.{Inv, sized-test}
+use Rattle.walk.proofs.Purity.{guarded-is-pure}
+use Rattle.peel.specs.Slices.{Slices, slices}
+use Rattle.peel.specs.Ring.{ringPlace, Popped}
+use Rattle.peel.specs.Chains.{Chained}
+use Rattle.peel.specs.Rep.{stateOf, fitsAt, Took}
+use Rattle.peel.proofs.Turns.{Inv, Lengths, same-lengths}
 use Rattle.peel.proofs.Turns as turn
 use Rattle.peel.proofs.walking.walk.Statement.{statement}
 use Rattle.peel.proofs.walking.walk.Tie as tie
 
--- every slice keeps its length
-record Lengths (cs₀ : List ℤ) (ss₀ fs₀ : List ℕ) (ns₀ : List ℤ) (q₀ ms₀ : List ℕ) (cs : List ℤ) (ss fs : List ℕ) (ns : List ℤ) (q ms : List ℕ) : Type 0 where
-  counts : length cs ≡ length cs₀
-  idsums : length ss ≡ length ss₀
-  flows : length fs ≡ length fs₀
-  numbers : length ns ≡ length ns₀
-  queue : length q ≡ length q₀
-  marks : length ms ≡ length ms₀
-
 abbrev Inv-loop : tie.InvT-loop
-Inv-loop p counts idsums flows numbers queue marks first dirt allowance d m size slots ks head waiting left entries pops k c s f i₀ i =
+Inv-loop p counts idsums flows numbers queue marks first-waiting first-nonzero allowance d m size slots ks head waiting nonzero entries pops k c s f i₀ i =
     (i ≤ d) × ((j : ℕ) → j < i → fitsAt m ks counts (toZ w32 c) j ≡ true)
 
 abbrev μ-loop : tie.MeasureT-loop
-μ-loop p counts idsums flows numbers queue marks first dirt allowance d m size slots ks head waiting left entries pops k c s f i₀ i =
+μ-loop p counts idsums flows numbers queue marks first-waiting first-nonzero allowance d m size slots ks head waiting nonzero entries pops k c s f i₀ i =
     d - i
 
 abbrev Inv-walk : tie.InvT-walk
-Inv-walk p counts₀ idsums₀ flows₀ numbers₀ queue₀ marks₀ first dirt allowance d m size slots ks₀ head₀ waiting₀ left₀ entries₀ pops₀ counts idsums flows numbers queue marks ks head waiting left entries pops =
-    Inv p (length flows₀) allowance (run (ruleOf p) (length flows₀) allowance 0 (stateOf counts₀ idsums₀ flows₀ numbers₀ queue₀ 0 first 0)) counts idsums flows numbers queue marks head waiting left entries pops
-    × Lengths counts₀ idsums₀ flows₀ numbers₀ queue₀ marks₀ counts idsums flows numbers queue marks
+Inv-walk p counts₀ idsums₀ flows₀ numbers₀ queue₀ marks₀ first-waiting first-nonzero allowance d m size slots ks₀ head₀ waiting₀ nonzero₀ entries₀ pops₀ counts idsums flows numbers queue marks ks head waiting nonzero entries pops =
+    let L₀ = slices counts₀ idsums₀ flows₀ numbers₀ queue₀ marks₀ in
+    let L = slices counts idsums flows numbers queue marks in
+    Inv p (length flows₀) allowance (run (ruleOf p) (length flows₀) allowance 0 (stateOf L₀ 0 first-waiting 0)) L head waiting nonzero entries pops
+    × Lengths L₀ L
     × (length ks ≡ 4)
 
 abbrev μ-walk : tie.MeasureT-walk
-μ-walk p counts₀ idsums₀ flows₀ numbers₀ queue₀ marks₀ first dirt allowance d m size slots ks₀ head₀ waiting₀ left₀ entries₀ pops₀ counts idsums flows numbers queue marks ks head waiting left entries pops =
+μ-walk p counts₀ idsums₀ flows₀ numbers₀ queue₀ marks₀ first-waiting first-nonzero allowance d m size slots ks₀ head₀ waiting₀ nonzero₀ entries₀ pops₀ counts idsums flows numbers queue marks ks head waiting nonzero entries pops =
     allowance - pops
 
 -- the loop's head, and the walk's start
@@ -86,11 +77,23 @@ popped-is : (c : Popd) → let a = head-of c in
     Popped (start a .args .p .d * start a .args .p .m) (a .walk .queue) (a .walk .marks) (c .pop .last .1 .0) (a .walk .head) (a .walk .waiting) (c .pop .result)
 popped-is c = rw (size-is (head-of c)) at (c .pop .ensures)
 
-some-of : (c : Popd) → head-of c .walk .left ≡ 0 → ⊥
-some-of c = c .before .before .before .before .before .if1 .left
+unclean-of : (c : Popd) → head-of c .walk .nonzero ≡ 0 → ⊥
+unclean-of c = c .before .before .before .before .before .if1 .left
 
 more-of : (c : Popd) → head-of c .walk .pops ≡ start (head-of c) .args .allowance → ⊥
 more-of c = c .before .before .before .if3 .left
+
+-- the slices keep their lengths, at the loop's head and once a bucket is popped
+abbrev lent-of : At → Slices
+lent-of c =
+    let a = start c .args in
+    slices (a .counts .now) (a .idsums .now) (a .flows .now) (a .numbers .now) (a .queue .now) (a .marks .now)
+
+at-head : (c : At) → Lengths (lent-of c) (slices (c .walk .counts) (c .walk .idsums) (c .walk .flows) (c .walk .numbers) (c .walk .queue) (c .walk .marks))
+at-head c = c .walk .inv .1
+
+at-pop : (c : Popd) → let a = head-of c in Lengths (lent-of a) (slices (a .walk .counts) (a .walk .idsums) (a .walk .flows) (a .walk .numbers) (a .walk .queue) (c .pop .last .1 .0))
+at-pop c = let v = head-of c .walk .inv .0 in same-lengths (start (head-of c) .pre) (turn.popped-holds v (unclean-of c) (popped-is c) (more-of c)) (v .long)
 
 -- what was popped is tested
 abbrev Test : Type 0
@@ -107,10 +110,10 @@ c-is c = toZ-ofZ w32 _ (record { sfits = c .before .before .c .given })
 
 test-is : (c : Test) → let a = head-of (pop-of c) in
     c .test .result ≡ pureTest (start a .args .p) (pop-of c .pop .result) (count-of c) (getD (a .walk .idsums) (pop-of c .pop .result) 0)
-test-is c = (rw (c-is c) at (c .test .ensures)) ∙ sized-test _ _ _ (start (head-of (pop-of c)) .pre .dimensions)
+test-is c = (rw (c-is c) at (c .test .ensures)) ∙ guarded-is-pure _ _ _ (start (head-of (pop-of c)) .pre .dimensions)
 
-place-is : (c : Test) → let a = head-of (pop-of c) in c .before .before .before .place .result ≡ slot (start a .args .p .d * start a .args .p .m) (a .walk .head) 1
-place-is c = rw (start (head-of (pop-of c)) .pre .ringed .long) at (c .before .before .before .place .ensures)
+place-is : (c : Test) → let a = head-of (pop-of c) in c .before .before .before .ring-place .result ≡ ringPlace (start a .args .p .d * start a .args .p .m) (a .walk .head) 1
+place-is c = rw (start (head-of (pop-of c)) .pre .ringed .long) at (c .before .before .before .ring-place .ensures)
 
 -- the take of the flow that the test found
 abbrev Inner : Type 0
@@ -131,13 +134,13 @@ ks-of c = c .before .positions .last .1 .1 .0
 pure-is : (c : Inner) → pureTest (start (walk-of c) .args .p) (pop-of (test-of c) .pop .result) (count-of (test-of c)) (getD (walk-of c .walk .idsums) (pop-of (test-of c) .pop .result) 0) ≡ Pure (flow c)
 pure-is c = sym (test-is (test-of c)) ∙ c .before .before .before .before .found .given .1
 
-placed-is : (c : Inner) → Positioned (start (walk-of c) .args .p) (flow c) (ks-of c)
-placed-is c =
+positions-are : (c : Inner) → Positioned (start (walk-of c) .args .p) (flow c) (ks-of c)
+positions-are c =
     subst⁻¹ (Positioned (start (walk-of c) .args .p) (flow c)) (c .before .positions .ensures)
     (positions-found (start (walk-of c) .args .p) (flow c) _ (start (walk-of c) .pre .dimensions) (walk-of c .walk .inv .2))
 
 reached-is : (c : Inner) → WithinArrays (start (walk-of c) .args .p .d) (start (walk-of c) .args .p .m) (ks-of c) (length (walk-of c .walk .counts)) (length (walk-of c .walk .idsums))
-reached-is c = let h = walk-of c .walk .inv .0 .holds in reached (h .dimensions) (h .sane .long) (h .sane .long-ids) (placed-is c)
+reached-is c = let h = walk-of c .walk .inv .0 .holds in reached (h .dimensions) (h .sane .long) (h .sane .long-ids) (positions-are c)
 
 -- the marks once a bucket is popped, and f's bucket in array 1
 abbrev marks-of : Inner → List ℕ
@@ -152,7 +155,7 @@ first-below c = omega (arith, first-bucket c .bucket, popped-is (pop-of (test-of
 -- by it f can be looked up
 chained-is : (c : Inner) → let a = walk-of c in
     Chained (start a .args .p .d * start a .args .p .m) (a .walk .flows) (a .walk .queue) (marks-of c) (a .walk .entries) (flow c) (getD (ks-of c) 0 0)
-chained-is c = let p = pop-of (test-of c) in turn.chained (walk-of c .walk .inv .0) (some-of p) (popped-is p) (more-of p) (pure-is c) (placed-is c)
+chained-is c = let p = pop-of (test-of c) in turn.chained (walk-of c .walk .inv .0) (unclean-of p) (popped-is p) (more-of p) (pure-is c) (positions-are c)
 
 -- f's bucket in the array that i others stand before, and what the test of it says
 bucket : (c : tie.In-loop Inv-loop μ-loop Inv-walk μ-walk) → let b = start (walk-of (c .before)) in
@@ -183,7 +186,7 @@ more-is c =
     rw (toZ-ofZ w32 (getD (walk-of l .walk .numbers) (f .find .result) (pos 0)) (record { sfits = c .before .fits-arg2 .given }), c-is (test-of l))
     at (c .fits3 .ensures)
 
--- where the two ways of the entry meet: it stays within the limits, and has a place
+-- where the two ways of the entry meet: it stays within the limits, and has a slot
 abbrev Meet : Type 0
 Meet = tie.Joined5 Inv-loop μ-loop Inv-walk μ-walk
 
@@ -200,52 +203,32 @@ entry c h = ⊎-elim (λ w. sym (more-is (record { before = record { before = re
 free : (c : Meet) → walk-of (inner-of c) .walk .entries ≤ c .before .find .result → c .before .find .result ≡ length (start (walk-of (inner-of c)) .args .flows .now) → ⊥
 free c h e = ⊎-elim (λ w. omega arith) (λ w. w .1 .left e) (c .if5 .came)
 
--- the calls of the take
-abbrev Apply : Type 0
-Apply = tie.After-apply Inv-loop μ-loop Inv-walk μ-walk
-
-applied : (c : Apply) → let l = inner-of (c .before .before .before .before) in let a = walk-of l in
-    Applied (start a .args .p .d) (start a .args .p .m) (ks-of l) (count-of (test-of l)) (getD (a .walk .idsums) (pop-of (test-of l) .pop .result) 0) (a .walk .counts) (a .walk .idsums) (c .apply .last .1 .1 .1 .0) (c .apply .last .1 .1 .1 .1 .0) (c .apply .result)
-applied c = rw (c-is (test-of (inner-of (c .before .before .before .before)))) at (c .apply .ensures)
-
-abbrev Credit : Type 0
-Credit = tie.After-credit Inv-loop μ-loop Inv-walk μ-walk
-
-abbrev apply-of : Credit → Apply
-apply-of c = c .before .before .before .before .before .before .before .before
-
-abbrev meet-of : Credit → Meet
-meet-of c = apply-of c .before .before .before .before
-
-credited : (c : Credit) → let l = inner-of (meet-of c) in let a = walk-of l in
-    Credited (flow l) (count-of (test-of l)) (a .walk .flows) (a .walk .numbers) (a .walk .entries) (c .credit .last .0) (c .credit .last .1 .0) (c .credit .result)
-credited c = rw (c-is (test-of (inner-of (meet-of c)))) at (c .credit .ensures .0)
-
-relinked : (c : Credit) → let l = inner-of (meet-of c) in let a = walk-of l in
-    Relinked (flow l) (getD (ks-of l) 0 0) (a .walk .flows) (a .walk .queue) (marks-of l) (a .walk .entries) (c .credit .last .0) (c .credit .last .1 .1 .0) (c .credit .last .1 .1 .1 .0) (c .credit .result)
-relinked c = c .credit .ensures .1
-
+-- the take
 abbrev End : Type 0
-End = tie.After-requeue Inv-loop μ-loop Inv-walk μ-walk
+End = tie.After-take-flow Inv-loop μ-loop Inv-walk μ-walk
 
-abbrev credit-of : End → Credit
-credit-of c = c .before .before .before .before .before .before .before .before .before .before .before .before
+abbrev meet-of : End → Meet
+meet-of c = c .before .before .before .before .before .before .before .before
 
-requeued : (c : End) → let k = credit-of c in let l = inner-of (meet-of k) in let a = walk-of l in let b = start a in
-    Requeued (b .args .p .d) (b .args .p .m) (ks-of l) (apply-of k .apply .last .1 .1 .1 .0) (k .credit .last .1 .1 .0) (k .credit .last .1 .1 .1 .0) (slot (b .args .p .d * b .args .p .m) (a .walk .head) 1) (a .walk .waiting - 1) (c .requeue .last .1 .1 .1 .1 .0) (c .requeue .last .1 .1 .1 .1 .1 .0) (c .requeue .result)
-requeued c = rw (place-is (test-of (inner-of (meet-of (credit-of c))))) at (c .requeue .ensures)
+-- what it left in the slices
+abbrev after-of : End → Slices
+after-of c =
+    let l = c .take-flow .last .1 .1 in
+    slices (l .0) (l .1 .0) (l .1 .1 .0) (l .1 .1 .1 .0) (l .1 .1 .1 .1 .0) (l .1 .1 .1 .1 .1 .0)
 
-took-is : (c : End) → let l = inner-of (meet-of (credit-of c)) in let a = walk-of l in let b = start a in
-    Inv (b .args .p) (length (b .args .flows .now)) (b .args .allowance) (run (ruleOf (b .args .p)) (length (b .args .flows .now)) (b .args .allowance) 0 (stateOf (b .args .counts .now) (b .args .idsums .now) (b .args .flows .now) (b .args .numbers .now) (b .args .queue .now) 0 (b .args .first) 0))
-    (apply-of (credit-of c) .apply .last .1 .1 .1 .0) (apply-of (credit-of c) .apply .last .1 .1 .1 .1 .0) (credit-of c .credit .last .0) (credit-of c .credit .last .1 .0) (c .requeue .last .1 .1 .1 .1 .0) (c .requeue .last .1 .1 .1 .1 .1 .0)
-    (slot (b .args .p .d * b .args .p .m) (a .walk .head) 1) (c .requeue .result) (apply-of (credit-of c) .apply .result) (credit-of c .credit .result) (a .walk .pops + 1)
-took-is c =
-    let k = credit-of c in
-    let m = meet-of k in
-    let l = inner-of m in
-    let p = pop-of (test-of l) in
-    turn.took (walk-of l .walk .inv .0) (some-of p) (popped-is p) (more-of p) (pure-is l) (placed-is l) (all-fit (done-of m)) (m .before .find .ensures) (entry m) (free m)
-    (applied (apply-of k)) (k .credit .kept .0) (k .credit .kept .1 .0) (credited k) (k .credit .kept .1 .1 .0) (relinked k) (requeued c)
+took-is : (c : End) → let l = inner-of (meet-of c) in let a = walk-of l in let b = start a in
+    Took (b .args .p) (slices (a .walk .counts) (a .walk .idsums) (a .walk .flows) (a .walk .numbers) (a .walk .queue) (marks-of l)) (ringPlace (b .args .p .d * b .args .p .m) (a .walk .head) 1) (a .walk .waiting - 1) (a .walk .entries) (flow l) (count-of (test-of l)) (getD (a .walk .idsums) (pop-of (test-of l) .pop .result) 0) (c .take-flow .result) (after-of c)
+took-is c = let t = test-of (inner-of (meet-of c)) in rw (place-is t, c-is t) at (c .take-flow .ensures)
+
+-- the pop of a turn that ends at a count, at the entry or at the table's end
+abbrev range-pop : tie.Then4 Inv-loop μ-loop Inv-walk μ-walk → Popd
+range-pop c = pop-of (test-of (c .before .before .before .before))
+
+abbrev entry-pop : tie.Then6 Inv-loop μ-loop Inv-walk μ-walk → Popd
+entry-pop c = pop-of (test-of (c .before .before .before .before .before .before .before .before .before))
+
+abbrev full-pop : tie.Then7 Inv-loop μ-loop Inv-walk μ-walk → Popd
+full-pop c = pop-of (test-of (c .before .before .before .before .before .before .before))
 
 walk-holds : tie.Need-walk-holds Inv-loop μ-loop Inv-walk μ-walk
 walk-holds c =
@@ -254,9 +237,9 @@ walk-holds c =
         holds = b .pre;
         long = refl;
         within = omega arith;
-        runs = ap (λ (n : ℕ). run (ruleOf (b .args .p)) (length (b .args .flows .now)) n 0 (stateOf (b .args .counts .now) (b .args .idsums .now) (b .args .flows .now) (b .args .numbers .now) (b .args .queue .now) 0 (b .args .first) 0)) (sub-zero (b .args .allowance));
+        runs = ap (λ (n : ℕ). run (ruleOf (b .args .p)) (length (b .args .flows .now)) n 0 (stateOf (slices (b .args .counts .now) (b .args .idsums .now) (b .args .flows .now) (b .args .numbers .now) (b .args .queue .now) (b .args .marks .now)) 0 (b .args .first-waiting) 0)) (sub-zero (b .args .allowance));
       },
-      record { counts = refl; idsums = refl; flows = refl; numbers = refl; queue = refl; marks = refl },
+      same-lengths (b .pre) (b .pre) refl,
       refl,
     )
 
@@ -266,8 +249,8 @@ add-pops c = search needs
 pop-requires : tie.Need-pop-requires Inv-loop μ-loop Inv-walk μ-walk
 pop-requires c κs = let a = c .before .before .before .before .before in rw (size-is a) (a .walk .inv .0 .holds .ringed, omega arith)
 
-place-requires : tie.Need-place-requires Inv-loop μ-loop Inv-walk μ-walk
-place-requires c κs =
+ring-place-requires : tie.Need-ring-place-requires Inv-loop μ-loop Inv-walk μ-walk
+ring-place-requires c κs =
     let a = head-of (c .before .before) in
     let b = start a in
     rw (b .pre .ringed .long) (a .walk .inv .0 .holds .ringed .head-in, omega (arith, b .pre .ringed .head-in), small _ _ (b .pre .dimensions .d-high) (b .pre .dimensions .m-high))
@@ -304,9 +287,9 @@ walk-again c =
     let t = c .before .before in
     let p = pop-of t in
     let a = head-of p in
-    let n = a .walk .inv .1 in (
-      rw (place-is t) (turn.impure (a .walk .inv .0) (some-of p) (popped-is p) (more-of p) (sym (test-is t) ∙ c .enum-told2 .given .1)),
-      record { counts = n .counts; idsums = n .idsums; flows = n .flows; numbers = n .numbers; queue = n .queue; marks = popped-is p .ringed .long-marks ∙ sym (start a .pre .ringed .long-marks) },
+    let v = a .walk .inv .0 in (
+      rw (place-is t) (turn.impure v (unclean-of p) (popped-is p) (more-of p) (sym (test-is t) ∙ c .enum-told2 .given .1)),
+      at-pop p,
       a .walk .inv .2,
     )
 
@@ -368,203 +351,57 @@ slice-copy-out-fits-2 c = search needs
 fits-requires-2 : tie.Need-fits-requires-2 Inv-loop μ-loop Inv-walk μ-walk
 fits-requires-2 c κs = search needs
 
-apply-requires : tie.Need-apply-requires Inv-loop μ-loop Inv-walk μ-walk
-apply-requires c κs =
-    let m = c .before .before .before in
-    let l = inner-of m in
-    let h = walk-of l .walk .inv .0 .holds in
-    rw (c-is (test-of l)) ((reached-is l, h .dirt), (all-fit (done-of m), (λ i e. h .sane .idsums _, h .sane .idsums _)))
-
-array-read-credit : tie.Need-array-read-credit Inv-loop μ-loop Inv-walk μ-walk
-array-read-credit c = search needs
-
-credit-requires : tie.Need-credit-requires Inv-loop μ-loop Inv-walk μ-walk
-credit-requires c κs =
-    let m = c .before .before .before .before .before .before .before .before .before .before .before in
+take-flow-requires : tie.Need-take-flow-requires Inv-loop μ-loop Inv-walk μ-walk
+take-flow-requires c κs =
+    let m = c .before .before .before .before .before .before .before in
     let l = inner-of m in
     let p = pop-of (test-of l) in
-    let v = walk-of l .walk .inv .0 in
-    rw (c-is (test-of l)) (
-      (
-        m .before .find .ensures,
-        v .holds .slots,
-        rw (v .long) (turn.has-place v (some-of p) (popped-is p) (more-of p) (pure-is l) (placed-is l) (all-fit (done-of m)) (m .before .find .ensures) (entry m) (free m)),
-        v .holds .room,
-        turn.entry-fits v (some-of p) (popped-is p) (more-of p) (pure-is l) (placed-is l) (all-fit (done-of m)) (m .before .find .ensures) (entry m) (free m),
-      ),
-      (
-        rw (size-is (walk-of l)) (small _ _ (v .holds .dimensions .d-high) (v .holds .dimensions .m-high)),
-        first-below l,
-        omega (arith, chained-is l .chains .newest (getD (ks-of l) 0 0) .within),
-      ),
-    )
-
-requeue-requires : tie.Need-requeue-requires Inv-loop μ-loop Inv-walk μ-walk
-requeue-requires c κs =
-    let k = c .before .before .before .before .before .before .before .before .before .before .before in
-    let l = inner-of (meet-of k) in
-    let h = walk-of l .walk .inv .0 .holds in
-    let n = apply-of k .apply .kept .1 .1 .1 .0 ∙ h .sane .long in (
-      reached (h .dimensions) n n (placed-is l),
-      rw (place-is (test-of l))
-          (ring-kept (popped-is (pop-of (test-of l)) .ringed) _ _ (k .credit .kept .1 .1 .0) (k .credit .kept .1 .1 .1 .0) (relinked k .below) (relinked k .below-marks)),
-    )
+    rw (place-is (test-of l), c-is (test-of l))
+    (turn.may-take (walk-of l .walk .inv .0) (unclean-of p) (popped-is p) (more-of p) (pure-is l) (positions-are l) (all-fit (done-of m)) (m .before .find .ensures) (entry m) (free m))
 
 walk-less-2 : tie.Need-walk-less-2 Inv-loop μ-loop Inv-walk μ-walk
 walk-less-2 c =
-    let l = inner-of (meet-of (credit-of (c .before .before .before .before))) in
+    let l = inner-of (meet-of (c .before .before .before .before .before .before .before .before .before .before)) in
     omega (arith, walk-of l .walk .inv .0 .within, more-of (pop-of (test-of l)))
 
 walk-again-2 : tie.Need-walk-again-2 Inv-loop μ-loop Inv-walk μ-walk
 walk-again-2 c =
-    let e = c .before .before .before .before in
-    let k = credit-of e in
-    let l = inner-of (meet-of k) in
+    let e = c .before .before .before .before .before .before .before .before .before .before in
+    let m = meet-of e in
+    let l = inner-of m in
     let a = walk-of l in
-    let n = a .walk .inv .1 in (
-      rw (place-is (test-of l)) (took-is e),
-      record {
-        counts = apply-of k .apply .kept .1 .1 .1 .0 ∙ n .counts;
-        idsums = apply-of k .apply .kept .1 .1 .1 .1 .0 ∙ n .idsums;
-        flows = k .credit .kept .0 ∙ n .flows;
-        numbers = k .credit .kept .1 .0 ∙ n .numbers;
-        queue = requeued e .ringed .long ∙ sym (start a .pre .ringed .long);
-        marks = requeued e .ringed .long-marks ∙ sym (start a .pre .ringed .long-marks);
-      },
+    let p = pop-of (test-of l) in
+    let v = a .walk .inv .0 in
+    let n = e .take-flow .kept .1 .1 .1 .1 .0 in (
+      rw (place-is (test-of l))
+          (turn.took v (unclean-of p) (popped-is p) (more-of p) (pure-is l) (positions-are l) (all-fit (done-of m)) (m .before .find .ensures) (entry m) (free m) n (took-is e)),
+      same-lengths (start a .pre) (took-is e .holds) (n ∙ v .long),
       ap length (l .before .positions .ensures) ∙ positions-long _ _ _ ∙ a .walk .inv .2,
     )
-
-same-length : tie.Need-same-length Inv-loop μ-loop Inv-walk μ-walk
-same-length c = search needs
-
-same-length-2 : tie.Need-same-length-2 Inv-loop μ-loop Inv-walk μ-walk
-same-length-2 c = search needs
-
-same-length-3 : tie.Need-same-length-3 Inv-loop μ-loop Inv-walk μ-walk
-same-length-3 c = search needs
-
-same-length-4 : tie.Need-same-length-4 Inv-loop μ-loop Inv-walk μ-walk
-same-length-4 c = search needs
-
-same-length-5 : tie.Need-same-length-5 Inv-loop μ-loop Inv-walk μ-walk
-same-length-5 c = search needs
-
-same-length-6 : tie.Need-same-length-6 Inv-loop μ-loop Inv-walk μ-walk
-same-length-6 c = search needs
 
 returns : tie.Need-returns Inv-loop μ-loop Inv-walk μ-walk
 returns c = record { outcome = turn.clean (c .before .walk .inv .0) (c .if1 .taken); room = room-of (c .before) }
 
-same-length-7 : tie.Need-same-length-7 Inv-loop μ-loop Inv-walk μ-walk
-same-length-7 c = search needs
-
-same-length-8 : tie.Need-same-length-8 Inv-loop μ-loop Inv-walk μ-walk
-same-length-8 c = search needs
-
-same-length-9 : tie.Need-same-length-9 Inv-loop μ-loop Inv-walk μ-walk
-same-length-9 c = search needs
-
-same-length-10 : tie.Need-same-length-10 Inv-loop μ-loop Inv-walk μ-walk
-same-length-10 c = search needs
-
-same-length-11 : tie.Need-same-length-11 Inv-loop μ-loop Inv-walk μ-walk
-same-length-11 c = search needs
-
-same-length-12 : tie.Need-same-length-12 Inv-loop μ-loop Inv-walk μ-walk
-same-length-12 c = search needs
-
 returns-2 : tie.Need-returns-2 Inv-loop μ-loop Inv-walk μ-walk
 returns-2 c = record { outcome = turn.stuck (c .before .before .walk .inv .0) (c .before .if1 .left) (c .if2 .taken); room = room-of (c .before .before) }
-
-same-length-13 : tie.Need-same-length-13 Inv-loop μ-loop Inv-walk μ-walk
-same-length-13 c = search needs
-
-same-length-14 : tie.Need-same-length-14 Inv-loop μ-loop Inv-walk μ-walk
-same-length-14 c = search needs
-
-same-length-15 : tie.Need-same-length-15 Inv-loop μ-loop Inv-walk μ-walk
-same-length-15 c = search needs
-
-same-length-16 : tie.Need-same-length-16 Inv-loop μ-loop Inv-walk μ-walk
-same-length-16 c = search needs
-
-same-length-17 : tie.Need-same-length-17 Inv-loop μ-loop Inv-walk μ-walk
-same-length-17 c = search needs
-
-same-length-18 : tie.Need-same-length-18 Inv-loop μ-loop Inv-walk μ-walk
-same-length-18 c = search needs
 
 returns-3 : tie.Need-returns-3 Inv-loop μ-loop Inv-walk μ-walk
 returns-3 c =
     let a = c .before .before .before in
     record { outcome = turn.spent (a .walk .inv .0) (c .before .before .if1 .left) (omega arith) (c .if3 .taken); room = room-of a }
 
-same-length-19 : tie.Need-same-length-19 Inv-loop μ-loop Inv-walk μ-walk
-same-length-19 c = search needs
-
-same-length-20 : tie.Need-same-length-20 Inv-loop μ-loop Inv-walk μ-walk
-same-length-20 c = search needs
-
-same-length-21 : tie.Need-same-length-21 Inv-loop μ-loop Inv-walk μ-walk
-same-length-21 c = search needs
-
-same-length-22 : tie.Need-same-length-22 Inv-loop μ-loop Inv-walk μ-walk
-same-length-22 c = search needs
-
-same-length-23 : tie.Need-same-length-23 Inv-loop μ-loop Inv-walk μ-walk
-same-length-23 c = search needs
-
-same-length-24 : tie.Need-same-length-24 Inv-loop μ-loop Inv-walk μ-walk
-same-length-24 c = search needs
-
 returns-4 : tie.Need-returns-4 Inv-loop μ-loop Inv-walk μ-walk
 returns-4 c =
     let t = c .before .before in
     let p = pop-of t in
-    record { outcome = turn.no-inverse (head-of p .walk .inv .0) (some-of p) (popped-is p) (more-of p) (sym (test-is t) ∙ c .enum-told .given .1); room = room-of (head-of p) }
-
-same-length-25 : tie.Need-same-length-25 Inv-loop μ-loop Inv-walk μ-walk
-same-length-25 c = search needs
-
-same-length-26 : tie.Need-same-length-26 Inv-loop μ-loop Inv-walk μ-walk
-same-length-26 c = search needs
-
-same-length-27 : tie.Need-same-length-27 Inv-loop μ-loop Inv-walk μ-walk
-same-length-27 c = search needs
-
-same-length-28 : tie.Need-same-length-28 Inv-loop μ-loop Inv-walk μ-walk
-same-length-28 c = search needs
-
-same-length-29 : tie.Need-same-length-29 Inv-loop μ-loop Inv-walk μ-walk
-same-length-29 c = search needs
-
-same-length-30 : tie.Need-same-length-30 Inv-loop μ-loop Inv-walk μ-walk
-same-length-30 c = search needs
+    record { outcome = turn.no-inverse (head-of p .walk .inv .0) (unclean-of p) (popped-is p) (more-of p) (sym (test-is t) ∙ c .enum-told .given .1); room = room-of (head-of p) }
 
 returns-5 : tie.Need-returns-5 Inv-loop μ-loop Inv-walk μ-walk
 returns-5 c =
     let n = c .before .before .before in
     let l = n .before in
     let p = pop-of (test-of l) in
-    record { outcome = turn.range-count (walk-of l .walk .inv .0) (some-of p) (popped-is p) (more-of p) (pure-is l) (placed-is l) (l .loop .i) (n .loop-test .taken) (sym (fits-is (c .before)) ∙ not-true _ (c .if4 .taken)); room = room-of (walk-of l) }
-
-same-length-31 : tie.Need-same-length-31 Inv-loop μ-loop Inv-walk μ-walk
-same-length-31 c = search needs
-
-same-length-32 : tie.Need-same-length-32 Inv-loop μ-loop Inv-walk μ-walk
-same-length-32 c = search needs
-
-same-length-33 : tie.Need-same-length-33 Inv-loop μ-loop Inv-walk μ-walk
-same-length-33 c = search needs
-
-same-length-34 : tie.Need-same-length-34 Inv-loop μ-loop Inv-walk μ-walk
-same-length-34 c = search needs
-
-same-length-35 : tie.Need-same-length-35 Inv-loop μ-loop Inv-walk μ-walk
-same-length-35 c = search needs
-
-same-length-36 : tie.Need-same-length-36 Inv-loop μ-loop Inv-walk μ-walk
-same-length-36 c = search needs
+    record { outcome = turn.range-count (walk-of l .walk .inv .0) (unclean-of p) (popped-is p) (more-of p) (pure-is l) (positions-are l) (l .loop .i) (n .loop-test .taken) (sym (fits-is (c .before)) ∙ not-true _ (c .if4 .taken)); room = room-of (walk-of l) }
 
 returns-6 : tie.Need-returns-6 Inv-loop μ-loop Inv-walk μ-walk
 returns-6 c =
@@ -572,25 +409,7 @@ returns-6 c =
     let d = f .before .before .before .before in
     let l = d .before in
     let p = pop-of (test-of l) in
-    record { outcome = turn.range-entry (walk-of l .walk .inv .0) (some-of p) (popped-is p) (more-of p) (pure-is l) (placed-is l) (all-fit d) (f .find .ensures) (c .before .before .before .if5 .taken) (sym (more-is (c .before)) ∙ not-true _ (c .if6 .taken)); room = room-of (walk-of l) }
-
-same-length-37 : tie.Need-same-length-37 Inv-loop μ-loop Inv-walk μ-walk
-same-length-37 c = search needs
-
-same-length-38 : tie.Need-same-length-38 Inv-loop μ-loop Inv-walk μ-walk
-same-length-38 c = search needs
-
-same-length-39 : tie.Need-same-length-39 Inv-loop μ-loop Inv-walk μ-walk
-same-length-39 c = search needs
-
-same-length-40 : tie.Need-same-length-40 Inv-loop μ-loop Inv-walk μ-walk
-same-length-40 c = search needs
-
-same-length-41 : tie.Need-same-length-41 Inv-loop μ-loop Inv-walk μ-walk
-same-length-41 c = search needs
-
-same-length-42 : tie.Need-same-length-42 Inv-loop μ-loop Inv-walk μ-walk
-same-length-42 c = search needs
+    record { outcome = turn.range-entry (walk-of l .walk .inv .0) (unclean-of p) (popped-is p) (more-of p) (pure-is l) (positions-are l) (all-fit d) (f .find .ensures) (c .before .before .before .if5 .taken) (sym (more-is (c .before)) ∙ not-true _ (c .if6 .taken)); room = room-of (walk-of l) }
 
 returns-7 : tie.Need-returns-7 Inv-loop μ-loop Inv-walk μ-walk
 returns-7 c =
@@ -598,7 +417,7 @@ returns-7 c =
     let d = f .before .before .before .before in
     let l = d .before in
     let p = pop-of (test-of l) in
-    record { outcome = turn.full (walk-of l .walk .inv .0) (some-of p) (popped-is p) (more-of p) (pure-is l) (placed-is l) (all-fit d) (f .find .ensures) (c .before .if5 .left) (c .if7 .taken); room = room-of (walk-of l) }
+    record { outcome = turn.full (walk-of l .walk .inv .0) (unclean-of p) (popped-is p) (more-of p) (pure-is l) (positions-are l) (all-fit d) (f .find .ensures) (c .before .if5 .left) (c .if7 .taken); room = room-of (walk-of l) }
 
 pub walk-spec : {M : Type 1} → statement M
 walk-spec =
@@ -611,7 +430,7 @@ walk-spec =
     walk-holds
     add-pops
     pop-requires
-    place-requires
+    ring-place-requires
     sub-waiting
     mul-c
     slice-copy-out-c
@@ -640,58 +459,55 @@ walk-spec =
     mul-fits-2
     slice-copy-out-fits-2
     fits-requires-2
-    apply-requires
-    array-read-credit
-    credit-requires
-    requeue-requires
+    take-flow-requires
     walk-less-2
     walk-again-2
-    same-length
-    same-length-2
-    same-length-3
-    same-length-4
-    same-length-5
-    same-length-6
+    (λ c. at-head (c .before) .counts)
+    (λ c. at-head (c .before) .idsums)
+    (λ c. at-head (c .before) .flows)
+    (λ c. at-head (c .before) .numbers)
+    (λ c. at-head (c .before) .queue)
+    (λ c. at-head (c .before) .marks)
     returns
-    same-length-7
-    same-length-8
-    same-length-9
-    same-length-10
-    same-length-11
-    same-length-12
+    (λ c. at-head (c .before .before) .counts)
+    (λ c. at-head (c .before .before) .idsums)
+    (λ c. at-head (c .before .before) .flows)
+    (λ c. at-head (c .before .before) .numbers)
+    (λ c. at-head (c .before .before) .queue)
+    (λ c. at-head (c .before .before) .marks)
     returns-2
-    same-length-13
-    same-length-14
-    same-length-15
-    same-length-16
-    same-length-17
-    same-length-18
+    (λ c. at-head (c .before .before .before) .counts)
+    (λ c. at-head (c .before .before .before) .idsums)
+    (λ c. at-head (c .before .before .before) .flows)
+    (λ c. at-head (c .before .before .before) .numbers)
+    (λ c. at-head (c .before .before .before) .queue)
+    (λ c. at-head (c .before .before .before) .marks)
     returns-3
-    same-length-19
-    same-length-20
-    same-length-21
-    same-length-22
-    same-length-23
-    same-length-24
+    (λ c. at-pop (pop-of (c .before .before)) .counts)
+    (λ c. at-pop (pop-of (c .before .before)) .idsums)
+    (λ c. at-pop (pop-of (c .before .before)) .flows)
+    (λ c. at-pop (pop-of (c .before .before)) .numbers)
+    (λ c. at-pop (pop-of (c .before .before)) .queue)
+    (λ c. at-pop (pop-of (c .before .before)) .marks)
     returns-4
-    same-length-25
-    same-length-26
-    same-length-27
-    same-length-28
-    same-length-29
-    same-length-30
+    (λ c. at-pop (range-pop c) .counts)
+    (λ c. at-pop (range-pop c) .idsums)
+    (λ c. at-pop (range-pop c) .flows)
+    (λ c. at-pop (range-pop c) .numbers)
+    (λ c. at-pop (range-pop c) .queue)
+    (λ c. at-pop (range-pop c) .marks)
     returns-5
-    same-length-31
-    same-length-32
-    same-length-33
-    same-length-34
-    same-length-35
-    same-length-36
+    (λ c. at-pop (entry-pop c) .counts)
+    (λ c. at-pop (entry-pop c) .idsums)
+    (λ c. at-pop (entry-pop c) .flows)
+    (λ c. at-pop (entry-pop c) .numbers)
+    (λ c. at-pop (entry-pop c) .queue)
+    (λ c. at-pop (entry-pop c) .marks)
     returns-6
-    same-length-37
-    same-length-38
-    same-length-39
-    same-length-40
-    same-length-41
-    same-length-42
+    (λ c. at-pop (full-pop c) .counts)
+    (λ c. at-pop (full-pop c) .idsums)
+    (λ c. at-pop (full-pop c) .flows)
+    (λ c. at-pop (full-pop c) .numbers)
+    (λ c. at-pop (full-pop c) .queue)
+    (λ c. at-pop (full-pop c) .marks)
     returns-7)

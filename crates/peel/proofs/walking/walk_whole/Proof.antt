@@ -7,6 +7,7 @@ use borrow.Author.Needs.{needs}
 use Rattle.walk.specs.Walk.{run, walk}
 use Rattle.walk.specs.Purity.{ruleOf}
 use Rattle.params.proofs.Rules.{dimensions-small}
+use Rattle.peel.specs.Slices.{slices}
 use Rattle.peel.proofs.Chains.{chains-none}
 use Rattle.peel.proofs.Begins.{begins, size-some}
 use Rattle.peel.proofs.walking.walk_whole.Statement.{statement}
@@ -21,8 +22,8 @@ start-requires c κs =
       rw (n .long) (dimensions-small (n .dimensions)),
     )
 
-count-left-requires : tie.Need-count-left-requires
-count-left-requires c κs = search needs
+count-nonzero-requires : tie.Need-count-nonzero-requires
+count-nonzero-requires c κs = search needs
 
 walk-requires : tie.Need-walk-requires
 walk-requires c κs =
@@ -33,7 +34,7 @@ walk-requires c κs =
       slots = n .slots;
       ringed = rw (n .long) at (c .before .before .before .before .before .before .before .before .before .before .before .before .before .start .ensures .ringed);
       chained = chains-none (c .before .before .before .before .before .before .before .before .before .before .before .before .before .start .ensures .above-marks);
-      dirt = c .before .before .before .before .before .before .count-left .ensures;
+      counted = c .before .before .before .before .before .before .count-nonzero .ensures;
       room = omega arith;
     }
 
@@ -62,7 +63,7 @@ returns c =
     let s = c .before .before .before .before .before .before .before .before .before .before .before .before .before .before .before .before .before .before .before .before .before .before .before .before .start in
     let w = c .before .before .before .before .before .before .before .before .before .before .walk .ensures in
     record {
-      outcome = w .outcome ∙ ap (run (ruleOf (a .p)) (length (now (a .flows))) (a .allowance) 0) (begins (now (a .counts)) (now (a .idsums)) (now (a .flows)) (now (a .numbers)) (s .last .1 .0) (s .result) (s .ensures .list));
+      outcome = w .outcome ∙ ap (run (ruleOf (a .p)) (length (now (a .flows))) (a .allowance) 0) (begins (slices (now (a .counts)) (now (a .idsums)) (now (a .flows)) (now (a .numbers)) (s .last .1 .0) (s .last .1 .1 .0)) (s .result) (s .ensures .list));
       room = w .room;
     }
 
@@ -71,7 +72,7 @@ walk-whole-spec =
     tie.close
     (tie.spec
     start-requires
-    count-left-requires
+    count-nonzero-requires
     walk-requires
     same-length
     same-length-2

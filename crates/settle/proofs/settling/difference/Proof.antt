@@ -6,8 +6,8 @@ use Rattle.settle.proofs.Settled.{not-lent, lent-first}
 use Rattle.settle.proofs.settling.difference.Statement.{statement}
 use Rattle.settle.proofs.settling.difference.Tie as tie
 
-lent-requires : tie.Need-lent-requires
-lent-requires c κs = search needs
+judge-walk-lent-requires : tie.Need-judge-walk-lent-requires
+judge-walk-lent-requires c κs = search needs
 
 enum-told : tie.Need-enum-told
 enum-told c = search needs
@@ -16,7 +16,7 @@ enum-told-2 : tie.Need-enum-told-2
 enum-told-2 c = search needs
 
 returns : tie.Need-returns
-returns c = (not-lent _ _ _ _ _ _ _ _ (c .before .before .lent .ensures) (c .before .match .keys2), kept-old _ _ _ (c .before .match .keys2))
+returns c = (not-lent _ _ _ _ _ _ _ _ (c .before .before .judge-walk-lent .ensures) (c .before .match .keys2), kept-old _ _ _ (c .before .match .keys2))
 
 subtract-requires : tie.Need-subtract-requires
 subtract-requires c κs = search needs
@@ -29,7 +29,7 @@ same-length-2 c = search needs
 
 returns-2 : tie.Need-returns-2
 returns-2 c = (
-  lent-first _ _ _ _ _ _ _ _ (sym (c .before .before .before .before .before .before .before .before .lent .ensures) ∙ c .before .before .before .before .before .before .enum-told .given .1) (c .before .before .before .subtract .ensures .answer),
+  lent-first _ _ _ _ _ _ _ _ (sym (c .before .before .before .before .before .before .before .before .judge-walk-lent .ensures) ∙ c .before .before .before .before .before .before .enum-told .given .1) (c .before .before .before .subtract .ensures .answer),
   c .before .before .before .subtract .ensures .after,
 )
 
@@ -37,7 +37,7 @@ pub difference-spec : {M : Type 1} → statement M
 difference-spec =
     tie.close
     (tie.spec
-    lent-requires
+    judge-walk-lent-requires
     enum-told
     enum-told-2
     returns

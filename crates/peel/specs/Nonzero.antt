@@ -13,13 +13,13 @@ use Rattle.sketch.specs.Sketch.{sketch, changedIn}
 use Rattle.buckets.specs.Buckets.{isZero, inLimits}
 
 -- 1 where a bucket is not all zero, and the number of those
-unfoldable pub some : ℤ → ℕ → ℕ
-some c s = cond (isZero c) (cond (eqb s 0) 0 1) 1
+unfoldable pub oneIfNonzero : ℤ → ℕ → ℕ
+oneIfNonzero c s = cond (isZero c) (cond (eqb s 0) 0 1) 1
 
-unfoldable pub dirty : List ℤ → List ℕ → ℕ
-dirty [] ss = 0
-dirty (c ∷ cs) [] = 0
-dirty (c ∷ cs) (s ∷ ss) = some c s + dirty cs ss
+unfoldable pub nonzeroBuckets : List ℤ → List ℕ → ℕ
+nonzeroBuckets [] ss = 0
+nonzeroBuckets (c ∷ cs) [] = 0
+nonzeroBuckets (c ∷ cs) (s ∷ ss) = oneIfNonzero c s + nonzeroBuckets cs ss
 
 -- a sketch of n buckets with none outside its limits
 pub record Sane (n : ℕ) (cs : List ℤ) (ss : List ℕ) : Type 0 where
@@ -29,19 +29,19 @@ pub record Sane (n : ℕ) (cs : List ℤ) (ss : List ℕ) : Type 0 where
   pub idsums : (k : ℕ) → getD ss k 0 < prime
 
 -- one bucket's part of a take, and all of a flow's
-pub record Takes (cs : List ℤ) (ss : List ℕ) (j : ℕ) (c : ℤ) (s left : ℕ) : Type 0 where
+pub record MayLessen (cs : List ℤ) (ss : List ℕ) (j : ℕ) (c : ℤ) (s nonzero : ℕ) : Type 0 where
   pub inside : j < length cs
   pub inside-ids : j < length ss
   pub limits : inLimits (getD cs j (pos 0) -ℤ c) ≡ true
   pub idsum : getD ss j 0 < prime
   pub small : s < prime
-  pub dirt : left ≡ dirty cs ss
+  pub counted : nonzero ≡ nonzeroBuckets cs ss
 
-pub record Took (cs : List ℤ) (ss : List ℕ) (j : ℕ) (c : ℤ) (s : ℕ) (cs' : List ℤ) (ss' : List ℕ) (left : ℕ) : Type 0 where
+pub record Lessened (cs : List ℤ) (ss : List ℕ) (j : ℕ) (c : ℤ) (s : ℕ) (cs' : List ℤ) (ss' : List ℕ) (nonzero : ℕ) : Type 0 where
   pub counts : cs' ≡ set cs j (getD cs j (pos 0) -ℤ c)
   pub idsums : ss' ≡ set ss j (residue prime (pos (getD ss j 0) -ℤ pos s))
-  pub dirt : left ≡ dirty cs' ss'
+  pub counted : nonzero ≡ nonzeroBuckets cs' ss'
 
-pub record Applied (d m : ℕ) (ks : List ℕ) (c : ℤ) (s : ℕ) (cs : List ℤ) (ss : List ℕ) (cs' : List ℤ) (ss' : List ℕ) (left : ℕ) : Type 0 where
+pub record Applied (d m : ℕ) (ks : List ℕ) (c : ℤ) (s : ℕ) (cs : List ℤ) (ss : List ℕ) (cs' : List ℤ) (ss' : List ℕ) (nonzero : ℕ) : Type 0 where
   pub after : sketch cs' ss' ≡ changedIn (standsIn d m (λ i. getD ks i 0)) true c s (sketch cs ss)
-  pub dirt : left ≡ dirty cs' ss'
+  pub counted : nonzero ≡ nonzeroBuckets cs' ss'

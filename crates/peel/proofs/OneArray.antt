@@ -11,7 +11,7 @@ use Rattle.params.proofs.Changes.{untouched, touch-next}
 use Rattle.params.proofs.Standing.{standing-past}
 use Rattle.sketch.proofs.Standing.{standing-next}
 
--- ys is xs as it was changed in the first i arrays; g i is the place in the next one
+-- ys is xs as it was changed in the first i arrays; g i is the position in the next one
 module _ {A : Type 0} (d : A) (m : ℕ) (g : ℕ → ℕ) (i : ℕ) (h : ℕ → A → A) (xs ys : List A) (low : 1 ≤ m) (small : g i < m) (inside : i * m + g i < length xs) (before : ys ≡ touched (standsIn i m g) h xs) where
   new : standsIn i m g (i * m + g i) ≡ false
   new = standing-past i m g (i * m + g i) low (omega arith)
