@@ -18,16 +18,17 @@ use Rattle.files.specs.Bytes.{word}
 use Rattle.params.proofs.Searches.{and-true}
 use Rattle.params.proofs.Judging.{first-done, refuse-done}
 use Rattle.params.proofs.SameParams.{size-same}
-use Rattle.files.specs.Records.{bodyLength, recordAt, isKind}
+use Rattle.files.specs.Records.{recordAt, isKind, headKind, packetsKind, endKind, headLength, packetsLength, endLength}
 use Rattle.files.specs.Heads.{paramsIn, isHead, headAnswer, openingAnswer}
 use Rattle.files.specs.Turns.{packetPlace}
+use Rattle.files.specs.Fields.{recordsField}
 use Rattle.files.proofs.HeadTrips.{Opened}
 use Rattle.streamfile.specs.Streams.{packetsIn, streamAnswer, StreamRead}
 use Rattle.streamfile.proofs.Accepting.{stream-done}
 use Rattle.desk.specs.declared.states.Stage.the-variants.{Packets, Head, Over}
 use Rattle.desk.specs.declared.states.State.{State}
 use Rattle.desk.specs.declared.states.Fed.{Fed}
-use Rattle.desk.specs.Desk.{fewEnough, beginAnswer, beginOf, started, stageAfter, taken, takenAnswer, afterTaken, isDue, packetsState, dueOf, dueEnd, endedState, secondAnswer, headedState, packetsStage, packetsSketch, endStage, headStage, overStage, rest, inReach, firstPackets, firstEnd, secondHead, secondPackets, secondEnd, fedState, Feeds, finishAnswer}
+use Rattle.desk.specs.Desk.{mostBuckets, fewEnough, beginAnswer, beginOf, started, stageAfter, taken, takenAnswer, afterTaken, isDue, packetsState, dueOf, dueEnd, endedState, secondAnswer, headedState, packetsStage, packetsSketch, endStage, headStage, overStage, rest, offsetsFit, firstPackets, firstEnd, secondHead, secondPackets, secondEnd, fedState, Feeds, finishAnswer}
 use Rattle.desk.proofs.Whole.{whole-record}
 use Rattle.desk.proofs.FirstHead.{begin-settled}
 use Rattle.desk.proofs.InTheRest.{word-at, whole-left}
@@ -36,19 +37,19 @@ use Rattle.desk.proofs.BothStreams.{firstNumber, secondFile, secondBody
 
 -- each stage, where what is due stands there
 packets-pass : (second : Bool) (P : Params) (bs : List ℕ) (S : Sketch) (s : State) → isDue second s ≡ true → takenAnswer P bs S ≡ Done
-    → packetsStage second P bs S s ≡ record { stage = Packets; second = s .second; at = s .at + 9 * taken P bs S; records = s .records + taken P bs S }
+    → packetsStage second P bs S s ≡ record { stage = Packets; second = s .second; at = s .at + packetsLength * taken P bs S; records = s .records + taken P bs S }
 unfolding packetsStage packetsState stageAfter
 packets-pass second P bs S s due done = rw (due, done)
 
-end-passes : (bs : List ℕ) (s : State) → s .stage ≡ Packets → isKind 4 (recordAt bs 0) ≡ true → word bs 1 ≡ s .records → endStage bs s ≡ endedState s
+end-passes : (bs : List ℕ) (s : State) → s .stage ≡ Packets → isKind endKind (recordAt bs 0) ≡ true → word bs recordsField ≡ s .records → endStage bs s ≡ endedState s
 unfolding endStage dueEnd dueOf
 end-passes bs s due whole said =
-    let w = whole-record bs 0 4 whole in
-    rw (due, lt-leb (length bs) 0 (omega (arith, w .1)), ne-eqb (getD bs 0 0) 2 (λ e. omega (arith, w .0)), whole, eq-eqb (word bs 1) (s .records) said)
+    let w = whole-record bs 0 endKind whole in
+    rw (due, lt-leb (length bs) 0 (omega (arith, w .1)), ne-eqb (getD bs 0 0) packetsKind (λ e. omega (arith, w .0)), whole, eq-eqb (word bs recordsField) (s .records) said)
 
-head-passes : (P : Params) (bs : List ℕ) (s : State) → s .stage ≡ Head → isKind 1 (recordAt bs 0) ≡ true → secondAnswer P (paramsIn bs) ≡ Done → headStage P bs s ≡ headedState s
+head-passes : (P : Params) (bs : List ℕ) (s : State) → s .stage ≡ Head → isKind headKind (recordAt bs 0) ≡ true → secondAnswer P (paramsIn bs) ≡ Done → headStage P bs s ≡ headedState s
 unfolding headStage dueOf
-head-passes P bs s due whole same = let w = whole-record bs 0 1 whole in rw (due, lt-leb (length bs) 0 (omega (arith, w .1)), whole, same)
+head-passes P bs s due whole same = let w = whole-record bs 0 headKind whole in rw (due, lt-leb (length bs) 0 (omega (arith, w .1)), whole, same)
 
 over-passes : (bs : List ℕ) (s : State) → s .stage ≡ Over → length bs ≡ 0 → overStage bs s ≡ s
 unfolding overStage
@@ -63,7 +64,7 @@ module _ (P : Params) (bs : List ℕ) (up down : Sketch) (p : Passed P bs up dow
   m = secondNumber P bs up down
 
   abbrev after-packets : State
-  after-packets = record { stage = Packets; second = false; at = 38 + 9 * n; records = 0 + n }
+  after-packets = record { stage = Packets; second = false; at = headLength + packetsLength * n; records = 0 + n }
 
   abbrev after-end : State
   after-end = endedState after-packets
@@ -72,7 +73,7 @@ module _ (P : Params) (bs : List ℕ) (up down : Sketch) (p : Passed P bs up dow
   after-head = headedState after-end
 
   abbrev after-second : State
-  after-second = record { stage = Packets; second = true; at = after-head .at + 9 * m; records = 0 + m }
+  after-second = record { stage = Packets; second = true; at = after-head .at + packetsLength * m; records = 0 + m }
 
   abbrev after-all : State
   after-all = endedState after-second
@@ -81,27 +82,27 @@ module _ (P : Params) (bs : List ℕ) (up down : Sketch) (p : Passed P bs up dow
   at-packets = packets-pass false P bs up started refl (p .first-done)
 
   -- what is left of the bytes at each
-  left : (t : State) (k : ℕ) → t .at ≡ 38 + k → rest started t bs ≡ drop k bs
-  left t k e = ap (λ (i : ℕ). drop i bs) {x = t .at - 38} {y = k} (omega arith)
+  left : (t : State) (k : ℕ) → t .at ≡ headLength + k → rest started t bs ≡ drop k bs
+  left t k e = ap (λ (i : ℕ). drop i bs) {x = t .at - headLength} {y = k} (omega arith)
 
   at-end : firstEnd P bs up down started ≡ after-end
   at-end =
       ap (λ t. endStage (rest started t bs) t) at-packets
-      ∙ ap (λ xs. endStage xs after-packets) (left after-packets (9 * n) refl)
-      ∙ end-passes (drop (9 * n) bs) after-packets refl (p .first-end) (p .first-said ∙ omega arith)
+      ∙ ap (λ xs. endStage xs after-packets) (left after-packets (packetsLength * n) refl)
+      ∙ end-passes (drop (packetsLength * n) bs) after-packets refl (p .first-end) (p .first-said ∙ omega arith)
 
   at-head : secondHead P bs up down started ≡ after-head
   at-head =
       ap (λ t. headStage P (rest started t bs) t) at-end
-      ∙ ap (λ xs. headStage P xs after-end) (left after-end (9 * n + 5) (omega arith))
+      ∙ ap (λ xs. headStage P xs after-end) (left after-end (packetsLength * n + endLength) (omega arith))
       ∙ head-passes P (secondFile P bs up down) after-end refl (p .second-head) (p .second-same)
 
   body-left : rest started after-head bs ≡ secondBody P bs up down
-  body-left = left after-head (9 * n + 5 + 38) (omega arith) ∙ sym (drop-drop 38 (9 * n + 5) bs)
+  body-left = left after-head (packetsLength * n + endLength + headLength) (omega arith) ∙ sym (drop-drop headLength (packetsLength * n + endLength) bs)
 
   into-body : (t : State) (k : ℕ) → t .at ≡ after-head .at + k → rest started t bs ≡ drop k (secondBody P bs up down)
   into-body t k e =
-      left t (9 * n + 5 + 38 + k) (omega arith) ∙ sym (drop-drop k (9 * n + 5 + 38) bs) ∙ ap (drop k) (sym (drop-drop 38 (9 * n + 5) bs))
+      left t (packetsLength * n + endLength + headLength + k) (omega arith) ∙ sym (drop-drop k (packetsLength * n + endLength + headLength) bs) ∙ ap (drop k) (sym (drop-drop headLength (packetsLength * n + endLength) bs))
 
   at-second : secondPackets P bs up down started ≡ after-second
   at-second =
@@ -112,14 +113,14 @@ module _ (P : Params) (bs : List ℕ) (up down : Sketch) (p : Passed P bs up dow
   at-all : secondEnd P bs up down started ≡ after-all
   at-all =
       ap (λ t. endStage (rest started t bs) t) at-second
-      ∙ ap (λ xs. endStage xs after-second) (into-body after-second (9 * m) refl)
-      ∙ end-passes (drop (9 * m) (secondBody P bs up down)) after-second refl (p .second-end) (p .second-said ∙ omega arith)
+      ∙ ap (λ xs. endStage xs after-second) (into-body after-second (packetsLength * m) refl)
+      ∙ end-passes (drop (packetsLength * m) (secondBody P bs up down)) after-second refl (p .second-end) (p .second-said ∙ omega arith)
 
   pub passes : fedState P bs up down started ≡ after-all
   passes =
       ap (λ t. overStage (rest started t bs) t) at-all
-      ∙ ap (λ xs. overStage xs after-all) (into-body after-all (9 * m + 5) (omega arith))
-      ∙ over-passes (drop (9 * m + 5) (secondBody P bs up down)) after-all refl (p .nothing-more)
+      ∙ ap (λ xs. overStage xs after-all) (into-body after-all (packetsLength * m + endLength) (omega arith))
+      ∙ over-passes (drop (packetsLength * m + endLength) (secondBody P bs up down)) after-all refl (p .nothing-more)
 
   -- and what is then in the two sketches
   pub first-sketch : packetsSketch false P bs up started ≡ afterTaken P bs up
@@ -132,11 +133,10 @@ module _ (P : Params) (bs : List ℕ) (up down : Sketch) (p : Passed P bs up dow
 
 -- a is a stream that was read into a fresh sketch: how long it is, and what its head says
 module _ {P : Params} {a : List ℕ} {S : Sketch} (read : StreamRead P a (zeros P) Done S) where
-  file-long : length a ≡ 38 + (9 * packetsIn a + 5)
-  unfolding bodyLength
+  file-long : length a ≡ headLength + (packetsLength * packetsIn a + endLength)
   file-long =
       let e = end-said-done a (packetPlace (packetsIn a)) (packetsIn a) (stream-done P a (zeros P) (sym (read .answer)) .ended) in
-      omega (arith, e .last, whole-record a (packetPlace (packetsIn a)) 4 (e .kind) .1)
+      omega (arith, e .last, whole-record a (packetPlace (packetsIn a)) endKind (e .kind) .1)
 
   file-good : goodParams (paramsIn a) ≡ true
   unfolding streamAnswer openingAnswer
@@ -152,34 +152,34 @@ module _ {P : Params} {a : List ℕ} {S : Sketch} (read : StreamRead P a (zeros 
 module _ {P : Params} {a b : List ℕ} {S T : Sketch} (one : StreamRead P a (zeros P) Done S) (two : StreamRead P b (zeros P) Done T) (few : fewEnough P ≡ true) where
   -- what follows the first head
   abbrev bytes : List ℕ
-  bytes = drop 38 (a ++ b)
+  bytes = drop headLength (a ++ b)
 
-  bytes-long : length bytes ≡ 9 * packetsIn a + 5 + length b
-  bytes-long = length-drop 38 (a ++ b) ∙ omega (arith, length-append a b, file-long one)
+  bytes-long : length bytes ≡ packetsLength * packetsIn a + endLength + length b
+  bytes-long = length-drop headLength (a ++ b) ∙ omega (arith, length-append a b, file-long one)
 
-  first-same : (j : ℕ) → j < 9 * packetsIn a + 5 → getD a (38 + j) 0 ≡ getD bytes j 0
-  first-same j l = sym (getD-drop 38 (a ++ b) j 0 ∙ List·getD-append a b 0 (38 + j) (omega (arith, file-long one)))
+  first-same : (j : ℕ) → j < packetsLength * packetsIn a + endLength → getD a (headLength + j) 0 ≡ getD bytes j 0
+  first-same j l = sym (getD-drop headLength (a ++ b) j 0 ∙ List·getD-append a b 0 (headLength + j) (omega (arith, file-long one)))
 
-  second-same : (j : ℕ) → j < 9 * packetsIn b + 5 → getD b (38 + j) 0 ≡ getD (drop 38 b) j 0
-  second-same j l = sym (getD-drop 38 b j 0)
+  second-same : (j : ℕ) → j < packetsLength * packetsIn b + endLength → getD b (headLength + j) 0 ≡ getD (drop headLength b) j 0
+  second-same j l = sym (getD-drop headLength b j 0)
 
   first-back : (taken P bytes (zeros P) ≡ packetsIn a) × (takenAnswer P bytes (zeros P) ≡ Done)
   first-back = all-back P a bytes (packetsIn a) (file-long one) (omega (arith, bytes-long)) first-same one refl
 
-  second-room : 9 * packetsIn b + 5 ≤ length (drop 38 b)
-  second-room = omega (arith, length-drop 38 b, file-long two)
+  second-room : packetsLength * packetsIn b + endLength ≤ length (drop headLength b)
+  second-room = omega (arith, length-drop headLength b, file-long two)
 
-  second-back : (taken P (drop 38 b) (zeros P) ≡ packetsIn b) × (takenAnswer P (drop 38 b) (zeros P) ≡ Done)
-  second-back = all-back P b (drop 38 b) (packetsIn b) (file-long two) second-room second-same two refl
+  second-back : (taken P (drop headLength b) (zeros P) ≡ packetsIn b) × (takenAnswer P (drop headLength b) (zeros P) ≡ Done)
+  second-back = all-back P b (drop headLength b) (packetsIn b) (file-long two) second-room second-same two refl
 
   file-is : secondFile P bytes (zeros P) (zeros P) ≡ b
   file-is =
-      ap (λ (k : ℕ). drop (9 * k + 5) bytes) (first-back .0)
-      ∙ drop-drop (9 * packetsIn a + 5) 38 (a ++ b)
-      ∙ drop-at a b (38 + (9 * packetsIn a + 5)) (file-long one)
+      ap (λ (k : ℕ). drop (packetsLength * k + endLength) bytes) (first-back .0)
+      ∙ drop-drop (packetsLength * packetsIn a + endLength) headLength (a ++ b)
+      ∙ drop-at a b (headLength + (packetsLength * packetsIn a + endLength)) (file-long one)
 
-  body-is : secondBody P bytes (zeros P) (zeros P) ≡ drop 38 b
-  body-is = ap (drop 38) file-is
+  body-is : secondBody P bytes (zeros P) (zeros P) ≡ drop headLength b
+  body-is = ap (drop headLength) file-is
 
   number-is-second : secondNumber P bytes (zeros P) (zeros P) ≡ packetsIn b
   number-is-second = ap (λ xs. taken P xs (zeros P)) body-is ∙ second-back .0
@@ -188,33 +188,32 @@ module _ {P : Params} {a b : List ℕ} {S T : Sketch} (one : StreamRead P a (zer
   unfolding secondAnswer fewEnough
   answer-same =
       let same = file-opened two .same in
-      let small : leb (size (paramsIn b)) 1536 ≡ true = ap (λ (k : ℕ). leb k 1536) (sym (size-same P (paramsIn b) same)) ∙ few in
+      let small : leb (size (paramsIn b)) mostBuckets ≡ true = ap (λ (k : ℕ). leb k mostBuckets) (sym (size-same P (paramsIn b) same)) ∙ few in
       rw (file-good two, small, same)
 
   all-stand : Passed P bytes (zeros P) (zeros P)
-  unfolding bodyLength
   all-stand =
       record {
         first-done = first-back .1;
-        first-end = rw (first-back .0) (whole-left bytes (9 * packetsIn a) 4 (omega arith) (end-back P a bytes (packetsIn a) (file-long one) (omega (arith, bytes-long)) first-same one refl));
-        first-said = rw (first-back .0) (word-at bytes (9 * packetsIn a) 1 ∙ said-back P a bytes (packetsIn a) (file-long one) (omega (arith, bytes-long)) first-same one refl);
+        first-end = rw (first-back .0) (whole-left bytes (packetsLength * packetsIn a) endKind (omega arith) (end-back P a bytes (packetsIn a) (file-long one) (omega (arith, bytes-long)) first-same one refl));
+        first-said = rw (first-back .0) (word-at bytes (packetsLength * packetsIn a) recordsField ∙ said-back P a bytes (packetsIn a) (file-long one) (omega (arith, bytes-long)) first-same one refl);
         second-head = rw file-is (file-opened two .head);
         second-same = rw file-is answer-same;
         second-done = rw body-is (second-back .1);
-        second-end = rw (number-is-second, body-is) (whole-left (drop 38 b) (9 * packetsIn b) 4 (omega arith) (end-back P b (drop 38 b) (packetsIn b) (file-long two) second-room second-same two refl));
-        second-said = rw (number-is-second, body-is) (word-at (drop 38 b) (9 * packetsIn b) 1 ∙ said-back P b (drop 38 b) (packetsIn b) (file-long two) second-room second-same two refl);
-        nothing-more = rw (number-is-second, body-is) (length-drop (9 * packetsIn b + 5) (drop 38 b) ∙ omega (arith, length-drop 38 b, file-long two));
+        second-end = rw (number-is-second, body-is) (whole-left (drop headLength b) (packetsLength * packetsIn b) endKind (omega arith) (end-back P b (drop headLength b) (packetsIn b) (file-long two) second-room second-same two refl));
+        second-said = rw (number-is-second, body-is) (word-at (drop headLength b) (packetsLength * packetsIn b) recordsField ∙ said-back P b (drop headLength b) (packetsIn b) (file-long two) second-room second-same two refl);
+        nothing-more = rw (number-is-second, body-is) (length-drop (packetsLength * packetsIn b + endLength) (drop headLength b) ∙ omega (arith, length-drop headLength b, file-long two));
       }
 
   -- so the desk, fed with them, finds at the end of the input that nothing more is due, and has the readers' sketches
-  pub accepts : (r : Fed) (up down : Sketch) → inReach bytes started ≡ true → Feeds P bytes (zeros P) (zeros P) started r up down
+  pub accepts : (r : Fed) (up down : Sketch) → offsetsFit bytes started ≡ true → Feeds P bytes (zeros P) (zeros P) started r up down
       → (finishAnswer (r .state .stage) (r .state .at) ≡ Done) × (up ≡ S) × (down ≡ T)
   accepts r up down near fed =
       let came = rw near at (fed .state) ∙ passes P bytes (zeros P) (zeros P) all-stand in
       let second = rw near at (fed .downstream) ∙ second-sketch P bytes (zeros P) (zeros P) all-stand ∙ ap (λ xs. afterTaken P xs (zeros P)) body-is in (
         ap (λ s. finishAnswer (s .stage) (s .at)) came,
         rw near at (fed .upstream) ∙ first-sketch P bytes (zeros P) (zeros P) all-stand ∙ sketch-back P a bytes (packetsIn a) (file-long one) (omega (arith, bytes-long)) first-same one refl,
-        second ∙ sketch-back P b (drop 38 b) (packetsIn b) (file-long two) second-room second-same two refl,
+        second ∙ sketch-back P b (drop headLength b) (packetsIn b) (file-long two) second-room second-same two refl,
       )
 
   -- and begins with the first one's parameters
@@ -222,5 +221,5 @@ module _ {P : Params} {a b : List ℕ} {S T : Sketch} (one : StreamRead P a (zer
   unfolding beginAnswer headAnswer first kept fewEnough
   begins =
       let opened = file-opened one in
-      let small : leb (size (paramsIn a)) 1536 ≡ true = ap (λ (k : ℕ). leb k 1536) (sym (size-same P (paramsIn a) (opened .same))) ∙ few in
+      let small : leb (size (paramsIn a)) mostBuckets ≡ true = ap (λ (k : ℕ). leb k mostBuckets) (sym (size-same P (paramsIn a) (opened .same))) ∙ few in
       begin-settled a b (omega (arith, file-long one)) ∙ rw (opened .head, file-good one, small)

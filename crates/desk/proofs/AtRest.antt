@@ -16,9 +16,10 @@ use Rattle.sketch.specs.Sketch.{Sketch}
 use Rattle.params.proofs.Searches.{and-true}
 use Rattle.params.proofs.Lowest.{least-lowest}
 use Rattle.files.specs.Bytes.{word}
-use Rattle.files.specs.Records.{bodyLength, recordAt, isKind}
+use Rattle.files.specs.Records.{recordAt, isKind, headKind, packetsKind, endKind, packetsLength}
 use Rattle.files.specs.Heads.{paramsIn}
 use Rattle.files.specs.Turns.{packetFrom, recordsOf}
+use Rattle.files.specs.Fields.{recordsField}
 use Rattle.files.proofs.Standing.{nothing-stands}
 use Rattle.desk.proofs.Whole.{whole-record}
 use Rattle.streamfile.specs.Streams.{packetsFrom}
@@ -37,22 +38,21 @@ use Rattle.desk.proofs.OneRecord.{waitsAt, waits}
 use Rattle.desk.proofs.Reaching.{rest-rest}
 
 -- after all packets at hand no whole one stands there
-none-after-all : (bs : List ℕ) → isKind 2 (recordAt bs (packetFrom 0 (packetsFrom 0 bs))) ≡ false
+none-after-all : (bs : List ℕ) → isKind packetsKind (recordAt bs (packetFrom 0 (packetsFrom 0 bs))) ≡ false
 unfolding recordsOf
 none-after-all bs = at (ltb (packetsFrom 0 bs) (length bs)) refl
   where
-    at : (b : Bool) → ltb (packetsFrom 0 bs) (length bs) ≡ b → isKind 2 (recordAt bs (packetFrom 0 (packetsFrom 0 bs))) ≡ false
-    at true e = not-true _ (least-lowest (length bs) (λ k. not (isKind 2 (recordAt bs (packetFrom 0 k)))) (ltb-true _ _ e) .here)
-    at false e = ap (isKind 2) (nothing-stands bs (packetFrom 0 (packetsFrom 0 bs)) (omega (arith, ltb-false (packetsFrom 0 bs) (length bs) e)))
+    at : (b : Bool) → ltb (packetsFrom 0 bs) (length bs) ≡ b → isKind packetsKind (recordAt bs (packetFrom 0 (packetsFrom 0 bs))) ≡ false
+    at true e = not-true _ (least-lowest (length bs) (λ k. not (isKind packetsKind (recordAt bs (packetFrom 0 k)))) (ltb-true _ _ e) .here)
+    at false e = ap (isKind packetsKind) (nothing-stands bs (packetFrom 0 (packetsFrom 0 bs)) (omega (arith, ltb-false (packetsFrom 0 bs) (length bs) e)))
 
-no-packet-left : (bs : List ℕ) → isKind 2 (recordAt (drop (9 * packetsFrom 0 bs) bs) 0) ≡ false
-unfolding bodyLength
-no-packet-left bs = at (isKind 2 (recordAt (drop (9 * packetsFrom 0 bs) bs) 0)) refl
+no-packet-left : (bs : List ℕ) → isKind packetsKind (recordAt (drop (packetsLength * packetsFrom 0 bs) bs) 0) ≡ false
+no-packet-left bs = at (isKind packetsKind (recordAt (drop (packetsLength * packetsFrom 0 bs) bs) 0)) refl
   where
-    at : (b : Bool) → isKind 2 (recordAt (drop (9 * packetsFrom 0 bs) bs) 0) ≡ b → b ≡ false
+    at : (b : Bool) → isKind packetsKind (recordAt (drop (packetsLength * packetsFrom 0 bs) bs) 0) ≡ b → b ≡ false
     at true e =
-        let here : packetFrom 0 (packetsFrom 0 bs) ≡ 9 * packetsFrom 0 bs = omega arith in
-        absurd (true≢false (sym (whole-at bs (9 * packetsFrom 0 bs) 2 (omega arith) e) ∙ rw here at (none-after-all bs)))
+        let here : packetFrom 0 (packetsFrom 0 bs) ≡ packetsLength * packetsFrom 0 bs = omega arith in
+        absurd (true≢false (sym (whole-at bs (packetsLength * packetsFrom 0 bs) packetsKind (omega arith) e) ∙ rw here at (none-after-all bs)))
     at false e = refl
 
 same-flag : (b : Bool) → Bool·beq b b ≡ true
@@ -61,30 +61,30 @@ same-flag false = refl
 
 -- each stage, by what it leaves due
 packets-settled : (second : Bool) (P : Params) (bs : List ℕ) (S : Sketch) (s : State) → packetsStage second P bs S s .stage ≡ Packets → packetsStage second P bs S s .second ≡ second
-    → isKind 2 (recordAt (rest s (packetsStage second P bs S s) bs) 0) ≡ false
+    → isKind packetsKind (recordAt (rest s (packetsStage second P bs S s) bs) 0) ≡ false
 unfolding packetsState
 packets-settled second P bs S s p q = ⊎-elim waiting all (packets-back second P bs S s (ap live p))
   where
-    waiting : (isDue second s ≡ false) × (packetsStage second P bs S s ≡ s) → isKind 2 (recordAt (rest s (packetsStage second P bs S s) bs) 0) ≡ false
+    waiting : (isDue second s ≡ false) × (packetsStage second P bs S s ≡ s) → isKind packetsKind (recordAt (rest s (packetsStage second P bs S s) bs) 0) ≡ false
     waiting h =
         let stage : s .stage ≡ Packets = sym (ap (λ t. t .stage) (h .1)) ∙ p in
         let flag : s .second ≡ second = sym (ap (λ t. t .second) (h .1)) ∙ q in
         let due : isDue second s ≡ true = rw (stage, flag) (same-flag second) in
         absurd (true≢false (sym due ∙ h .0))
 
-    all : TakenBy second P bs S s (packetsStage second P bs S s) → isKind 2 (recordAt (rest s (packetsStage second P bs S s) bs) 0) ≡ false
+    all : TakenBy second P bs S s (packetsStage second P bs S s) → isKind packetsKind (recordAt (rest s (packetsStage second P bs S s) bs) 0) ≡ false
     all t =
         let n = all-taken P bs S (t .done) .number in
-        let at : packetsStage second P bs S s .at ≡ s .at + 9 * taken P bs S = ap (λ t. t .at) (t .next) in
-        let left : rest s (packetsStage second P bs S s) bs ≡ drop (9 * packetsFrom 0 bs) bs = ap (λ (i : ℕ). drop i bs) {x = packetsStage second P bs S s .at - s .at} {y = 9 * packetsFrom 0 bs} (omega arith) in
+        let at : packetsStage second P bs S s .at ≡ s .at + packetsLength * taken P bs S = ap (λ t. t .at) (t .next) in
+        let left : rest s (packetsStage second P bs S s) bs ≡ drop (packetsLength * packetsFrom 0 bs) bs = ap (λ (i : ℕ). drop i bs) {x = packetsStage second P bs S s .at - s .at} {y = packetsLength * packetsFrom 0 bs} (omega arith) in
         rw left (no-packet-left bs)
 
 -- a whole end is not waited for
-end-here : (bs : List ℕ) → isKind 4 (recordAt bs 0) ≡ true → notYet (dueEnd bs) ≡ false
+end-here : (bs : List ℕ) → isKind endKind (recordAt bs 0) ≡ true → notYet (dueEnd bs) ≡ false
 unfolding dueEnd dueOf
 end-here bs w =
-    let r = whole-record bs 0 4 w in
-    rw (lt-leb (length bs) 0 (omega (arith, r .1)), ne-eqb (getD bs 0 0) 2 (λ e. omega (arith, r .0)), w)
+    let r = whole-record bs 0 endKind w in
+    rw (lt-leb (length bs) 0 (omega (arith, r .1)), ne-eqb (getD bs 0 0) packetsKind (λ e. omega (arith, r .0)), w)
 
 -- an end, or a head, that has left the stage as it was is waited for
 end-still : (bs : List ℕ) (s : State) → endStage bs s .stage ≡ Packets → (endStage bs s ≡ s) × (notYet (dueEnd bs) ≡ true)
@@ -96,31 +96,31 @@ end-still bs s = at (packetsDue (s .stage)) refl (dueEnd bs)
     neither true false = refl
     neither false second = refl
 
-    told : (b : Bool) → cond b (endedState s) (stopped Form s) .stage ≡ cond b (cond (s .second) Over Head) (Stopped Form)
-    told true = refl
-    told false = refl
+    judged : (b : Bool) → cond b (endedState s) (stopped Form s) .stage ≡ cond b (cond (s .second) Over Head) (Stopped Form)
+    judged true = refl
+    judged false = refl
 
     at : (b : Bool) → packetsDue (s .stage) ≡ b → (d : Due) → cond b (endState d bs s) s .stage ≡ Packets → (cond b (endState d bs s) s ≡ s) × (notYet d ≡ true)
     at false q d p = absurd (true≢false (sym (ap packetsDue p) ∙ q))
     at true q NotYet p = (refl, refl)
     at true q Other p = absurd (true≢false (sym (ap packetsDue p)))
     at true q Here p =
-        let same = eqb (word bs 1) (s .records) in
-        absurd (true≢false (sym (ap packetsDue (sym (told same) ∙ p)) ∙ neither same (s .second)))
+        let same = eqb (word bs recordsField) (s .records) in
+        absurd (true≢false (sym (ap packetsDue (sym (judged same) ∙ p)) ∙ neither same (s .second)))
 
-head-still : (P : Params) (bs : List ℕ) (s : State) → headStage P bs s .stage ≡ Head → (headStage P bs s ≡ s) × (notYet (dueOf 1 bs) ≡ true)
+head-still : (P : Params) (bs : List ℕ) (s : State) → headStage P bs s .stage ≡ Head → (headStage P bs s ≡ s) × (notYet (dueOf headKind bs) ≡ true)
 unfolding headStage
-head-still P bs s = at (headDue (s .stage)) refl (dueOf 1 bs)
+head-still P bs s = at (headDue (s .stage)) refl (dueOf headKind bs)
   where
-    told : (r : Answer) → headDue (answered r s (headedState s) .stage) ≡ false
-    told Done = refl
-    told (Refused w k) = refl
+    judged : (r : Answer) → headDue (answered r s (headedState s) .stage) ≡ false
+    judged Done = refl
+    judged (Refused w k) = refl
 
     at : (b : Bool) → headDue (s .stage) ≡ b → (d : Due) → cond b (headState d P bs s) s .stage ≡ Head → (cond b (headState d P bs s) s ≡ s) × (notYet d ≡ true)
     at false q d p = absurd (true≢false (sym (ap headDue p) ∙ q))
     at true q NotYet p = (refl, refl)
     at true q Other p = absurd (true≢false (sym (ap headDue p)))
-    at true q Here p = absurd (true≢false (sym (ap headDue p) ∙ told (secondAnswer P (paramsIn bs))))
+    at true q Here p = absurd (true≢false (sym (ap headDue p) ∙ judged (secondAnswer P (paramsIn bs))))
 
 over-still : (bs : List ℕ) (s : State) → live (overStage bs s .stage) ≡ true → overStage bs s ≡ s
 unfolding overStage
@@ -132,11 +132,11 @@ over-still bs s = at (overDue (s .stage) && not (leb (length bs) 0))
 
 -- the stages one after the other
 module _ (P : Params) (S : Sketch) (bs : List ℕ) (s a b c d e f : State)
-    (a-settled : a .stage ≡ Packets → a .second ≡ false → isKind 2 (recordAt (rest s a bs) 0) ≡ false)
+    (a-settled : a .stage ≡ Packets → a .second ≡ false → isKind packetsKind (recordAt (rest s a bs) 0) ≡ false)
     (b-still : b .stage ≡ Packets → (b ≡ a) × (notYet (dueEnd (rest s a bs)) ≡ true))
-    (c-still : c .stage ≡ Head → (c ≡ b) × (notYet (dueOf 1 (rest s b bs)) ≡ true))
+    (c-still : c .stage ≡ Head → (c ≡ b) × (notYet (dueOf headKind (rest s b bs)) ≡ true))
     (c-came : live (c .stage) ≡ true → (c ≡ b) ⊎ HeadedBy P (rest s b bs) b c)
-    (d-settled : d .stage ≡ Packets → d .second ≡ true → isKind 2 (recordAt (rest s d bs) 0) ≡ false)
+    (d-settled : d .stage ≡ Packets → d .second ≡ true → isKind packetsKind (recordAt (rest s d bs) 0) ≡ false)
     (d-came : live (d .stage) ≡ true → ((isDue true c ≡ false) × (d ≡ c)) ⊎ TakenBy true P (rest s c bs) S c d)
     (e-still : e .stage ≡ Packets → (e ≡ d) × (notYet (dueEnd (rest s d bs)) ≡ true))
     (e-came : live (e .stage) ≡ true → (e ≡ d) ⊎ EndedBy (rest s d bs) d e)
@@ -166,12 +166,12 @@ module _ (P : Params) (S : Sketch) (bs : List ℕ) (s a b c d e f : State)
       let h = b-still (rw (dc, cb) at p) in
       (dc ∙ cb ∙ h .0, h .1)
 
-  no-packet : d .stage ≡ Packets → (x : Bool) → d .second ≡ x → isKind 2 (recordAt (rest s d bs) 0) ≡ false
+  no-packet : d .stage ≡ Packets → (x : Bool) → d .second ≡ x → isKind packetsKind (recordAt (rest s d bs) 0) ≡ false
   no-packet p true q = d-settled p q
   no-packet p false q = let h = first-stream p q .0 in rw h (a-settled (rw h at p) (rw h at q))
 
   -- after the first end a head is due, which is waited for
-  head-waited : e .stage ≡ Head → notYet (dueOf 1 (rest s e bs)) ≡ true
+  head-waited : e .stage ≡ Head → notYet (dueOf headKind (rest s e bs)) ≡ true
   unfolding packetsState stageAfter
   head-waited p = ⊎-elim same ended (e-came (ap live p))
     where
@@ -180,7 +180,7 @@ module _ (P : Params) (S : Sketch) (bs : List ℕ) (s a b c d e f : State)
           let packets : d .stage ≡ Packets = ap (λ s. s .stage) (t .next) ∙ ap stageAfter (t .done) in
           absurd (true≢false (sym (ap headDue q) ∙ ap headDue packets))
 
-      same : e ≡ d → notYet (dueOf 1 (rest s e bs)) ≡ true
+      same : e ≡ d → notYet (dueOf headKind (rest s e bs)) ≡ true
       same q =
           let stage : d .stage ≡ Head = rw q at p in
           let dc = ⊎-elim (λ h. h .1) (taken-so stage) (d-came (ap live stage)) in
@@ -191,7 +191,7 @@ module _ (P : Params) (S : Sketch) (bs : List ℕ) (s a b c d e f : State)
       in-first true z = absurd (true≢false (sym (ap headDue z)))
       in-first false z = refl
 
-      ended : EndedBy (rest s d bs) d e → notYet (dueOf 1 (rest s e bs)) ≡ true
+      ended : EndedBy (rest s d bs) d e → notYet (dueOf headKind (rest s e bs)) ≡ true
       ended w =
           let h = first-stream (w .due) (in-first (d .second) (sym (ap (λ s. s .stage) (w .next)) ∙ p)) in
           absurd (true≢false (sym (h .1) ∙ rw (h .0) at (end-here (rest s d bs) (w .whole))))
@@ -232,7 +232,7 @@ module _ (P : Params) (bs : List ℕ) (up down : Sketch) (s : State) where
   to-c : Onward bs s c
   to-c = onward-then bs s b c to-b (head-onward P (rest s b bs) b)
 
-  settled : d .stage ≡ Packets → d .second ≡ true → isKind 2 (recordAt (rest s d bs) 0) ≡ false
+  settled : d .stage ≡ Packets → d .second ≡ true → isKind packetsKind (recordAt (rest s d bs) 0) ≡ false
   settled p q = rw (← rest-rest bs s c d to-c (packets-onward true P (rest s c bs) down c)) (packets-settled true P (rest s c bs) down c p q)
 
   pub fed-waits : waits (rest s (fedState P bs up down s) bs) (fedState P bs up down s) ≡ true

@@ -14,8 +14,9 @@ use Rattle.params.specs.declared.answers.Answer.{Answer}
 use Rattle.params.specs.declared.answers.Answer.the-variants.{Done, Refused}
 use Rattle.sketch.specs.Sketch.{Sketch}
 use Rattle.files.specs.Bytes.{word}
-use Rattle.files.specs.Records.{recordAt, isKind}
+use Rattle.files.specs.Records.{recordAt, isKind, headKind, endKind}
 use Rattle.files.specs.Heads.{paramsIn}
+use Rattle.files.specs.Fields.{recordsField}
 use Rattle.desk.specs.declared.states.Stage.{Stage}
 use Rattle.desk.specs.declared.states.Stage.the-variants.{Packets, Head, Over, Refused as Stopped}
 use Rattle.desk.specs.declared.states.State.{State}
@@ -68,48 +69,48 @@ packets-back second P bs S s = at (isDue second s) refl
 -- an end: not there, or there with the right number
 pub record EndedBy (bs : List ℕ) (s t : State) : Type 0 where
   pub due : s .stage ≡ Packets
-  pub whole : isKind 4 (recordAt bs 0) ≡ true
-  pub said : word bs 1 ≡ s .records
+  pub whole : isKind endKind (recordAt bs 0) ≡ true
+  pub said : word bs recordsField ≡ s .records
   pub next : t ≡ endedState s
 
 pub end-back : (bs : List ℕ) (s : State) → live (endStage bs s .stage) ≡ true → (endStage bs s ≡ s) ⊎ EndedBy bs s (endStage bs s)
 unfolding endStage
 end-back bs s = at (packetsDue (s .stage)) refl (dueEnd bs) refl
   where
-    told : (b : Bool) → eqb (word bs 1) (s .records) ≡ b → s .stage ≡ Packets → isKind 4 (recordAt bs 0) ≡ true → live (cond b (endedState s) (stopped Form s) .stage) ≡ true
+    judged : (b : Bool) → eqb (word bs recordsField) (s .records) ≡ b → s .stage ≡ Packets → isKind endKind (recordAt bs 0) ≡ true → live (cond b (endedState s) (stopped Form s) .stage) ≡ true
         → (cond b (endedState s) (stopped Form s) ≡ s) ⊎ EndedBy bs s (cond b (endedState s) (stopped Form s))
-    told true q p w e = inr record { due = p; whole = w; said = eqb-true _ _ q; next = refl }
-    told false q p w e = absurd (true≢false (sym e))
+    judged true q p w e = inr record { due = p; whole = w; said = eqb-true _ _ q; next = refl }
+    judged false q p w e = absurd (true≢false (sym e))
 
     at : (b : Bool) → packetsDue (s .stage) ≡ b → (d : Due) → dueEnd bs ≡ d → live (cond b (endState d bs s) s .stage) ≡ true
         → (cond b (endState d bs s) s ≡ s) ⊎ EndedBy bs s (cond b (endState d bs s) s)
     at false p d q e = inl refl
     at true p NotYet q e = inl refl
     at true p Other q e = absurd (true≢false (sym e))
-    at true p Here q e = told (eqb (word bs 1) (s .records)) refl (packets-stage _ p) (end-whole bs q) e
+    at true p Here q e = judged (eqb (word bs recordsField) (s .records)) refl (packets-stage _ p) (end-whole bs q) e
 
 -- the second head: not there, or there with the same parameters
 pub record HeadedBy (P : Params) (bs : List ℕ) (s t : State) : Type 0 where
   pub due : s .stage ≡ Head
-  pub whole : isKind 1 (recordAt bs 0) ≡ true
+  pub whole : isKind headKind (recordAt bs 0) ≡ true
   pub same : secondAnswer P (paramsIn bs) ≡ Done
   pub next : t ≡ headedState s
 
 pub head-back : (P : Params) (bs : List ℕ) (s : State) → live (headStage P bs s .stage) ≡ true → (headStage P bs s ≡ s) ⊎ HeadedBy P bs s (headStage P bs s)
 unfolding headStage
-head-back P bs s = at (headDue (s .stage)) refl (dueOf 1 bs) refl
+head-back P bs s = at (headDue (s .stage)) refl (dueOf headKind bs) refl
   where
-    told : (r : Answer) → secondAnswer P (paramsIn bs) ≡ r → s .stage ≡ Head → isKind 1 (recordAt bs 0) ≡ true → live (answered r s (headedState s) .stage) ≡ true
+    judged : (r : Answer) → secondAnswer P (paramsIn bs) ≡ r → s .stage ≡ Head → isKind headKind (recordAt bs 0) ≡ true → live (answered r s (headedState s) .stage) ≡ true
         → (answered r s (headedState s) ≡ s) ⊎ HeadedBy P bs s (answered r s (headedState s))
-    told Done q p w e = inr record { due = p; whole = w; same = q; next = refl }
-    told (Refused v k) q p w e = absurd (true≢false (sym e))
+    judged Done q p w e = inr record { due = p; whole = w; same = q; next = refl }
+    judged (Refused v k) q p w e = absurd (true≢false (sym e))
 
-    at : (b : Bool) → headDue (s .stage) ≡ b → (d : Due) → dueOf 1 bs ≡ d → live (cond b (headState d P bs s) s .stage) ≡ true
+    at : (b : Bool) → headDue (s .stage) ≡ b → (d : Due) → dueOf headKind bs ≡ d → live (cond b (headState d P bs s) s .stage) ≡ true
         → (cond b (headState d P bs s) s ≡ s) ⊎ HeadedBy P bs s (cond b (headState d P bs s) s)
     at false p d q e = inl refl
     at true p NotYet q e = inl refl
     at true p Other q e = absurd (true≢false (sym e))
-    at true p Here q e = told (secondAnswer P (paramsIn bs)) refl (head-stage _ p) (here-whole 1 bs q) e
+    at true p Here q e = judged (secondAnswer P (paramsIn bs)) refl (head-stage _ p) (here-whole headKind bs q) e
 
 -- nothing more was due, and no byte stood there
 pub over-back : (bs : List ℕ) (s : State) → overStage bs s .stage ≡ Over → (overStage bs s ≡ s) × (length bs ≡ 0)

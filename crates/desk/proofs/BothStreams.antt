@@ -12,8 +12,9 @@ use Rattle.params.specs.declared.answers.Answer.the-variants.{Done}
 use Rattle.sketch.specs.Sketch.{Sketch}
 use Rattle.params.proofs.Searches.{and-true}
 use Rattle.files.specs.Bytes.{word}
-use Rattle.files.specs.Records.{recordAt, isKind}
+use Rattle.files.specs.Records.{recordAt, isKind, headKind, endKind, headLength, packetsLength, endLength}
 use Rattle.files.specs.Heads.{paramsIn}
+use Rattle.files.specs.Fields.{recordsField}
 use Rattle.desk.specs.declared.states.Stage.{Stage}
 use Rattle.desk.specs.declared.states.Stage.the-variants.{Packets, Head, Over}
 use Rattle.desk.specs.declared.states.State.{State}
@@ -103,63 +104,63 @@ module _ (P : Params) (bs : List ℕ) (up down : Sketch) where
   firstNumber = taken P bs up
 
   abbrev pub secondFile : List ℕ
-  secondFile = drop (9 * firstNumber + 5) bs
+  secondFile = drop (packetsLength * firstNumber + endLength) bs
 
   abbrev pub secondBody : List ℕ
-  secondBody = drop 38 secondFile
+  secondBody = drop headLength secondFile
 
   abbrev pub secondNumber : ℕ
   secondNumber = taken P secondBody down
 
   pub record Passed : Type 0 where
     pub first-done : takenAnswer P bs up ≡ Done
-    pub first-end : isKind 4 (recordAt (drop (9 * firstNumber) bs) 0) ≡ true
-    pub first-said : word (drop (9 * firstNumber) bs) 1 ≡ firstNumber
-    pub second-head : isKind 1 (recordAt secondFile 0) ≡ true
+    pub first-end : isKind endKind (recordAt (drop (packetsLength * firstNumber) bs) 0) ≡ true
+    pub first-said : word (drop (packetsLength * firstNumber) bs) recordsField ≡ firstNumber
+    pub second-head : isKind headKind (recordAt secondFile 0) ≡ true
     pub second-same : secondAnswer P (paramsIn secondFile) ≡ Done
     pub second-done : takenAnswer P secondBody down ≡ Done
-    pub second-end : isKind 4 (recordAt (drop (9 * secondNumber) secondBody) 0) ≡ true
-    pub second-said : word (drop (9 * secondNumber) secondBody) 1 ≡ secondNumber
-    pub nothing-more : length (drop (9 * secondNumber + 5) secondBody) ≡ 0
+    pub second-end : isKind endKind (recordAt (drop (packetsLength * secondNumber) secondBody) 0) ≡ true
+    pub second-said : word (drop (packetsLength * secondNumber) secondBody) recordsField ≡ secondNumber
+    pub nothing-more : length (drop (packetsLength * secondNumber + endLength) secondBody) ≡ 0
 
   -- the bytes that are left at an offset
-  left-at : (t : State) (k : ℕ) → t .at ≡ 38 + k → rest started t bs ≡ drop k bs
-  left-at t k q = ap (λ (i : ℕ). drop i bs) {x = t .at - 38} {y = k} (omega arith)
+  left-at : (t : State) (k : ℕ) → t .at ≡ headLength + k → rest started t bs ≡ drop k bs
+  left-at t k q = ap (λ (i : ℕ). drop i bs) {x = t .at - headLength} {y = k} (omega arith)
 
   module _ {a b c d e : State} (ta : TakenBy false P bs up started a) (tb : EndedBy (rest started a bs) a b) (tc : HeadedBy P (rest started b bs) b c)
       (td : TakenBy true P (rest started c bs) down c d) (te : EndedBy (rest started d bs) d e) (none : length (rest started e bs) ≡ 0) where
-    a-left : rest started a bs ≡ drop (9 * firstNumber) bs
+    a-left : rest started a bs ≡ drop (packetsLength * firstNumber) bs
     unfolding packetsState
-    a-left = left-at a (9 * firstNumber) (ap (λ s. s .at) (ta .next))
+    a-left = left-at a (packetsLength * firstNumber) (ap (λ s. s .at) (ta .next))
 
     b-left : rest started b bs ≡ secondFile
     unfolding packetsState
-    b-left = left-at b (9 * firstNumber + 5) (ap (λ s. s .at) (tb .next) ∙ ap (λ s. s .at + 5) (ta .next) ∙ omega arith)
+    b-left = left-at b (packetsLength * firstNumber + endLength) (ap (λ s. s .at) (tb .next) ∙ ap (λ s. s .at + endLength) (ta .next) ∙ omega arith)
 
-    c-at : c .at ≡ 38 + (9 * firstNumber + 5 + 38)
+    c-at : c .at ≡ headLength + (packetsLength * firstNumber + endLength + headLength)
     unfolding packetsState
-    c-at = ap (λ s. s .at) (tc .next) ∙ ap (λ s. s .at + 38) (tb .next) ∙ ap (λ s. s .at + 5 + 38) (ta .next) ∙ omega arith
+    c-at = ap (λ s. s .at) (tc .next) ∙ ap (λ s. s .at + headLength) (tb .next) ∙ ap (λ s. s .at + endLength + headLength) (ta .next) ∙ omega arith
 
     c-left : rest started c bs ≡ secondBody
-    c-left = left-at c (9 * firstNumber + 5 + 38) c-at ∙ sym (drop-drop 38 (9 * firstNumber + 5) bs)
+    c-left = left-at c (packetsLength * firstNumber + endLength + headLength) c-at ∙ sym (drop-drop headLength (packetsLength * firstNumber + endLength) bs)
 
     -- k bytes into the second body
     into : (t : State) (k : ℕ) → t .at ≡ c .at + k → rest started t bs ≡ drop k secondBody
     into t k q =
-        left-at t (9 * firstNumber + 5 + 38 + k) (omega (arith, c-at))
-        ∙ sym (drop-drop k (9 * firstNumber + 5 + 38) bs)
-        ∙ ap (drop k) (sym (drop-drop 38 (9 * firstNumber + 5) bs))
+        left-at t (packetsLength * firstNumber + endLength + headLength + k) (omega (arith, c-at))
+        ∙ sym (drop-drop k (packetsLength * firstNumber + endLength + headLength) bs)
+        ∙ ap (drop k) (sym (drop-drop headLength (packetsLength * firstNumber + endLength) bs))
 
     d-next : d ≡ packetsState P secondBody down c
     d-next = td .next ∙ ap (λ xs. packetsState P xs down c) c-left
 
-    d-left : rest started d bs ≡ drop (9 * secondNumber) secondBody
+    d-left : rest started d bs ≡ drop (packetsLength * secondNumber) secondBody
     unfolding packetsState
-    d-left = into d (9 * secondNumber) (ap (λ s. s .at) d-next)
+    d-left = into d (packetsLength * secondNumber) (ap (λ s. s .at) d-next)
 
-    e-left : rest started e bs ≡ drop (9 * secondNumber + 5) secondBody
+    e-left : rest started e bs ≡ drop (packetsLength * secondNumber + endLength) secondBody
     unfolding packetsState
-    e-left = into e (9 * secondNumber + 5) (ap (λ s. s .at) (te .next) ∙ ap (λ s. s .at + 5) d-next ∙ omega arith)
+    e-left = into e (packetsLength * secondNumber + endLength) (ap (λ s. s .at) (te .next) ∙ ap (λ s. s .at + endLength) d-next ∙ omega arith)
 
     found : Passed
     unfolding packetsState

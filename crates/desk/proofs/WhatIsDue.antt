@@ -12,8 +12,9 @@ use Rattle.params.specs.declared.params.Params.{Params}
 use Rattle.files.specs.declared.fields.End.{End}
 use Rattle.files.specs.declared.fields.End.the-variants.{Of as EndOf}
 use Rattle.files.specs.Bytes.{word}
-use Rattle.files.specs.Records.{recordAt, isKind}
+use Rattle.files.specs.Records.{recordAt, isKind, headKind, packetsKind, endKind}
 use Rattle.files.specs.Layout.{endAt}
+use Rattle.files.specs.Fields.{recordsField}
 use Rattle.files.proofs.fields.End.{the-type as end-type}
 use Rattle.desk.specs.declared.states.Stage.{Stage}
 use Rattle.desk.specs.declared.states.Stage.the-variants.{Packets, Head, Over, Refused as Stopped}
@@ -53,28 +54,28 @@ here-whole kind bs e = at (leb (length bs) 0) (isKind kind (recordAt bs 0)) (eqb
     at false false true q h = absurd (let w : _≡_ {A = ℕ} 0 1 = cc in omega arith)
     at false false false q h = absurd (let w : _≡_ {A = ℕ} 0 1 = cc in omega arith)
 
-pub end-whole : (bs : List ℕ) → dueEnd bs ≡ Here → isKind 4 (recordAt bs 0) ≡ true
+pub end-whole : (bs : List ℕ) → dueEnd bs ≡ Here → isKind endKind (recordAt bs 0) ≡ true
 unfolding dueEnd
-end-whole bs e = at (not (leb (length bs) 0) && eqb (getD bs 0 0) 2) e
+end-whole bs e = at (not (leb (length bs) 0) && eqb (getD bs 0 0) packetsKind) e
   where
-    at : (b : Bool) → cond b NotYet (dueOf 4 bs) ≡ Here → isKind 4 (recordAt bs 0) ≡ true
+    at : (b : Bool) → cond b NotYet (dueOf endKind bs) ≡ Here → isKind endKind (recordAt bs 0) ≡ true
     at true h = absurd (let w : _≡_ {A = ℕ} 0 1 = cc in omega arith)
-    at false h = here-whole 4 bs h
+    at false h = here-whole endKind bs h
 
 -- what a reader finds of an end that is whole
-pub end-said : (bs : List ℕ) (n : ℕ) → isKind 4 (recordAt bs 0) ≡ true → endAt bs 0 ≡ EndOf n → n ≡ word bs 1
+pub end-said : (bs : List ℕ) (n : ℕ) → isKind endKind (recordAt bs 0) ≡ true → endAt bs 0 ≡ EndOf n → n ≡ word bs recordsField
 unfolding endAt
-end-said bs n w e = let said : EndOf (word bs 1) ≡ EndOf n = rw w at e in cc
+end-said bs n w e = let said : EndOf (word bs recordsField) ≡ EndOf n = rw w at e in cc
 
-pub end-not-said : (bs : List ℕ) {r : End} → isKind 4 (recordAt bs 0) ≡ true → r ≡ endAt bs 0 → OneOf (1 ∷ []) (tagOf end-type r) → ⊥
+pub end-not-said : (bs : List ℕ) {r : End} → isKind endKind (recordAt bs 0) ≡ true → r ≡ endAt bs 0 → OneOf (1 ∷ []) (tagOf end-type r) → ⊥
 unfolding endAt
-end-not-said bs {r} w e h = let said : r ≡ EndOf (word bs 1) = rw w at e in miss (1 ∷ []) 0 tt (rw said at h)
+end-not-said bs {r} w e h = let said : r ≡ EndOf (word bs recordsField) = rw w at e in miss (1 ∷ []) 0 tt (rw said at h)
 
 -- where packets, or a head, are due, what stands there decides
 pub end-decides : (bs : List ℕ) (s t : State) (d : Due) → s .stage ≡ Packets → d ≡ dueEnd bs → t ≡ endState d bs s → t ≡ endStage bs s
 unfolding endStage
 end-decides bs s t d e q h = h ∙ rw (e, q)
 
-pub head-decides : (P : Params) (bs : List ℕ) (s t : State) (d : Due) → s .stage ≡ Head → d ≡ dueOf 1 bs → t ≡ headState d P bs s → t ≡ headStage P bs s
+pub head-decides : (P : Params) (bs : List ℕ) (s t : State) (d : Due) → s .stage ≡ Head → d ≡ dueOf headKind bs → t ≡ headState d P bs s → t ≡ headStage P bs s
 unfolding headStage
 head-decides P bs s t d e q h = h ∙ rw (e, q)

@@ -17,8 +17,9 @@ use Rattle.sketch.specs.Sketch.{Sketch}
 use Rattle.sketch.specs.Packets.{stepAnswer, after}
 use Rattle.files.specs.declared.heads.Headed.{Headed}
 use Rattle.files.specs.Bytes.{word}
-use Rattle.files.specs.Records.{recordAt, isKind}
+use Rattle.files.specs.Records.{recordAt, isKind, headKind, packetsKind, endKind, headLength, packetsLength, endLength}
 use Rattle.files.specs.Heads.{paramsIn, headAnswer, noParams}
+use Rattle.files.specs.Fields.{recordsField}
 use Rattle.streamfile.specs.Streams.{packetsFrom, flowFrom, numberFrom, flowsFrom, numbersFrom}
 use Rattle.desk.specs.declared.states.Stage.{Stage}
 use Rattle.desk.specs.declared.states.Stage.the-variants.{Packets, Head, Over, Refused as Stopped}
@@ -27,9 +28,13 @@ use Rattle.desk.specs.declared.stages.Due.{Due}
 use Rattle.desk.specs.declared.stages.Due.the-variants.{Here, NotYet, Other}
 use Rattle.desk.specs.declared.states.Fed.{Fed}
 
--- the first head of the input: as that of any file, and of at most 1536 buckets
+-- a desk takes sketches of at most so many buckets
+abbrev pub mostBuckets : ℕ
+mostBuckets = 1536
+
+-- the first head of the input: as that of any file, and of few enough buckets
 unfoldable pub fewEnough : Params → Bool
-fewEnough P = leb (size P) 1536
+fewEnough P = leb (size P) mostBuckets
 
 unfoldable pub beginAnswer : List ℕ → Answer
 beginAnswer bs = first (headAnswer bs) (refuseIf (not (fewEnough (paramsIn bs))) Param 0 Done)
@@ -42,7 +47,7 @@ beginOf bs = record { answer = beginAnswer bs; params = kept (beginAnswer bs) no
 
 -- after the first head
 abbrev pub started : State
-started = record { stage = Packets; second = false; at = 38; records = 0 }
+started = record { stage = Packets; second = false; at = headLength; records = 0 }
 
 -- refused for what stands next
 abbrev pub stopped : Refusal → State → State
@@ -77,16 +82,16 @@ refuses Done = false
 refuses (Refused w k) = true
 
 -- the answer for the k-th of the packet records at hand, which goes into the sketch that those before it left
-unfoldable pub packetTold : Params → List ℕ → Sketch → ℕ → Answer
-packetTold P bs S k =
+unfoldable pub packetAnswer : Params → List ℕ → Sketch → ℕ → Answer
+packetAnswer P bs S k =
     stepAnswer P false (flowFrom 0 bs k) (numberFrom 0 bs k) (after P (take k (flowsFrom 0 bs)) (take k (numbersFrom 0 bs)) S)
 
 -- how many of them are accepted, up to the first that is refused; and that one's answer
 unfoldable pub taken : Params → List ℕ → Sketch → ℕ
-taken P bs S = least 0 (packetsFrom 0 bs) (λ k. refuses (packetTold P bs S k))
+taken P bs S = least 0 (packetsFrom 0 bs) (λ k. refuses (packetAnswer P bs S k))
 
 unfoldable pub takenAnswer : Params → List ℕ → Sketch → Answer
-takenAnswer P bs S = cond (ltb (taken P bs S) (packetsFrom 0 bs)) (packetTold P bs S (taken P bs S)) Done
+takenAnswer P bs S = cond (ltb (taken P bs S) (packetsFrom 0 bs)) (packetAnswer P bs S (taken P bs S)) Done
 
 unfoldable pub afterTaken : Params → List ℕ → Sketch → Sketch
 afterTaken P bs S = after P (take (taken P bs S) (flowsFrom 0 bs)) (take (taken P bs S) (numbersFrom 0 bs)) S
@@ -100,7 +105,7 @@ packetsState P bs S s =
     record {
       stage = stageAfter (takenAnswer P bs S);
       second = s .second;
-      at = s .at + 9 * taken P bs S;
+      at = s .at + packetsLength * taken P bs S;
       records = s .records + taken P bs S;
     }
 
@@ -113,16 +118,16 @@ dueOf kind bs =
 
 -- where packets are due, an end may stand, and packets that are not whole yet may
 unfoldable pub dueEnd : List ℕ → Due
-dueEnd bs = cond (not (leb (length bs) 0) && eqb (getD bs 0 0) 2) NotYet (dueOf 4 bs)
+dueEnd bs = cond (not (leb (length bs) 0) && eqb (getD bs 0 0) packetsKind) NotYet (dueOf endKind bs)
 
 -- the end of a stream, which says how many records there were: then a head is due, or nothing more
 abbrev pub endedState : State → State
-endedState s = record { stage = cond (s .second) Over Head; second = true; at = s .at + 5; records = 0 }
+endedState s = record { stage = cond (s .second) Over Head; second = true; at = s .at + endLength; records = 0 }
 
 abbrev pub endState : Due → List ℕ → State → State
 endState NotYet bs s = s
 endState Other bs s = stopped Form s
-endState Here bs s = cond (eqb (word bs 1) (s .records)) (endedState s) (stopped Form s)
+endState Here bs s = cond (eqb (word bs recordsField) (s .records)) (endedState s) (stopped Form s)
 
 -- the second head
 unfoldable pub secondAnswer : Params → Params → Answer
@@ -132,7 +137,7 @@ secondAnswer P Q =
     Done)
 
 abbrev pub headedState : State → State
-headedState s = record { stage = Packets; second = true; at = s .at + 38; records = 0 }
+headedState s = record { stage = Packets; second = true; at = s .at + headLength; records = 0 }
 
 abbrev pub answered : Answer → State → State → State
 answered Done s next = next
@@ -154,7 +159,7 @@ unfoldable pub endStage : List ℕ → State → State
 endStage bs s = cond (packetsDue (s .stage)) (endState (dueEnd bs) bs s) s
 
 unfoldable pub headStage : Params → List ℕ → State → State
-headStage P bs s = cond (headDue (s .stage)) (headState (dueOf 1 bs) P bs s) s
+headStage P bs s = cond (headDue (s .stage)) (headState (dueOf headKind bs) P bs s) s
 
 unfoldable pub overStage : List ℕ → State → State
 overStage bs s = cond (overDue (s .stage) && not (leb (length bs) 0)) (stopped Form s) s
@@ -164,8 +169,8 @@ abbrev pub rest : State → State → List ℕ → List ℕ
 rest s t bs = drop (t .at - s .at) bs
 
 -- 64 bits hold the offsets and the numbers of records that these bytes can lead to
-unfoldable pub inReach : List ℕ → State → Bool
-inReach bs s = ltb (s .at + length bs) 18446744073709551616 && ltb (s .records + length bs) 18446744073709551616
+unfoldable pub offsetsFit : List ℕ → State → Bool
+offsetsFit bs s = ltb (s .at + length bs) 18446744073709551616 && ltb (s .records + length bs) 18446744073709551616
 
 -- the upstream's records and its end, the second head, the downstream's records and its end, and nothing more
 module _ (P : Params) (bs : List ℕ) (up down : Sketch) (s : State) where
@@ -189,10 +194,10 @@ module _ (P : Params) (bs : List ℕ) (up down : Sketch) (s : State) where
 
   -- what feeding answers and leaves; a state out of reach takes nothing
   pub record Feeds (r : Fed) (up' down' : Sketch) : Type 0 where
-    pub state : r .state ≡ cond (inReach bs s) fedState s
+    pub state : r .state ≡ cond (offsetsFit bs s) fedState s
     pub used : r .used ≡ r .state .at - s .at
-    pub upstream : up' ≡ cond (inReach bs s) (packetsSketch false P bs up s) up
-    pub downstream : down' ≡ cond (inReach bs s) (packetsSketch true P (rest s secondHead bs) down secondHead) down
+    pub upstream : up' ≡ cond (offsetsFit bs s) (packetsSketch false P bs up s) up
+    pub downstream : down' ≡ cond (offsetsFit bs s) (packetsSketch true P (rest s secondHead bs) down secondHead) down
 
 -- the end of the input: nothing more was due, or a record is cut or missing
 abbrev pub finishAnswer : Stage → ℕ → Answer

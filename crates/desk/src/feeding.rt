@@ -7,7 +7,7 @@ use crate::stages::packets;
 use crate::stages::second_head;
 use crate::states::Fed;
 use crate::states::State;
-use crate::states::in_reach;
+use crate::states::offsets_fit;
 use params::Params;
 
 // Takes all whole records of the bytes at hand, up to one at fault; their first byte is the next of the input. Says how many bytes that used. The
@@ -23,7 +23,7 @@ pub fn feed(
 ) -> Fed
     ensures { λ r. ⌜ Feeds p (now (bytes .entry)) (sketch (now («up_counts» .entry)) (now («up_idsums» .entry))) (sketch (now («down_counts» .entry)) (now («down_idsums» .entry))) s r (sketch (now («up_counts» .exit)) (now («up_idsums» .exit))) (sketch (now («down_counts» .exit)) (now («down_idsums» .exit))) ⌝ }
 {
-    if !in_reach(s, bytes.len()) {
+    if !offsets_fit(s, bytes.len()) {
         return Fed { state: s, used: 0 };
     }
     let from = s.at;

@@ -2,7 +2,7 @@
 ghost use mathlib.Core.Path.{_≡_};
 ghost use mathlib.Core.Bool.{true};
 ghost use Rattle.params.specs.Params.{goodParams};
-ghost use Rattle.files.specs.Records.{recordAt, isKind};
+ghost use Rattle.files.specs.Records.{recordAt, isKind, headKind};
 ghost use Rattle.files.specs.Heads.{paramsIn, noParams};
 ghost use Rattle.desk.specs.Desk.{fewEnough, beginOf, secondAnswer};
 use files::heads::Headed;
@@ -11,12 +11,15 @@ use params::Answer;
 use params::Params;
 use params::Refusal;
 
+// A desk takes sketches of at most so many buckets.
+pub const MOST_BUCKETS: usize = 1536;
+
 // Whether parameters that keep the rules have few enough buckets for a desk.
 fn few_enough(p: Params) -> bool
     requires { ⌜ goodParams p ≡ true ⌝ }
     ensures { λ r. ⌜ r ≡ fewEnough p ⌝ }
 {
-    p.size() <= 1536
+    p.size() <= MOST_BUCKETS
 }
 
 // What a head that is refused says: no parameters.
@@ -35,7 +38,7 @@ fn refused(refusal: Refusal) -> Headed
     }
 }
 
-// Judges the first head of the input, once 38 bytes are at hand or the input has ended.
+// Judges the first head of the input, once as many bytes as a head has are at hand or the input has ended.
 pub fn begin(bytes: &[u8]) -> Headed
     ensures { λ r. ⌜ r ≡ beginOf (now (bytes .entry)) ⌝ }
 {
@@ -53,7 +56,7 @@ pub fn begin(bytes: &[u8]) -> Headed
 
 // Judges a second head that stands first, against the first one's parameters.
 pub(crate) fn judge_second(p: Params, bytes: &[u8]) -> Answer
-    requires { ⌜ isKind 1 (recordAt (now bytes) 0) ≡ true ⌝ }
+    requires { ⌜ isKind headKind (recordAt (now bytes) 0) ≡ true ⌝ }
     ensures { λ r. ⌜ r ≡ secondAnswer p (paramsIn (now (bytes .entry))) ⌝ }
 {
     let h = head(bytes);

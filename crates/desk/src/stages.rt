@@ -2,8 +2,8 @@
 ghost use mathlib.Core.Path.{_≡_};
 ghost use mathlib.Core.Bool.{true};
 ghost use Rattle.sketch.specs.Sketch.{sketch};
-ghost use Rattle.files.specs.Records.{recordAt, isKind};
-ghost use Rattle.desk.specs.Desk.{stageAfter, taken as «taken-of», takenAnswer, afterTaken, dueOf, dueEnd, endState, endStage, headState, headStage, overStage, packetsStage, packetsSketch, inReach};
+ghost use Rattle.files.specs.Records.{recordAt, isKind, headKind, endKind};
+ghost use Rattle.desk.specs.Desk.{stageAfter, taken as «taken-of», takenAnswer, afterTaken, dueOf, dueEnd, endState, endStage, headState, headStage, overStage, packetsStage, packetsSketch, offsetsFit};
 use crate::heads::judge_second;
 use crate::states::Stage;
 use crate::states::State;
@@ -12,6 +12,12 @@ use files::fields::End;
 use files::fields::Packets;
 use files::fields::end_at;
 use files::fields::packets_at;
+use files::records::END;
+use files::records::END_LENGTH;
+use files::records::HEAD;
+use files::records::HEAD_LENGTH;
+use files::records::PACKETS;
+use files::records::PACKETS_LENGTH;
 use files::records::is_kind;
 use params::Answer;
 use params::Params;
@@ -25,15 +31,15 @@ pub(crate) enum Due {
     Other,
 }
 
-// How many packets were taken, and why the next was not.
+// How many packets were taken, and the answer for the next.
 pub(crate) struct Run {
     pub taken: usize,
-    pub told: Answer,
+    pub answer: Answer,
 }
 
 // Takes the packet records that stand first, up to one that is refused.
 fn take_packets(p: Params, counts: &mut [i32], idsums: &mut [u32], bytes: &[u8]) -> Run
-    ensures { λ r. ⌜ r ≡ record { taken = «taken-of» p (now (bytes .entry)) (sketch (now (counts .entry)) (now (idsums .entry))); told = takenAnswer p (now (bytes .entry)) (sketch (now (counts .entry)) (now (idsums .entry))) } ⌝ }
+    ensures { λ r. ⌜ r ≡ record { taken = «taken-of» p (now (bytes .entry)) (sketch (now (counts .entry)) (now (idsums .entry))); answer = takenAnswer p (now (bytes .entry)) (sketch (now (counts .entry)) (now (idsums .entry))) } ⌝ }
     ensures { λ r. ⌜ sketch (now (counts .exit)) (now (idsums .exit)) ≡ afterTaken p (now (bytes .entry)) (sketch (now (counts .entry)) (now (idsums .entry))) ⌝ }
 {
     let mut at = 0;
@@ -43,24 +49,24 @@ fn take_packets(p: Params, counts: &mut [i32], idsums: &mut [u32], bytes: &[u8])
         let Packets::Of(flow, number) = found else {
             break;
         };
-        let told = put_in(p, counts, idsums, flow, number);
-        let Answer::Done = told else {
-            return Run { taken, told };
+        let answer = put_in(p, counts, idsums, flow, number);
+        let Answer::Done = answer else {
+            return Run { taken, answer };
         };
-        at += 9;
+        at += PACKETS_LENGTH;
         taken += 1;
     }
     Run {
         taken,
-        told: Answer::Done,
+        answer: Answer::Done,
     }
 }
 
 // What is due after packets with this answer.
-fn stage_after(told: Answer) -> Stage
-    ensures { λ r. ⌜ r ≡ stageAfter told ⌝ }
+fn stage_after(answer: Answer) -> Stage
+    ensures { λ r. ⌜ r ≡ stageAfter answer ⌝ }
 {
-    match told {
+    match answer {
         Answer::Done => Stage::Packets,
         Answer::Refused(refusal, _) => Stage::Refused(refusal),
     }
@@ -75,7 +81,7 @@ pub(crate) fn packets(
     idsums: &mut [u32],
     bytes: &[u8],
 ) -> State
-    requires { ⌜ inReach (now bytes) s ≡ true ⌝ }
+    requires { ⌜ offsetsFit (now bytes) s ≡ true ⌝ }
     ensures { λ r. ⌜ r ≡ packetsStage second p (now (bytes .entry)) (sketch (now (counts .entry)) (now (idsums .entry))) s ⌝ }
     ensures { λ r. ⌜ sketch (now (counts .exit)) (now (idsums .exit)) ≡ packetsSketch second p (now (bytes .entry)) (sketch (now (counts .entry)) (now (idsums .entry))) s ⌝ }
 {
@@ -87,11 +93,11 @@ pub(crate) fn packets(
         return s;
     }
     let run = take_packets(p, counts, idsums, bytes);
-    let told = run.told;
+    let answer = run.answer;
     State {
-        stage: stage_after(told),
+        stage: stage_after(answer),
         second: s.second,
-        at: s.at + 9 * run.taken,
+        at: s.at + PACKETS_LENGTH * run.taken,
         records: s.records + run.taken,
     }
 }
@@ -119,15 +125,15 @@ fn due_end(bytes: &[u8]) -> Due
     if bytes.len() == 0 {
         return Due::NotYet;
     }
-    if bytes[0] == 2 {
+    if bytes[0] == PACKETS {
         return Due::NotYet;
     }
-    due_of(4, bytes)
+    due_of(END, bytes)
 }
 
 // A whole end stands first.
 fn take_end(s: State, bytes: &[u8]) -> State
-    requires { ⌜ (isKind 4 (recordAt (now bytes) 0) ≡ true) × (inReach (now bytes) s ≡ true) ⌝ }
+    requires { ⌜ (isKind endKind (recordAt (now bytes) 0) ≡ true) × (offsetsFit (now bytes) s ≡ true) ⌝ }
     ensures { λ r. ⌜ r ≡ endState Due.Here (now (bytes .entry)) s ⌝ }
 {
     let found = end_at(bytes, 0);
@@ -140,14 +146,14 @@ fn take_end(s: State, bytes: &[u8]) -> State
     State {
         stage: if s.second { Stage::Over } else { Stage::Head },
         second: true,
-        at: s.at + 5,
+        at: s.at + END_LENGTH,
         records: 0,
     }
 }
 
 // The end of a stream, where packets are due.
 pub(crate) fn end(s: State, bytes: &[u8]) -> State
-    requires { ⌜ inReach (now bytes) s ≡ true ⌝ }
+    requires { ⌜ offsetsFit (now bytes) s ≡ true ⌝ }
     ensures { λ r. ⌜ r ≡ endStage (now (bytes .entry)) s ⌝ }
 {
     let stage = s.stage;
@@ -164,7 +170,7 @@ pub(crate) fn end(s: State, bytes: &[u8]) -> State
 
 // A whole head stands first.
 fn take_head(p: Params, s: State, bytes: &[u8]) -> State
-    requires { ⌜ (isKind 1 (recordAt (now bytes) 0) ≡ true) × (inReach (now bytes) s ≡ true) ⌝ }
+    requires { ⌜ (isKind headKind (recordAt (now bytes) 0) ≡ true) × (offsetsFit (now bytes) s ≡ true) ⌝ }
     ensures { λ r. ⌜ r ≡ headState Due.Here p (now (bytes .entry)) s ⌝ }
 {
     let r = judge_second(p, bytes);
@@ -172,7 +178,7 @@ fn take_head(p: Params, s: State, bytes: &[u8]) -> State
         Answer::Done => State {
             stage: Stage::Packets,
             second: true,
-            at: s.at + 38,
+            at: s.at + HEAD_LENGTH,
             records: 0,
         },
         Answer::Refused(refusal, _) => stop(refusal, s),
@@ -181,14 +187,14 @@ fn take_head(p: Params, s: State, bytes: &[u8]) -> State
 
 // The second head, where it is due.
 pub(crate) fn second_head(p: Params, s: State, bytes: &[u8]) -> State
-    requires { ⌜ inReach (now bytes) s ≡ true ⌝ }
+    requires { ⌜ offsetsFit (now bytes) s ≡ true ⌝ }
     ensures { λ r. ⌜ r ≡ headStage p (now (bytes .entry)) s ⌝ }
 {
     let stage = s.stage;
     let Stage::Head = stage else {
         return s;
     };
-    let d = due_of(1, bytes);
+    let d = due_of(HEAD, bytes);
     match d {
         Due::NotYet => s,
         Due::Other => stop(Refusal::Form, s),

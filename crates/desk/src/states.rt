@@ -4,10 +4,11 @@ ghost use mathlib.Core.Bool.{_&&_};
 ghost use Prim.Native.Nat.{_+_};
 ghost use lib.Dec.{ltb};
 ghost use Rattle.desk.specs.Desk.{started, stopped, finishAnswer};
+use files::records::HEAD_LENGTH;
 use params::Answer;
 use params::Refusal;
 
-// What is due next: packets or the end of a stream, the second head, or nothing more; or why the input is refused.
+// What is due next: packets or the end of a stream, the second head, or nothing more; or the refusal of the input.
 pub enum Stage {
     Packets,
     Head,
@@ -37,7 +38,7 @@ pub fn start() -> State
     State {
         stage: Stage::Packets,
         second: false,
-        at: 38,
+        at: HEAD_LENGTH,
         records: 0,
     }
 }
@@ -55,7 +56,7 @@ pub(crate) fn stop(refusal: Refusal, s: State) -> State
 }
 
 // Whether 64 bits hold the offsets and the numbers of records that so many bytes can lead to.
-pub(crate) fn in_reach(s: State, len: usize) -> bool
+pub(crate) fn offsets_fit(s: State, len: usize) -> bool
     ensures { λ r. ⌜ r ≡ (ltb (s .at + len) 18446744073709551616 && ltb (s .records + len) 18446744073709551616) ⌝ }
 {
     if 18446744073709551615 - s.at < len {

@@ -6,7 +6,13 @@ use params::Params;
 use sketch::packets;
 
 // The answer, and the first sketch after it.
-fn subtract(what: &[u8], counts: &mut [i32], idsums: &mut [u32], other_counts: &[i32], other_idsums: &[u32]) {
+fn subtract(
+    what: &[u8],
+    counts: &mut [i32],
+    idsums: &mut [u32],
+    other_counts: &[i32],
+    other_idsums: &[u32],
+) {
     show::answer(
         what,
         sums::subtract(k(), k(), counts, idsums, other_counts, other_idsums),
@@ -14,8 +20,17 @@ fn subtract(what: &[u8], counts: &mut [i32], idsums: &mut [u32], other_counts: &
     show::buckets(counts, idsums);
 }
 
-fn add(what: &[u8], counts: &mut [i32], idsums: &mut [u32], other_counts: &[i32], other_idsums: &[u32]) {
-    show::answer(what, sums::add(k(), k(), counts, idsums, other_counts, other_idsums));
+fn add(
+    what: &[u8],
+    counts: &mut [i32],
+    idsums: &mut [u32],
+    other_counts: &[i32],
+    other_idsums: &[u32],
+) {
+    show::answer(
+        what,
+        sums::add(k(), k(), counts, idsums, other_counts, other_idsums),
+    );
     show::buckets(counts, idsums);
 }
 

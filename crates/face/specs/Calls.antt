@@ -14,7 +14,7 @@ use Rattle.peel.specs.Peel.{peeledOf, judged, walked, Peels}
 use Rattle.files.specs.Writing.{writtenOf}
 use Rattle.streamfile.specs.Streams.{streamAnswer, StreamRead}
 use Rattle.streamfile.specs.Writing as streams
-use Rattle.sketchfile.specs.Stored.{sketchAnswer, SketchRead}
+use Rattle.sketchfile.specs.Reading.{sketchAnswer, SketchRead}
 use Rattle.sketchfile.specs.Writing as sketches
 use Rattle.face.specs.Told.{Told, ToldLength, ToldFigures}
 

@@ -14,7 +14,7 @@ use Rattle.params.specs.Params.{goodParams, sameParams, lengthsAnswer}
 use Rattle.params.proofs.Judging.{Refuses, first-refused, first-passed}
 use Rattle.files.specs.declared.heads.Headed.{Headed}
 use Rattle.files.specs.declared.records.Record.the-variants.{Whole}
-use Rattle.files.specs.Records.{bodyLength, recordAt}
+use Rattle.files.specs.Records.{recordAt, headKind, headLength}
 use Rattle.files.specs.Heads.{paramsIn, isHead, headAnswer, noParams, headOf, openingAnswer}
 use Rattle.files.proofs.Standing.{stands-whole}
 
@@ -31,10 +31,9 @@ module _ (bs : List ℕ) where
   unfolding headAnswer kept
   good-head e g = rw (e, g)
 
-  -- a whole head has its 38 bytes
-  pub head-long : (next : ℕ) → recordAt bs 0 ≡ Whole 1 next → 38 ≤ length bs
-  unfolding bodyLength
-  head-long next e = let s = stands-whole bs 0 1 next e in omega (arith, s .ends, s .within)
+  -- a whole head has all its bytes
+  pub head-long : (next : ℕ) → recordAt bs 0 ≡ Whole headKind next → headLength ≤ length bs
+  head-long next e = let s = stands-whole bs 0 headKind next e in omega (arith, s .ends, s .within)
 
 -- what is judged before the records is the head, then what is given
 module _ (P : Params) (bs : List ℕ) (c s : ℕ) where

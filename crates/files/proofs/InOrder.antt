@@ -1,4 +1,4 @@
--- Refusals of a file's opening, of a record and of a file's end, in the order in which they are judged, and what is told with them; and what a writer tells.
+-- Refusals of a file's opening, of a record and of a file's end, in the order in which they are judged, and what goes with them; and what a writer returns.
 use mathlib.Core.Path.{_≡_, refl, sym, ap, _∙_}
 use mathlib.Core.Bool.{Bool, true, false, not, cond, _&&_}
 use mathlib.Core.List.{List, [], _∷_}
@@ -21,10 +21,11 @@ use Rattle.files.specs.declared.records.Record.the-variants.{Whole, Cut,
 use Rattle.files.specs.declared.writing.Written.{Written}
 use Rattle.files.specs.declared.writing.Written.the-variants.{Refused as NotWritten}
 use Rattle.files.specs.Bytes.{word}
-use Rattle.files.specs.Records.{bodyLength, recordAt, isKind, placeOf, recordNumber, recordPlace}
+use Rattle.files.specs.Records.{bodyLength, recordAt, isKind, placeOf, recordNumber, recordPlace, endKind, endLength}
 use Rattle.files.specs.Heads.{paramsIn, isHead, openingAnswer}
 use Rattle.files.specs.Turns.{endAnswer}
 use Rattle.files.specs.Writing.{writtenOf, writtenNumber, writtenIndex, writtenLength}
+use Rattle.files.specs.Fields.{recordsField}
 
 -- what is judged before the records, in this order: the head, the parameters in it and those that are given, whether they differ, and the lent lengths
 abbrev pub openingOrder : List Refusal
@@ -40,7 +41,7 @@ openingFault P bs c s Count = false
 openingFault P bs c s Damage = false
 openingFault P bs c s Range = false
 
--- a refusal that tells 0
+-- a refusal with which 0 goes
 pub refuse-start : (b : Bool) (w : Refusal) (next : Answer) → indexIn next ≡ 0 → indexIn (refuseIf b w 0 next) ≡ 0
 refuse-start true w next e = refl
 refuse-start false w next e = e
@@ -51,7 +52,7 @@ module _ (P : Params) (bs : List ℕ) (c s : ℕ) where
   unfolding openingAnswer lengthsAnswer
   opening-number = simp refuse-number
 
-  -- and 0 is told with it
+  -- and 0 goes with it
   pub opening-index : indexIn (openingAnswer P bs c s) ≡ 0
   unfolding openingAnswer lengthsAnswer
   opening-index =
@@ -66,15 +67,15 @@ pub record IsWhole (r : Record) : Type 0 where
   pub next : ℕ
   pub whole : r ≡ Whole kind next
 
--- 0 is told exactly where a record is whole
+-- the number is 0 exactly where a record is whole
 pub whole-exactly : (r : Record) → (recordNumber r ≡ 0 → IsWhole r) × (IsWhole r → recordNumber r ≡ 0)
-whole-exactly r = (told r, λ s. ap recordNumber (s .whole))
+whole-exactly r = (returned r, λ s. ap recordNumber (s .whole))
   where
-    told : (r : Record) → recordNumber r ≡ 0 → IsWhole r
-    told (Whole k next) e = record { kind = k; next = next; whole = refl }
-    told Cut e = absurd (omega arith)
-    told Unknown e = absurd (omega arith)
-    told Missing e = absurd (omega arith)
+    returned : (r : Record) → recordNumber r ≡ 0 → IsWhole r
+    returned (Whole k next) e = record { kind = k; next = next; whole = refl }
+    returned Cut e = absurd (omega arith)
+    returned Unknown e = absurd (omega arith)
+    returned Missing e = absurd (omega arith)
 
 -- and Form's number where it is not
 pub form-else : (r : Record) → (IsWhole r → ⊥) → recordNumber r ≡ 8
@@ -95,18 +96,18 @@ record-place bs at = go (leb (length bs) at) (eqb (bodyLength (getD bs at 0)) 0)
     go false false true k next n = refl
     go false false false k next n = absurd (n (record { kind = k; next = next; whole = refl }))
 
--- what is at fault where an end is due after n records, and the place told with it
+-- what is at fault where an end is due after n records, and the offset that goes with it
 pub data EndFault (bs : List ℕ) (at n k : ℕ) : Type 0 where
-  no-end : isKind 4 (recordAt bs at) ≡ false → k ≡ placeOf bs at → EndFault bs at n k
-  wrong-count : isKind 4 (recordAt bs at) ≡ true → (word bs (at + 1) ≡ n → ⊥) → k ≡ at → EndFault bs at n k
-  byte-after : isKind 4 (recordAt bs at) ≡ true → word bs (at + 1) ≡ n → at + 5 < length bs → k ≡ at + 5 → EndFault bs at n k
+  no-end : isKind endKind (recordAt bs at) ≡ false → k ≡ placeOf bs at → EndFault bs at n k
+  wrong-count : isKind endKind (recordAt bs at) ≡ true → (word bs (at + recordsField) ≡ n → ⊥) → k ≡ at → EndFault bs at n k
+  byte-after : isKind endKind (recordAt bs at) ≡ true → word bs (at + recordsField) ≡ n → at + endLength < length bs → k ≡ at + endLength → EndFault bs at n k
 
 pub end-fault : (bs : List ℕ) (at n : ℕ) (w : Refusal) (k : ℕ) → endAnswer bs at n ≡ Refused w k → (w ≡ Form) × EndFault bs at n k
 unfolding endAnswer
-end-fault bs at n w k = go (isKind 4 (recordAt bs at)) (eqb (word bs (at + 1)) n) (ltb (at + 5) (length bs)) refl refl refl
+end-fault bs at n w k = go (isKind endKind (recordAt bs at)) (eqb (word bs (at + recordsField)) n) (ltb (at + endLength) (length bs)) refl refl refl
   where
-    go : (x y z : Bool) → isKind 4 (recordAt bs at) ≡ x → eqb (word bs (at + 1)) n ≡ y → ltb (at + 5) (length bs) ≡ z
-        → refuseIf (not x) Form (placeOf bs at) (refuseIf (not y) Form at (refuseIf z Form (at + 5) Done)) ≡ Refused w k → (w ≡ Form) × EndFault bs at n k
+    go : (x y z : Bool) → isKind endKind (recordAt bs at) ≡ x → eqb (word bs (at + recordsField)) n ≡ y → ltb (at + endLength) (length bs) ≡ z
+        → refuseIf (not x) Form (placeOf bs at) (refuseIf (not y) Form at (refuseIf z Form (at + endLength) Done)) ≡ Refused w k → (w ≡ Form) × EndFault bs at n k
     go false y z kind said after e = (cc, no-end kind cc)
     go true false z kind said after e = (cc, wrong-count kind (eqb-false _ _ said) cc)
     go true true true kind said after e = (cc, byte-after kind (eqb-true _ _ said) (ltb-true _ _ after) cc)
@@ -115,18 +116,18 @@ end-fault bs at n w k = go (isKind 4 (recordAt bs at)) (eqb (word bs (at + 1)) n
 -- what a writer tells is what was judged, and the length of its file, n, where nothing is refused
 module _ (a : Answer) (n : ℕ) {r : Written} (e : r ≡ writtenOf a n) where
   pub written-number : writtenNumber r ≡ numberIn a
-  written-number = ap writtenNumber e ∙ told a
+  written-number = ap writtenNumber e ∙ returned a
     where
-      told : (x : Answer) → writtenNumber (writtenOf x n) ≡ numberIn x
-      told Done = refl
-      told (Refused w k) = refl
+      returned : (x : Answer) → writtenNumber (writtenOf x n) ≡ numberIn x
+      returned Done = refl
+      returned (Refused w k) = refl
 
   pub written-index : writtenIndex r ≡ indexIn a
-  written-index = ap writtenIndex e ∙ told a
+  written-index = ap writtenIndex e ∙ returned a
     where
-      told : (x : Answer) → writtenIndex (writtenOf x n) ≡ indexIn x
-      told Done = refl
-      told (Refused w k) = refl
+      returned : (x : Answer) → writtenIndex (writtenOf x n) ≡ indexIn x
+      returned Done = refl
+      returned (Refused w k) = refl
 
   pub written-length : writtenNumber r ≡ 0 → writtenLength r ≡ n
   written-length z = ap writtenLength (e ∙ ap (λ (x : Answer). writtenOf x n) (number-done a (sym written-number ∙ z)))
@@ -134,8 +135,8 @@ module _ (a : Answer) (n : ℕ) {r : Written} (e : r ≡ writtenOf a n) where
   -- where it tells a refusal, the output is as it was
   pub refused-as-it-was : {w : Refusal} {k : ℕ} (old new : List ℕ) → r ≡ NotWritten w k → kept a old new ≡ old
   unfolding kept
-  refused-as-it-was {w} {k} old new refused = told a e
+  refused-as-it-was {w} {k} old new refused = returned a e
     where
-      told : (x : Answer) → r ≡ writtenOf x n → kept x old new ≡ old
-      told Done q = absurd (let z : _≡_ {A = ℕ} 0 1 = cc in omega arith)
-      told (Refused v j) q = refl
+      returned : (x : Answer) → r ≡ writtenOf x n → kept x old new ≡ old
+      returned Done q = absurd (let z : _≡_ {A = ℕ} 0 1 = cc in omega arith)
+      returned (Refused v j) q = refl

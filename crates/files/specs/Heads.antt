@@ -12,20 +12,21 @@ use Rattle.params.specs.Params.{goodParams, sameParams, lengthsAnswer}
 use Rattle.files.specs.declared.records.Record.{Record}
 use Rattle.files.specs.declared.heads.Headed.{Headed}
 use Rattle.files.specs.Bytes.{word}
-use Rattle.files.specs.Records.{recordAt, isKind}
+use Rattle.files.specs.Records.{recordAt, isKind, headKind}
+use Rattle.files.specs.Fields.{arraysField, bucketsField, multiplierField, offsetField}
 
 -- the parameters in a head that stands at the start of the file
 unfoldable pub paramsIn : List ℕ → Params
 paramsIn bs =
     record {
-      d = getD bs 1 0;
-      m = word bs 2;
-      a = word bs 6 ∷ word bs 14 ∷ word bs 22 ∷ word bs 30 ∷ [];
-      b = word bs 10 ∷ word bs 18 ∷ word bs 26 ∷ word bs 34 ∷ [];
+      d = getD bs arraysField 0;
+      m = word bs bucketsField;
+      a = word bs (multiplierField 0) ∷ word bs (multiplierField 1) ∷ word bs (multiplierField 2) ∷ word bs (multiplierField 3) ∷ [];
+      b = word bs (offsetField 0) ∷ word bs (offsetField 1) ∷ word bs (offsetField 2) ∷ word bs (offsetField 3) ∷ [];
     }
 
 abbrev pub isHead : Record → Bool
-isHead r = isKind 1 r
+isHead r = isKind headKind r
 
 -- a whole head stands there, and its parameters keep the rules
 unfoldable pub headAnswer : List ℕ → Answer

@@ -3,6 +3,18 @@ ghost use mathlib.Core.Path.{_≡_};
 ghost use Prim.Native.Nat.{_≤_};
 ghost use lib.ListN.{length};
 ghost use Rattle.files.specs.Heads.{paramsIn, noParams, headOf, openingAnswer};
+ghost use Rattle.files.specs.Records.{headLength};
+use crate::fields::ARRAYS_AT;
+use crate::fields::BUCKETS_AT;
+use crate::fields::MULTIPLIER_1_AT;
+use crate::fields::MULTIPLIER_2_AT;
+use crate::fields::MULTIPLIER_3_AT;
+use crate::fields::MULTIPLIER_4_AT;
+use crate::fields::OFFSET_1_AT;
+use crate::fields::OFFSET_2_AT;
+use crate::fields::OFFSET_3_AT;
+use crate::fields::OFFSET_4_AT;
+use crate::records::HEAD;
 use crate::records::Record;
 use crate::records::record_at;
 use crate::records::word;
@@ -10,7 +22,7 @@ use params::Answer;
 use params::Params;
 use params::Refusal;
 
-// What a head says, or why it says nothing: the parameters are all 0 then.
+// What a head says, or the refusal: the parameters are all 0 then.
 pub struct Headed {
     pub answer: Answer,
     pub params: Params,
@@ -18,24 +30,24 @@ pub struct Headed {
 
 // The parameters in the body that starts at byte 1.
 fn params(bytes: &[u8]) -> Params
-    requires { ⌜ 38 ≤ length (now bytes) ⌝ }
+    requires { ⌜ headLength ≤ length (now bytes) ⌝ }
     ensures { λ r. ⌜ r ≡ paramsIn (now (bytes .entry)) ⌝ }
 {
-    let m = word(bytes, 2) as usize;
+    let m = word(bytes, BUCKETS_AT) as usize;
     let a = [
-        word(bytes, 6),
-        word(bytes, 14),
-        word(bytes, 22),
-        word(bytes, 30),
+        word(bytes, MULTIPLIER_1_AT),
+        word(bytes, MULTIPLIER_2_AT),
+        word(bytes, MULTIPLIER_3_AT),
+        word(bytes, MULTIPLIER_4_AT),
     ];
     let b = [
-        word(bytes, 10),
-        word(bytes, 18),
-        word(bytes, 26),
-        word(bytes, 34),
+        word(bytes, OFFSET_1_AT),
+        word(bytes, OFFSET_2_AT),
+        word(bytes, OFFSET_3_AT),
+        word(bytes, OFFSET_4_AT),
     ];
     Params {
-        d: bytes[1] as usize,
+        d: bytes[ARRAYS_AT] as usize,
         m,
         a,
         b,
@@ -65,7 +77,7 @@ pub fn head(bytes: &[u8]) -> Headed
     let Record::Whole(kind, _) = found else {
         return refused(Refusal::Form);
     };
-    if kind != 1 {
+    if kind != HEAD {
         return refused(Refusal::Form);
     }
     let p = params(bytes);

@@ -8,9 +8,9 @@ ghost use Rattle.params.specs.Params.{prime};
 ghost use Rattle.params.specs.Positions.{WithinArrays};
 ghost use Rattle.buckets.specs.Buckets.{inLimits, plusMinus};
 ghost use Rattle.peel.specs.Dirt.{some, dirty, Takes, Took, Applied};
+use buckets::idsum_plus_minus;
 use buckets::plus_minus;
 use buckets::within;
-use buckets::idsum_plus_minus;
 
 // x more c, or x less c, keeps within the limits.
 pub(crate) fn fits(minus: bool, x: i32, c: i32) -> bool

@@ -54,7 +54,7 @@ pub(crate) fn done() {
 
 fn refused(refusal: Refusal, index: usize) {
     let mut out = [0u8; 64];
-    let n = lines::lines::refused(&mut out, refusal, index);
+    let n = lines::lines::refused_line(&mut out, refusal, index);
     line(&out, n);
 }
 
@@ -98,7 +98,7 @@ pub(crate) fn peeled(told: Peeled) {
             text(b"entries ");
             number(figures.entries);
             text(b" ");
-            let n = lines::lines::end(&mut out, ending, figures.pops, figures.net);
+            let n = lines::lines::end_line(&mut out, ending, figures.pops, figures.net);
             line(&out, n);
         }
         Peeled::Refused(refusal, index) => refused(refusal, index),

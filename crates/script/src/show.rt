@@ -44,7 +44,7 @@ fn bucket(index: usize, count: i32, idsum: u32) {
             return;
         }
     }
-    let n = lines::lines::left(&mut out, index, count, idsum);
+    let n = lines::lines::left_line(&mut out, index, count, idsum);
     line(&out, n);
 }
 
@@ -69,7 +69,7 @@ fn entry(slot: usize, flow: u32, count: i32) {
     text(b"slot ");
     number(slot);
     text(b" ");
-    let n = lines::lines::loss(&mut out, flow, count);
+    let n = lines::lines::loss_line(&mut out, flow, count);
     line(&out, n);
 }
 

@@ -29,12 +29,13 @@ use Rattle.params.proofs.Rules.{good-dimensions, dimensions-small}
 use Rattle.streamfile.specs.Streams.{StreamRead}
 use Rattle.streamfile.proofs.FreshStreams.{fresh-grown}
 use Rattle.desk.specs.declared.states.Fed.{Fed}
-use Rattle.desk.specs.Desk.{fewEnough, beginOf, started, Feeds, finishAnswer}
+use Rattle.desk.specs.Desk.{mostBuckets, fewEnough, beginOf, started, Feeds, finishAnswer}
 use Rattle.desk.proofs.Accepted.{TwoStreams, few-begun, near-done, accepted}
 use Rattle.desk.proofs.Accepts.{accepts}
 use Rattle.settle.specs.Settling.{settleJudged, settleWalked, Settles}
 use Rattle.settle.proofs.Settled.{settled-is-peeled}
 use Rattle.settle.proofs.TwoStreams.{streams-settle, lost, by-net-counts}
+use Rattle.files.specs.Records.{headLength}
 
 -- slices that begin with a table have its lines
 table-lines : (es : List Entry) (fs : List ℕ) (ns : List ℤ) → lossLines (flowsOf es ++ fs) (numbersOf es ++ ns) (length es) ≡ entryLines es
@@ -67,7 +68,7 @@ pub record Reported (P : Params) (input text : List ℕ) : Type 0 where
   pub down : Sketch
   pub fed : Fed
   pub head : beginOf input ≡ record { answer = Done; params = P }
-  pub feeding : Feeds P (drop 38 input) (zeros P) (zeros P) started fed up down
+  pub feeding : Feeds P (drop headLength input) (zeros P) (zeros P) started fed up down
   pub finished : finishAnswer (fed .state .stage) (fed .state .at) ≡ Done
   pub flows : List ℕ
   pub numbers : List ℤ
@@ -126,18 +127,18 @@ module _ {P : Params} {input text : List ℕ} (r : Reported P input text) where
       in
       r .written ∙ read ∙ ap (λ n. walkText (walk (ruleOf P) n (8 * size P) difference)) (r .lent .0)
 
-  -- it fits in 64 bytes for each of twice 1536 lines and one more, which is what the program lends
-  pub report-fits : reportFits (64 * (2 * 1536 + 1)) (length (r .table-flows)) (length (r .table-numbers)) (r .figures .entries) (length (r .left .counts)) (length (r .left .idsums)) ≡ true
+  -- it fits in 64 bytes for each of twice the most buckets that a desk takes and one more, which is what the program lends
+  pub report-fits : reportFits (64 * (2 * mostBuckets + 1)) (length (r .table-flows)) (length (r .table-numbers)) (r .figures .entries) (length (r .left .counts)) (length (r .left .idsums)) ≡ true
   unfolding fewEnough
   report-fits =
       let peeled = settled-is-peeled P (r .up) (r .down) (r .flows) (r .numbers) (r .queue) (r .marks) not-refused (r .settled) in
       let whole = left-whole peeled refl in
-      let few = leb-true (size P) 1536 (few-begun P input (r .head)) in
+      let few = leb-true (size P) mostBuckets (few-begun P input (r .head)) in
       let entries = listed-few peeled refl in
       let entries-are : r .figures .entries ≡ length (close (outcome .table)) = ap (λ g. g .entries) figures-are in
       let flows = ap length flows-are ∙ padded-long (length (r .flows)) 0 _ (omega (arith, entries, entries-are, flows-many (close (outcome .table)))) in
       let numbers = ap length numbers-are ∙ padded-long (length (r .numbers)) (pos 0) _ (omega (arith, entries, entries-are, numbers-many (close (outcome .table)), r .lent .0, r .lent .1)) in
-      rw (le-leb (r .figures .entries) (length (r .table-flows)) (omega (arith, flows, entries)), le-leb (r .figures .entries) (length (r .table-numbers)) (omega (arith, numbers, entries, r .lent .0, r .lent .1)), eq-eqb (length (r .left .idsums)) (length (r .left .counts)) (omega (arith, whole .counts-long, whole .idsums-long)), le-leb (64 * (r .figures .entries + length (r .left .counts) + 1)) (64 * (2 * 1536 + 1)) (omega (arith, entries, few, r .lent .0, whole .counts-long)))
+      rw (le-leb (r .figures .entries) (length (r .table-flows)) (omega (arith, flows, entries)), le-leb (r .figures .entries) (length (r .table-numbers)) (omega (arith, numbers, entries, r .lent .0, r .lent .1)), eq-eqb (length (r .left .idsums)) (length (r .left .counts)) (omega (arith, whole .counts-long, whole .idsums-long)), le-leb (64 * (r .figures .entries + length (r .left .counts) + 1)) (64 * (2 * mostBuckets + 1)) (omega (arith, entries, few, r .lent .0, whole .counts-long)))
 
   -- where the input is two streams, one directly after the other, the sketches are what their reader makes of them
   module _ {a b : List ℕ} {S T : Sketch} (is : input ≡ a ++ b) (one : StreamRead P a (zeros P) Done S) (two : StreamRead P b (zeros P) Done T) where

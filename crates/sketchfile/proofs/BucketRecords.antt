@@ -22,14 +22,15 @@ use Rattle.params.proofs.Judging.{Refuses, first-refused, first-passed, first-d
 use Rattle.files.specs.declared.fields.Bucket.{Bucket}
 use Rattle.files.specs.declared.fields.Bucket.the-variants.{Of as BucketOf, No as NoBucket}
 use Rattle.files.specs.Bytes.{word, countOf}
-use Rattle.files.specs.Records.{bodyLength, recordAt, isKind}
+use Rattle.files.specs.Records.{recordAt, isKind, bucketKind, headLength, bucketLength}
 use Rattle.files.specs.Heads.{openingAnswer}
 use Rattle.files.specs.Layout.{bucketAt}
 use Rattle.files.specs.Turns.{bucketPlace, endAnswer}
+use Rattle.files.specs.Fields.{indexField, countField, idsumField}
 use Rattle.files.proofs.HeadTrips.{opening-done}
 use Rattle.files.proofs.Standing.{kind-ends}
 use Rattle.files.proofs.Turning.{Come, come-start, come-next, come-end, come-within, in-turn-refused, in-turn-done, done-in-turn}
-use Rattle.sketchfile.specs.Stored.{bucketsIn, bucketIndex, bucketCount, bucketIdsum, lowest, bucketAnswer, bucketJudged, bucketsJudged, stored, sketchIn}
+use Rattle.sketchfile.specs.Reading.{bucketsIn, bucketIndex, bucketCount, bucketIdsum, lowest, bucketAnswer, bucketJudged, bucketsJudged, stored, sketchIn}
 
 -- what is refused of one bucket, by its stages
 module _ (N low at x : ℕ) (c : ℤ) (s : ℕ) where
@@ -81,10 +82,10 @@ done-sound N low at x c s e =
 -- a reader has come to bucket n of the file, which is due at an offset
 pub record Reader (bs : List ℕ) (n at : ℕ) : Type 0 where
   pub place : at ≡ bucketPlace n
-  pub come : Come 3 bucketPlace bs n
+  pub come : Come bucketKind bucketPlace bs n
 
-pub reader-start : (bs : List ℕ) → Reader bs 0 38
-reader-start bs = record { place = refl; come = come-start 3 bucketPlace bs }
+pub reader-start : (bs : List ℕ) → Reader bs 0 headLength
+reader-start bs = record { place = refl; come = come-start bucketKind bucketPlace bs }
 
 -- it found bucket n there, whole
 pub record Found (bs : List ℕ) (n at k : ℕ) (c : ℤ) (s : ℕ) : Type 0 where
@@ -92,50 +93,49 @@ pub record Found (bs : List ℕ) (n at k : ℕ) (c : ℤ) (s : ℕ) : Type 0 whe
   pub count : c ≡ bucketCount bs n
   pub idsum : s ≡ bucketIdsum bs n
   -- cited by no name: `omega` reads it where a reader steps on, so that the offset fits its width and the bytes left grow fewer
-  pub before-end : at + 13 ≤ length bs
+  pub before-end : at + bucketLength ≤ length bs
   pub counted : n < bucketsIn bs
-  pub next : Reader bs (n + 1) (at + 13)
+  pub next : Reader bs (n + 1) (at + bucketLength)
 
 -- what stands at an offset: a whole bucket by its fields, or no bucket
 fields : (bs : List ℕ) (at k : ℕ) (c : ℤ) (s : ℕ) → BucketOf k c s ≡ bucketAt bs at
-    → (isKind 3 (recordAt bs at) ≡ true) × (k ≡ word bs (at + 1)) × (c ≡ countOf (word bs (at + 5))) × (s ≡ word bs (at + 9))
+    → (isKind bucketKind (recordAt bs at) ≡ true) × (k ≡ word bs (at + indexField)) × (c ≡ countOf (word bs (at + countField))) × (s ≡ word bs (at + idsumField))
 unfolding bucketAt
-fields bs at k c s = go (isKind 3 (recordAt bs at))
+fields bs at k c s = go (isKind bucketKind (recordAt bs at))
   where
-    go : (b : Bool) → BucketOf k c s ≡ cond b (BucketOf (word bs (at + 1)) (countOf (word bs (at + 5))) (word bs (at + 9))) NoBucket
-        → (b ≡ true) × (k ≡ word bs (at + 1)) × (c ≡ countOf (word bs (at + 5))) × (s ≡ word bs (at + 9))
+    go : (b : Bool) → BucketOf k c s ≡ cond b (BucketOf (word bs (at + indexField)) (countOf (word bs (at + countField))) (word bs (at + idsumField))) NoBucket
+        → (b ≡ true) × (k ≡ word bs (at + indexField)) × (c ≡ countOf (word bs (at + countField))) × (s ≡ word bs (at + idsumField))
     go true q = (refl, cc, cc, cc)
     go false q = absurd (let w : _≡_ {A = ℕ} 0 1 = cc in omega arith)
 
-no-bucket : (bs : List ℕ) (at : ℕ) → NoBucket ≡ bucketAt bs at → isKind 3 (recordAt bs at) ≡ false
+no-bucket : (bs : List ℕ) (at : ℕ) → NoBucket ≡ bucketAt bs at → isKind bucketKind (recordAt bs at) ≡ false
 unfolding bucketAt
-no-bucket bs at = go (isKind 3 (recordAt bs at))
+no-bucket bs at = go (isKind bucketKind (recordAt bs at))
   where
-    go : (b : Bool) → NoBucket ≡ cond b (BucketOf (word bs (at + 1)) (countOf (word bs (at + 5))) (word bs (at + 9))) NoBucket → b ≡ false
+    go : (b : Bool) → NoBucket ≡ cond b (BucketOf (word bs (at + indexField)) (countOf (word bs (at + countField))) (word bs (at + idsumField))) NoBucket → b ≡ false
     go true q = absurd (let w : _≡_ {A = ℕ} 0 1 = cc in omega arith)
     go false q = refl
 
-bucket-ends : (bs : List ℕ) (at : ℕ) → isKind 3 (recordAt bs at) ≡ true → at + 13 ≤ length bs
-unfolding bodyLength
-bucket-ends bs at e = omega (arith, kind-ends 3 bs at e)
+bucket-ends : (bs : List ℕ) (at : ℕ) → isKind bucketKind (recordAt bs at) ≡ true → at + bucketLength ≤ length bs
+bucket-ends bs at e = omega (arith, kind-ends bucketKind bs at e)
 
 module _ {bs : List ℕ} {n at : ℕ} {found : Bucket} (r : Reader bs n at) (e : found ≡ bucketAt bs at) where
   pub found-bucket : {k : ℕ} {c : ℤ} {s : ℕ} → found ≡ BucketOf k c s → Found bs n at k c s
   found-bucket {k} {c} {s} q =
       let f = rw (r .place) at (fields bs at k c s (sym q ∙ e)) in
       let short = bucket-ends bs (bucketPlace n) (f .0) in
-      let come-on = come-next 3 bucketPlace bs n (omega arith) (f .0) (r .come) in
+      let come-on = come-next bucketKind bucketPlace bs n (omega arith) (f .0) (r .come) in
       record {
         index = f .1;
         count = f .2;
         idsum = f .3;
         before-end = omega arith;
-        counted = omega (arith, come-within 3 bucketPlace bs (n + 1) come-on);
+        counted = omega (arith, come-within bucketKind bucketPlace bs (n + 1) come-on);
         next = record { place = omega arith; come = come-on };
       }
 
   pub none-left : found ≡ NoBucket → n ≡ bucketsIn bs
-  none-left q = come-end 3 bucketPlace bs n (rw (r .place) at (no-bucket bs at (sym q ∙ e))) (r .come)
+  none-left q = come-end bucketKind bucketPlace bs n (rw (r .place) at (no-bucket bs at (sym q ∙ e))) (r .come)
 
 -- the answers for the buckets in turn
 module _ (N : ℕ) {bs : List ℕ} {n at : ℕ} where
@@ -172,7 +172,7 @@ pub record Storing (bs : List ℕ) (S : Sketch) (at : ℕ) (T : Sketch) : Type 0
 pub all-stored : {P : Params} (bs : List ℕ) {S T U : Sketch} {a r : Answer} → Freshened P S a T → lentAnswer P (length (S .counts)) (length (S .idsums)) ≡ Done
     → U ≡ stored bs (bucketsIn bs) T → r ≡ Done → U ≡ kept r S (sketchIn P bs)
 unfolding kept sketchIn
-all-stored bs f shaped filled done = rw (done, filled, f .after, f .answer, shaped)
+all-stored bs f lent-right filled done = rw (done, filled, f .after, f .answer, lent-right)
 
 -- where nothing is refused, each index lies in the sketch, and the parameters and the lengths of the lent slices are right
 pub indexes-inside : (N : ℕ) (bs : List ℕ) → bucketsJudged N bs ≡ Done → (k : ℕ) → k < bucketsIn bs → bucketIndex bs k < N

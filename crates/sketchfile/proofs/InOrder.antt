@@ -1,4 +1,4 @@
--- What is told with each refusal of a sketch file: the head and the lengths come first, then the buckets in turn, then the end. And what a sketch's writer tells.
+-- What goes with each refusal of a sketch file: the head and the lengths come first, then the buckets in turn, then the end. And what a sketch's writer returns.
 use mathlib.Core.Path.{_≡_, refl, sym, ap, _∙_}
 use mathlib.Core.Bool.{Bool, true, false, not, _&&_, _||_}
 use mathlib.Core.Logic.{⊎-elim}
@@ -30,8 +30,8 @@ use Rattle.files.specs.Writing.{writtenNumber, writtenIndex, writtenLength}
 use Rattle.files.proofs.HeadTrips.{Opened, opening-done}
 use Rattle.files.proofs.Turning.{Earliest, in-turn-earliest, done-in-turn}
 use Rattle.files.proofs.InOrder.{openingOrder, openingFault, opening-number, opening-index, EndFault, end-fault, written-number, written-index, written-length, refused-as-it-was}
-use Rattle.sketchfile.specs.Stored.{bucketsIn, bucketIndex, bucketCount, bucketIdsum, lowest, bucketAnswer, bucketJudged, bucketsJudged, sketchAnswer}
-use Rattle.sketchfile.specs.Writing.{sketchBytes, sketchWriting, SketchWritten}
+use Rattle.sketchfile.specs.Reading.{bucketsIn, bucketIndex, bucketCount, bucketIdsum, lowest, bucketAnswer, bucketJudged, bucketsJudged, sketchAnswer}
+use Rattle.sketchfile.specs.Writing.{sketchBytes, sketchWriteAnswer, SketchWritten}
 
 -- which faults the j-th record has, in a sketch of N buckets: damage, an index that does not rise or is not below N, or a bucket that is all zero
 abbrev pub bucketFault : ℕ → List ℕ → ℕ → Refusal → Bool
@@ -60,7 +60,7 @@ module _ (N : ℕ) (bs : List ℕ) (j : ℕ) where
       go false false false e = absurd (let z : _≡_ {A = ℕ} 0 1 = cc in omega arith)
 
 module _ (P : Params) (bs : List ℕ) (c s : ℕ) (w : Refusal) (k : ℕ) where
-  -- the earliest bucket at fault: those before it were accepted, the first of its faults decides the number, and its offset is told
+  -- the earliest bucket at fault: those before it were accepted, the first of its faults decides the number, and its offset goes with it
   pub record BucketFault : Type 0 where
     pub which : ℕ
     pub one : which < bucketsIn bs
@@ -114,14 +114,14 @@ writeFault P S o Mismatch = false
 writeFault P S o Form = false
 
 module _ (P : Params) (S : Sketch) (o : ℕ) where
-  writing-number : numberIn (sketchWriting P S o) ≡ firstOf order (writeFault P S o)
-  unfolding sketchWriting lentAnswer lengthsAnswer first
+  writing-number : numberIn (sketchWriteAnswer P S o) ≡ firstOf order (writeFault P S o)
+  unfolding sketchWriteAnswer lentAnswer lengthsAnswer first
   writing-number = simp (first-refuse, refuse-number, refuse-at-number, cond-either)
 
   -- the lowest damaged bucket goes with the number of Damage, 0 with any other
-  writing-index : (numberIn (sketchWriting P S o) ≡ 5 → Lowest (size P) (damagedAt S) (indexIn (sketchWriting P S o)))
-      × ((numberIn (sketchWriting P S o) ≡ 5 → ⊥) → indexIn (sketchWriting P S o) ≡ 0)
-  unfolding sketchWriting lentAnswer lengthsAnswer first refuseAt
+  writing-index : (numberIn (sketchWriteAnswer P S o) ≡ 5 → Lowest (size P) (damagedAt S) (indexIn (sketchWriteAnswer P S o)))
+      × ((numberIn (sketchWriteAnswer P S o) ≡ 5 → ⊥) → indexIn (sketchWriteAnswer P S o) ≡ 0)
+  unfolding sketchWriteAnswer lentAnswer lengthsAnswer first refuseAt
   writing-index = go (not (goodParams P)) (wrongLength P S) (ltb o (length (sketchBytes P S))) (ltb found (size P)) refl
     where
       found : ℕ
@@ -141,7 +141,7 @@ module _ (P : Params) (S : Sketch) (o : ℕ) where
 -- h is what the contract of `write_sketch` gives
 module _ {P : Params} {S : Sketch} {out : List ℕ} {r : Written} {out' : List ℕ} (h : SketchWritten P S out r out') where
   abbrev judged : Answer
-  judged = sketchWriting P S (length out)
+  judged = sketchWriteAnswer P S (length out)
 
   abbrev long : ℕ
   long = length (sketchBytes P S)
@@ -164,7 +164,7 @@ module _ {P : Params} {S : Sketch} {out : List ℕ} {r : Written} {out' : List �
   write-sketch-index n =
       written-index judged long (h .answer) ∙ writing-index P S (length out) .1 (λ e. n (written-number judged long (h .answer) ∙ e))
 
-  -- where nothing is at fault the file's length is told
+  -- where nothing is at fault the file's length is returned
   pub write-sketch-length : writtenNumber r ≡ 0 → writtenLength r ≡ length (sketchBytes P S)
   write-sketch-length e = written-length judged long (h .answer) e
 

@@ -3,13 +3,15 @@ ghost use mathlib.Core.Path.{_≡_};
 ghost use Prim.Native.Nat.{ℕ, _<_};
 ghost use lib.ListN.{length};
 ghost use Rattle.sketch.specs.Sketch.{sketch};
-ghost use Rattle.sketchfile.specs.Stored.{bucketsIn, bucketIndex, bucketAnswer, bucketsJudged, stored, SketchRead};
+ghost use Rattle.sketchfile.specs.Reading.{bucketsIn, bucketIndex, bucketAnswer, bucketsJudged, stored, SketchRead};
 use buckets::all_zero;
 use buckets::sound;
-use files::ends::end;
+use files::ends::judge_end;
 use files::fields::Bucket;
 use files::fields::bucket_at;
 use files::heads::opening;
+use files::records::BUCKET_LENGTH;
+use files::records::HEAD_LENGTH;
 use params::Answer;
 use params::Params;
 use params::Refusal;
@@ -38,7 +40,7 @@ fn judge_bucket(size: usize, low: usize, at: usize, index: usize, c: i32, s: u32
 fn judge_records(size: usize, bytes: &[u8]) -> Answer
     ensures { λ r. ⌜ r ≡ bucketsJudged size (now (bytes .entry)) ⌝ }
 {
-    let mut at = 38;
+    let mut at = HEAD_LENGTH;
     let mut n = 0;
     let mut low = 0;
     loop {
@@ -51,10 +53,10 @@ fn judge_records(size: usize, bytes: &[u8]) -> Answer
             return r;
         };
         low = index as usize + 1;
-        at += 13;
+        at += BUCKET_LENGTH;
         n += 1;
     }
-    end(bytes, at, n)
+    judge_end(bytes, at, n)
 }
 
 // Stores the file's buckets.
@@ -63,7 +65,7 @@ fn store(counts: &mut [i32], idsums: &mut [u32], bytes: &[u8])
     requires { ⌜ ((k : ℕ) → k < bucketsIn (now bytes) → bucketIndex (now bytes) k < length (now counts)) ⌝ }
     ensures { λ r. ⌜ sketch (now (counts .exit)) (now (idsums .exit)) ≡ stored (now (bytes .entry)) (bucketsIn (now (bytes .entry))) (sketch (now (counts .entry)) (now (idsums .entry))) ⌝ }
 {
-    let mut at = 38;
+    let mut at = HEAD_LENGTH;
     loop {
         let found = bucket_at(bytes, at);
         let Bucket::Of(index, c, s) = found else {
@@ -72,7 +74,7 @@ fn store(counts: &mut [i32], idsums: &mut [u32], bytes: &[u8])
         let k = index as usize;
         counts[k] = c;
         idsums[k] = s;
-        at += 13;
+        at += BUCKET_LENGTH;
     }
 }
 

@@ -15,15 +15,16 @@ use Rattle.sketch.specs.Packets.{Accepted}
 use Rattle.params.proofs.Judging.{first-done, refuse-at-done}
 use Rattle.files.specs.Heads.{openingAnswer}
 use Rattle.files.specs.Turns.{atOffset, inTurn, packetPlace, endAnswer}
+use Rattle.files.specs.Records.{headLength}
 use Rattle.files.proofs.HeadTrips.{Opened, opening-done}
 use Rattle.files.proofs.Turning.{done-in-turn}
 use Rattle.streamfile.specs.Streams.{packetsIn, flowsIn, numbersIn, packetJudged, packetsJudged, streamAnswer}
 use Rattle.streamfile.proofs.Found.{flow-is, number-is}
 
-told-done : (at : ℕ) (r : Answer) → atOffset at r ≡ Done → r ≡ Done
+at-offset-done : (at : ℕ) (r : Answer) → atOffset at r ≡ Done → r ≡ Done
 unfolding atOffset
-told-done at Done e = refl
-told-done at (Refused w k) e = cc
+at-offset-done at Done e = refl
+at-offset-done at (Refused w k) e = cc
 
 module _ (P : Params) (bs : List ℕ) (S : Sketch) where
   -- packets whose records were not refused
@@ -31,7 +32,7 @@ module _ (P : Params) (bs : List ℕ) (S : Sketch) where
   unfolding packetJudged
   judged-accepted i h judged j l =
       let one : j < packetsIn bs = omega arith in
-      rw (← flow-is 38 bs j one, ← number-is 38 bs j one) (told-done (packetPlace j) _ (judged j l))
+      rw (← flow-is headLength bs j one, ← number-is headLength bs j one) (at-offset-done (packetPlace j) _ (judged j l))
 
   pub record StreamDone : Type 0 where
     pub opened : Opened P bs (length (S .counts)) (length (S .idsums))

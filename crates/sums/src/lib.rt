@@ -10,11 +10,11 @@ ghost use Rattle.params.specs.Params.{prime};
 ghost use Rattle.buckets.specs.Buckets.{inLimits, plusMinus};
 ghost use Rattle.sketch.specs.Sketch.{sketch, smallAt};
 ghost use Rattle.sums.specs.Sums.{bothLentAnswer, eitherDamaged, leaves, combineAnswer, combined, Combined};
-use buckets::plus_minus;
+use buckets::idsum_plus_minus;
 use buckets::is_small;
+use buckets::plus_minus;
 use buckets::sound;
 use buckets::within;
-use buckets::idsum_plus_minus;
 use params::Answer;
 use params::Params;
 use params::Refusal;
@@ -40,7 +40,12 @@ fn judge_both(p: Params, q: Params, c: usize, s: usize, e: usize, t: usize) -> A
 }
 
 // The first index at which a bucket of either sketch is outside its limits, or the length.
-fn first_damaged(counts: &[i32], idsums: &[u32], other_counts: &[i32], other_idsums: &[u32]) -> usize
+fn first_damaged(
+    counts: &[i32],
+    idsums: &[u32],
+    other_counts: &[i32],
+    other_idsums: &[u32],
+) -> usize
     requires { ⌜ (length (now idsums) ≡ length (now counts)) × (length (now «other_counts») ≡ length (now counts)) × (length (now «other_idsums») ≡ length (now counts)) ⌝ }
     ensures { λ r. ⌜ r ≡ least 0 (length (now (counts .entry))) (eitherDamaged (sketch (now (counts .entry)) (now (idsums .entry))) (sketch (now («other_counts» .entry)) (now («other_idsums» .entry)))) ⌝ }
 {
@@ -130,7 +135,13 @@ fn judge(
     Answer::Done
 }
 
-fn put_all(minus: bool, counts: &mut [i32], idsums: &mut [u32], other_counts: &[i32], other_idsums: &[u32])
+fn put_all(
+    minus: bool,
+    counts: &mut [i32],
+    idsums: &mut [u32],
+    other_counts: &[i32],
+    other_idsums: &[u32],
+)
     requires { ⌜ (length (now idsums) ≡ length (now counts)) × (length (now «other_counts») ≡ length (now counts)) × (length (now «other_idsums») ≡ length (now counts)) ⌝ }
     requires { ⌜ ((k : ℕ) → k < length (now counts) → inLimits (plusMinus minus (getD (now counts) k (pos 0)) (getD (now «other_counts») k (pos 0))) ≡ true) ⌝ }
     requires { ⌜ ((k : ℕ) → k < length (now counts) → (getD (now idsums) k 0 < prime) × (getD (now «other_idsums») k 0 < prime)) ⌝ }

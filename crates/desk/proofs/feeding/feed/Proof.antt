@@ -8,8 +8,8 @@ use denote.Ref.{now}
 use borrow.Author.Needs.{needs}
 use Rattle.sketch.specs.Sketch.{Sketch, sketch}
 use Rattle.params.proofs.Searches.{test-held, test-failed}
-use Rattle.desk.specs.Desk.{inReach, firstPackets, firstEnd, secondHead, secondPackets, secondEnd, fedState}
-use Rattle.desk.proofs.Onward.{Came, part-reach, packets-first, then-end, then-head, then-packets, then-over, then-sketch}
+use Rattle.desk.specs.Desk.{offsetsFit, firstPackets, firstEnd, secondHead, secondPackets, secondEnd, fedState}
+use Rattle.desk.proofs.Onward.{Came, part-fits, packets-first, then-end, then-head, then-packets, then-over, then-sketch}
 use Rattle.desk.proofs.feeding.feed.Statement.{statement}
 use Rattle.desk.proofs.feeding.feed.Tie as tie
 
@@ -23,19 +23,19 @@ down c = sketch (now (c .args .down-counts)) (now (c .args .down-idsums))
 abbrev hand : tie.Start → List ℕ
 hand c = now (c .args .bytes)
 
-in-reach-requires : tie.Need-in-reach-requires
-in-reach-requires c κs = search needs
+offsets-fit-requires : tie.Need-offsets-fit-requires
+offsets-fit-requires c κs = search needs
 
 returns : tie.Need-returns
-unfolding inReach
+unfolding offsetsFit
 returns c =
-    let far = test-failed (c .before .in-reach .ensures) (c .if1 .taken) in
+    let far = test-failed (c .before .offsets-fit .ensures) (c .if1 .taken) in
     record { state = rw far; used = omega arith; upstream = rw far; downstream = rw far }
 
 -- else 64 bits hold all that the bytes lead to
-near : (c : tie.Else1) → inReach (hand (c .before .before .before .before .before)) (c .before .before .before .before .before .args .s) ≡ true
-unfolding inReach
-near c = test-held (c .before .in-reach .ensures) (c .if1 .left)
+near : (c : tie.Else1) → offsetsFit (hand (c .before .before .before .before .before)) (c .before .before .before .before .before .args .s) ≡ true
+unfolding offsetsFit
+near c = test-held (c .before .offsets-fit .ensures) (c .if1 .left)
 
 packets-requires : tie.Need-packets-requires
 packets-requires c κs = near (c .before .before)
@@ -57,7 +57,7 @@ part-end-end : tie.Need-part-end-end
 part-end-end c = search needs
 
 end-requires : tie.Need-end-requires
-end-requires c κs = part-reach (came-to-first-packets (c .before .before .before .before .before)) (near (c .before .before .before .before .before .before .before .before))
+end-requires c κs = part-fits (came-to-first-packets (c .before .before .before .before .before)) (near (c .before .before .before .before .before .before .before .before))
 
 came-to-first-end : (c : tie.After-end) → Came (hand (c .before .before .before .before .before .before .before .before .before .before .before .before .before .before)) (c .before .before .before .before .before .before .before .before .before .before .before .before .before .before .args .s) (c .end .result) (firstEnd (c .before .before .before .before .before .before .before .before .before .before .before .before .before .before .args .p) (hand (c .before .before .before .before .before .before .before .before .before .before .before .before .before .before)) (up (c .before .before .before .before .before .before .before .before .before .before .before .before .before .before)) (down (c .before .before .before .before .before .before .before .before .before .before .before .before .before .before)) (c .before .before .before .before .before .before .before .before .before .before .before .before .before .before .args .s))
 came-to-first-end c = then-end (came-to-first-packets (c .before .before .before .before .before .before)) _ (c .end .ensures)
@@ -75,7 +75,7 @@ part-second-head-end : tie.Need-part-second-head-end
 part-second-head-end c = search needs
 
 second-head-requires : tie.Need-second-head-requires
-second-head-requires c κs = part-reach (came-to-first-end (c .before .before)) (near (c .before .before .before .before .before .before .before .before .before .before .before))
+second-head-requires c κs = part-fits (came-to-first-end (c .before .before)) (near (c .before .before .before .before .before .before .before .before .before .before .before))
 
 came-to-second-head : (c : tie.After-second-head) → Came (hand (c .before .before .before .before .before .before .before .before .before .before .before .before .before .before .before .before .before)) (c .before .before .before .before .before .before .before .before .before .before .before .before .before .before .before .before .before .args .s) (c .second-head .result) (secondHead (c .before .before .before .before .before .before .before .before .before .before .before .before .before .before .before .before .before .args .p) (hand (c .before .before .before .before .before .before .before .before .before .before .before .before .before .before .before .before .before)) (up (c .before .before .before .before .before .before .before .before .before .before .before .before .before .before .before .before .before)) (down (c .before .before .before .before .before .before .before .before .before .before .before .before .before .before .before .before .before)) (c .before .before .before .before .before .before .before .before .before .before .before .before .before .before .before .before .before .args .s))
 came-to-second-head c = then-head (came-to-first-end (c .before .before .before)) _ _ (c .second-head .ensures)
@@ -93,7 +93,7 @@ part-packets-end : tie.Need-part-packets-end
 part-packets-end c = search needs
 
 packets-requires-2 : tie.Need-packets-requires-2
-packets-requires-2 c κs = part-reach (came-to-second-head (c .before .before .before .before)) (near (c .before .before .before .before .before .before .before .before .before .before .before .before .before .before .before .before))
+packets-requires-2 c κs = part-fits (came-to-second-head (c .before .before .before .before)) (near (c .before .before .before .before .before .before .before .before .before .before .before .before .before .before .before .before))
 
 came-to-second-packets : (c : tie.After-packets2) → Came (hand (c .before .before .before .before .before .before .before .before .before .before .before .before .before .before .before .before .before .before .before .before .before .before)) (c .before .before .before .before .before .before .before .before .before .before .before .before .before .before .before .before .before .before .before .before .before .before .args .s) (c .packets2 .result) (secondPackets (c .before .before .before .before .before .before .before .before .before .before .before .before .before .before .before .before .before .before .before .before .before .before .args .p) (hand (c .before .before .before .before .before .before .before .before .before .before .before .before .before .before .before .before .before .before .before .before .before .before)) (up (c .before .before .before .before .before .before .before .before .before .before .before .before .before .before .before .before .before .before .before .before .before .before)) (down (c .before .before .before .before .before .before .before .before .before .before .before .before .before .before .before .before .before .before .before .before .before .before)) (c .before .before .before .before .before .before .before .before .before .before .before .before .before .before .before .before .before .before .before .before .before .before .args .s))
 came-to-second-packets c = then-packets (came-to-second-head (c .before .before .before .before .before)) _ _ _ (c .packets2 .ensures .0)
@@ -111,7 +111,7 @@ part-end-end-2 : tie.Need-part-end-end-2
 part-end-end-2 c = search needs
 
 end-requires-2 : tie.Need-end-requires-2
-end-requires-2 c κs = part-reach (came-to-second-packets (c .before .before .before .before .before)) (near (c .before .before .before .before .before .before .before .before .before .before .before .before .before .before .before .before .before .before .before .before .before .before))
+end-requires-2 c κs = part-fits (came-to-second-packets (c .before .before .before .before .before)) (near (c .before .before .before .before .before .before .before .before .before .before .before .before .before .before .before .before .before .before .before .before .before .before))
 
 came-to-second-end : (c : tie.After-end2) → Came (hand (c .before .before .before .before .before .before .before .before .before .before .before .before .before .before .before .before .before .before .before .before .before .before .before .before .before .before .before .before)) (c .before .before .before .before .before .before .before .before .before .before .before .before .before .before .before .before .before .before .before .before .before .before .before .before .before .before .before .before .args .s) (c .end2 .result) (secondEnd (c .before .before .before .before .before .before .before .before .before .before .before .before .before .before .before .before .before .before .before .before .before .before .before .before .before .before .before .before .args .p) (hand (c .before .before .before .before .before .before .before .before .before .before .before .before .before .before .before .before .before .before .before .before .before .before .before .before .before .before .before .before)) (up (c .before .before .before .before .before .before .before .before .before .before .before .before .before .before .before .before .before .before .before .before .before .before .before .before .before .before .before .before)) (down (c .before .before .before .before .before .before .before .before .before .before .before .before .before .before .before .before .before .before .before .before .before .before .before .before .before .before .before .before)) (c .before .before .before .before .before .before .before .before .before .before .before .before .before .before .before .before .before .before .before .before .before .before .before .before .before .before .before .before .args .s))
 came-to-second-end c = then-end (came-to-second-packets (c .before .before .before .before .before .before)) _ (c .end2 .ensures)
@@ -163,7 +163,7 @@ pub feed-spec : {M : Type 1} → statement M
 feed-spec =
     tie.close
     (tie.spec
-    in-reach-requires
+    offsets-fit-requires
     returns
     packets-requires
     sub-i

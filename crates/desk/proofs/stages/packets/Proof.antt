@@ -10,9 +10,10 @@ use borrow.Author.Tests.{not-true, not-false}
 use Rattle.desk.specs.Desk.{packetsStage, packetsSketch, packetsState}
 use Rattle.desk.proofs.Taking.{taken-bytes}
 use Rattle.desk.proofs.WhatIsDue.{not-packets}
-use Rattle.desk.proofs.Reach.{reached}
+use Rattle.desk.proofs.OffsetsFit.{bounded}
 use Rattle.desk.proofs.stages.packets.Statement.{statement}
 use Rattle.desk.proofs.stages.packets.Tie as tie
+use Rattle.files.specs.Records.{packetsLength}
 
 enum-told : tie.Need-enum-told
 enum-told c = search needs
@@ -35,17 +36,17 @@ stage-after-requires : tie.Need-stage-after-requires
 stage-after-requires c κs = search needs
 
 -- the packets that were taken lie within the bytes
-within : (c : tie.After-take-packets) → 9 * c .take-packets .result .taken ≤ length (now (c .before .before .before .before .before .before .before .before .before .args .bytes))
+within : (c : tie.After-take-packets) → packetsLength * c .take-packets .result .taken ≤ length (now (c .before .before .before .before .before .before .before .before .before .args .bytes))
 within c = rw (ap (λ r. r .taken) (c .take-packets .ensures .0)) (taken-bytes _ _ _)
 
 mul-t16 : tie.Need-mul-t16
-mul-t16 c = omega (arith, reached _ _ (c .before .before .before .before .before .before .before .before .before .before .before .before .before .before .pre), within (c .before .before .before .before .before))
+mul-t16 c = omega (arith, bounded _ _ (c .before .before .before .before .before .before .before .before .before .before .before .before .before .before .pre), within (c .before .before .before .before .before))
 
 add-t17 : tie.Need-add-t17
-add-t17 c = omega (arith, reached _ _ (c .before .before .before .before .before .before .before .before .before .before .before .before .before .before .before .pre), within (c .before .before .before .before .before .before))
+add-t17 c = omega (arith, bounded _ _ (c .before .before .before .before .before .before .before .before .before .before .before .before .before .before .before .pre), within (c .before .before .before .before .before .before))
 
 add-t18 : tie.Need-add-t18
-add-t18 c = omega (arith, reached _ _ (c .before .before .before .before .before .before .before .before .before .before .before .before .before .before .before .before .before .pre), within (c .before .before .before .before .before .before .before .before))
+add-t18 c = omega (arith, bounded _ _ (c .before .before .before .before .before .before .before .before .before .before .before .before .before .before .before .before .before .pre), within (c .before .before .before .before .before .before .before .before))
 
 same-length : tie.Need-same-length
 same-length c = search needs

@@ -5,6 +5,7 @@ use Rattle.desk.proofs.WhatIsDue.{not-head, here-whole, head-decides}
 use borrow.Author.Needs.{needs}
 use Rattle.desk.proofs.stages.second_head.Statement.{statement}
 use Rattle.desk.proofs.stages.second_head.Tie as tie
+use Rattle.files.specs.Records.{headKind}
 
 enum-told : tie.Need-enum-told
 enum-told c = search needs
@@ -29,7 +30,7 @@ enum-told-4 : tie.Need-enum-told-4
 enum-told-4 c = search needs
 
 take-head-requires : tie.Need-take-head-requires
-take-head-requires c κs = (here-whole 1 _ (sym (c .before .before .due-of .ensures) ∙ c .enum-told4 .given .1), c .before .before .before .before .before .before .pre)
+take-head-requires c κs = (here-whole headKind _ (sym (c .before .before .due-of .ensures) ∙ c .enum-told4 .given .1), c .before .before .before .before .before .before .pre)
 
 returns-2 : tie.Need-returns-2
 returns-2 c = head-decides _ _ _ _ _ (c .before .before .before .enum-told .given .1) (sym (c .enum-told2 .given .1) ∙ c .before .before .due-of .ensures) refl

@@ -5,9 +5,10 @@ use native.Mathlib.Omega.{arith}
 use denote.Ref.{now}
 use borrow.Author.Tests.{eq-eqb, ne-eqb}
 use Rattle.files.specs.Bytes.{word}
-use Rattle.files.specs.Records.{bodyLength}
+use Rattle.files.specs.Records.{endKind}
+use Rattle.files.specs.Fields.{recordsField}
 use Rattle.files.proofs.Standing.{kind-ends}
-use Rattle.desk.proofs.Reach.{reached}
+use Rattle.desk.proofs.OffsetsFit.{bounded}
 use Rattle.desk.proofs.WhatIsDue.{end-said, end-not-said}
 use borrow.Author.Needs.{needs}
 use Rattle.desk.proofs.stages.take_end.Statement.{statement}
@@ -35,15 +36,14 @@ stop-requires-2 : tie.Need-stop-requires-2
 stop-requires-2 c κs = search needs
 
 -- the number that the end says
-said : (c : tie.After-known-told) → c .before .found .given .0 .0 ≡ word (now (c .before .before .before .before .before .args .bytes)) 1
+said : (c : tie.After-known-told) → c .before .found .given .0 .0 ≡ word (now (c .before .before .before .before .before .args .bytes)) recordsField
 said c = end-said _ _ (c .before .before .before .before .before .pre .0) (sym (c .before .before .before .end-at .ensures) ∙ c .before .found .given .1)
 
 returns-2 : tie.Need-returns-2
 returns-2 c = c .stop2 .ensures ∙ rw (ne-eqb _ _ (λ e. c .before .if1 .taken (said (c .before .before) ∙ e)))
 
 add-t18 : tie.Need-add-t18
-unfolding bodyLength
-add-t18 c = omega (arith, reached _ _ (c .before .before .before .before .before .before .before .pre .1), kind-ends 4 _ _ (c .before .before .before .before .before .before .before .pre .0))
+add-t18 c = omega (arith, bounded _ _ (c .before .before .before .before .before .before .before .pre .1), kind-ends endKind _ _ (c .before .before .before .before .before .before .before .pre .0))
 
 returns-3 : tie.Need-returns-3
 returns-3 c = rw (eq-eqb _ _ (sym (said (c .before .before)) ∙ c .before .if1 .left))

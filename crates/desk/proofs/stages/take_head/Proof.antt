@@ -1,9 +1,9 @@
 -- `desk::stages::take_head` meets its contract.
 use mathlib.Core.Path.{sym, _∙_}
 use native.Mathlib.Omega.{arith}
-use Rattle.files.specs.Records.{bodyLength}
+use Rattle.files.specs.Records.{headKind}
 use Rattle.files.proofs.Standing.{kind-ends}
-use Rattle.desk.proofs.Reach.{reached}
+use Rattle.desk.proofs.OffsetsFit.{bounded}
 use borrow.Author.Needs.{needs}
 use Rattle.desk.proofs.stages.take_head.Statement.{statement}
 use Rattle.desk.proofs.stages.take_head.Tie as tie
@@ -15,8 +15,7 @@ enum-told : tie.Need-enum-told
 enum-told c = search needs
 
 add-t8 : tie.Need-add-t8
-unfolding bodyLength
-add-t8 c = omega (arith, reached _ _ (c .before .before .before .before .before .pre .1), kind-ends 1 _ _ (c .before .before .before .before .before .pre .0))
+add-t8 c = omega (arith, bounded _ _ (c .before .before .before .before .before .pre .1), kind-ends headKind _ _ (c .before .before .before .before .before .pre .0))
 
 enum-known-r : tie.Need-enum-known-r
 enum-known-r c = search needs

@@ -31,8 +31,8 @@ check-requires c κs = search needs
 headed : (c : tie.After-enum-told) → headAnswer (now (c .before .before .before .before .args .bytes)) ≡ Done
 headed c = sym (ap (λ h. h .answer) (c .before .before .head .ensures)) ∙ c .enum-told .given .1
 
-told : (c : tie.After-enum-told) → c .before .before .head .result .params ≡ paramsIn (now (c .before .before .before .before .args .bytes))
-told c = ap (λ h. h .params) (c .before .before .head .ensures) ∙ sym (kept-new _ _ _ (headed c))
+said : (c : tie.After-enum-told) → c .before .before .head .result .params ≡ paramsIn (now (c .before .before .before .before .args .bytes))
+said c = ap (λ h. h .params) (c .before .before .head .ensures) ∙ sym (kept-new _ _ _ (headed c))
 
 returns-2 : tie.Need-returns-2
 returns-2 c = opening-bad _ _ _ _ (headed (c .before .before)) (test-failed (c .before .check .ensures) (c .if1 .taken))
@@ -47,7 +47,7 @@ returns-3 : tie.Need-returns-3
 returns-3 c =
     let p = c .before .before .before .before .before .before .before .before .before .args .p in
     opening-other _ _ _ _ (headed (c .before .before .before .before .before)) (good (c .before .before .before))
-    (ap (sameParams p) (sym (told (c .before .before .before .before .before))) ∙ test-failed (c .before .same .ensures) (c .if2 .taken))
+    (ap (sameParams p) (sym (said (c .before .before .before .before .before))) ∙ test-failed (c .before .same .ensures) (c .if2 .taken))
 
 judge-lent-requires : tie.Need-judge-lent-requires
 judge-lent-requires c κs = search needs
@@ -58,7 +58,7 @@ returns-4 c =
     let p = c .before .before .before .before .before .before .before .before .before .before .args .p in
     rw (good (c .before .before .before .before)) at (c .judge-lent .ensures)
     ∙ opening-lengths _ _ _ _ (headed (c .before .before .before .before .before .before)) (good (c .before .before .before .before))
-    (ap (sameParams p) (sym (told (c .before .before .before .before .before .before))) ∙ test-held (c .before .before .same .ensures) (c .before .if2 .left))
+    (ap (sameParams p) (sym (said (c .before .before .before .before .before .before))) ∙ test-held (c .before .before .same .ensures) (c .before .if2 .left))
 
 pub opening-spec : {M : Type 1} → statement M
 opening-spec =

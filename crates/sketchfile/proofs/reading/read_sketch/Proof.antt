@@ -8,7 +8,7 @@ use Rattle.params.specs.declared.answers.Answer.the-variants.{Done}
 use Rattle.params.specs.Params.{lentAnswer}
 use Rattle.params.proofs.Judging.{first-refused, first-passed, kept-old}
 use Rattle.params.proofs.Rules.{lent-done}
-use Rattle.sketchfile.specs.Stored.{sketchAnswer}
+use Rattle.sketchfile.specs.Reading.{sketchAnswer}
 use Rattle.sketchfile.proofs.BucketRecords.{indexes-inside, opening-lent, all-stored}
 use Rattle.sketchfile.proofs.reading.read_sketch.Statement.{statement}
 use Rattle.sketchfile.proofs.reading.read_sketch.Tie as tie
@@ -36,15 +36,15 @@ enum-told-4 : tie.Need-enum-told-4
 enum-told-4 c = search needs
 
 -- the parameters and the lengths are right
-shaped : (c : tie.After-enum-told) → lentAnswer (c .before .before .before .before .before .args .p) (length (now (c .before .before .before .before .before .args .counts))) (length (now (c .before .before .before .before .before .args .idsums))) ≡ Done
-shaped c = opening-lent _ _ _ _ (sym (c .before .before .opening .ensures) ∙ c .enum-told .given .1)
+lent-right : (c : tie.After-enum-told) → lentAnswer (c .before .before .before .before .before .args .p) (length (now (c .before .before .before .before .before .args .counts))) (length (now (c .before .before .before .before .before .args .idsums))) ≡ Done
+lent-right c = opening-lent _ _ _ _ (sym (c .before .before .opening .ensures) ∙ c .enum-told .given .1)
 
 -- the answer is that of the records
 judged : (c : tie.After-judge-records)
     → c .judge-records .result ≡ sketchAnswer (c .before .before .before .before .before .before .args .p) (now (c .before .before .before .before .before .before .args .bytes)) (length (now (c .before .before .before .before .before .before .args .counts))) (length (now (c .before .before .before .before .before .before .args .idsums)))
 unfolding sketchAnswer
 judged c =
-    rw (lent-done _ _ _ (shaped (c .before)) .1) at (c .judge-records .ensures)
+    rw (lent-done _ _ _ (lent-right (c .before)) .1) at (c .judge-records .ensures)
     ∙ sym (first-passed _ _ (sym (c .before .before .before .opening .ensures) ∙ c .before .enum-told .given .1))
 
 returns-2 : tie.Need-returns-2
@@ -55,7 +55,7 @@ fresh-requires c κs = search needs
 
 store-requires : tie.Need-store-requires
 store-requires c κs =
-    let long = lent-done _ _ _ (shaped (c .before .before .before .before .before .before .before .before .before .before .before)) in
+    let long = lent-done _ _ _ (lent-right (c .before .before .before .before .before .before .before .before .before .before .before)) in
     let done = c .before .before .before .before .before .before .before .before .enum-told3 .given .1 in
     let inside = indexes-inside _ _ (sym (c .before .before .before .before .before .before .before .before .before .before .judge-records .ensures) ∙ done) in
     (omega arith, λ k h. omega (arith, inside k h))
@@ -68,7 +68,7 @@ same-length-2 c = search needs
 
 returns-3 : tie.Need-returns-3
 returns-3 c =
-    let right = shaped (c .before .before .before .before .before .before .before .before .before .before .before .before .before .before .before) in
+    let right = lent-right (c .before .before .before .before .before .before .before .before .before .before .before .before .before .before .before) in
     let done = c .before .before .before .before .before .before .before .before .before .before .before .before .enum-told3 .given .1 in
     record {
       answer = judged (c .before .before .before .before .before .before .before .before .before .before .before .before .before .before);

@@ -1,4 +1,4 @@
--- `lines::lines::left` meets its contract: the word, the index, the count, the idsum and the newline, one after another.
+-- `lines::lines::left_line` meets its contract: the word, the index, the count, the idsum and the newline, one after another.
 use native.Mathlib.Omega.{arith}
 use mir.Facts.{sfits-widen}
 use Rattle.field.proofs.Casts.{widened, widens}
@@ -6,8 +6,8 @@ use Rattle.lines.specs.Lines.{leftLine}
 use Rattle.lines.proofs.Digits.{length-decimal, length-short, length-read}
 use Rattle.lines.proofs.Joining.{line-of-four, not-lined}
 use borrow.Author.Needs.{needs}
-use Rattle.lines.proofs.lines.left.Statement.{statement}
-use Rattle.lines.proofs.lines.left.Tie as tie
+use Rattle.lines.proofs.lines.left_line.Statement.{statement}
+use Rattle.lines.proofs.lines.left_line.Tie as tie
 
 returns : tie.Need-returns
 returns c = not-lined _ _ (omega arith)
@@ -53,8 +53,8 @@ returns-2 c =
     let count = rw (widened (s .fits .count)) at (c .before .before .before .before .before .before .before .before .before .before .before .before .put-named-signed .ensures) in
     line-of-four (omega arith) (c .before .before .before .before .before .before .before .before .before .before .before .before .before .before .before .before .before .put-named .ensures) count (c .before .before .before .before .before .before .before .put-named2 .ensures) (c .before .before .put .ensures)
 
-pub left-spec : {M : Type 1} → statement M
-left-spec =
+pub left-line-spec : {M : Type 1} → statement M
+left-line-spec =
     tie.close
     (tie.spec
     returns

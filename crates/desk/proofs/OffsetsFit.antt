@@ -9,22 +9,22 @@ use lib.Dec.{ltb, leb}
 use lib.ListN.{length}
 use Rattle.params.proofs.Searches.{and-true}
 use Rattle.desk.specs.declared.states.State.{State}
-use Rattle.desk.specs.Desk.{inReach}
+use Rattle.desk.specs.Desk.{offsetsFit}
 
 -- 64 bits hold the offset and the number of records after these bytes
-pub record Reached (bs : List ℕ) (s : State) : Type 0 where
+pub record Bounded (bs : List ℕ) (s : State) : Type 0 where
   pub offset : s .at + length bs < 18446744073709551616
   pub counted : s .records + length bs < 18446744073709551616
 
-pub reached : (bs : List ℕ) (s : State) → inReach bs s ≡ true → Reached bs s
-unfolding inReach
-reached bs s e =
+pub bounded : (bs : List ℕ) (s : State) → offsetsFit bs s ≡ true → Bounded bs s
+unfolding offsetsFit
+bounded bs s e =
     let h = and-true (ltb (s .at + length bs) 18446744073709551616) _ e in
     record { offset = ltb-true _ _ (h .0); counted = ltb-true _ _ (h .1) }
 
-pub in-reach : (bs : List ℕ) (s : State) → Reached bs s → inReach bs s ≡ true
-unfolding inReach
-in-reach bs s r = rw (lt-ltb (s .at + length bs) 18446744073709551616 (r .offset)) (lt-ltb (s .records + length bs) 18446744073709551616 (r .counted))
+pub offsets-fit : (bs : List ℕ) (s : State) → Bounded bs s → offsetsFit bs s ≡ true
+unfolding offsetsFit
+offsets-fit bs s r = rw (lt-ltb (s .at + length bs) 18446744073709551616 (r .offset)) (lt-ltb (s .records + length bs) 18446744073709551616 (r .counted))
 
 -- the tests one after the other: the offset's fails, or that of the records decides
 pub offset-past : (at records n : ℕ) → 18446744073709551616 ≤ at + n → false ≡ (ltb (at + n) 18446744073709551616 && ltb (records + n) 18446744073709551616)

@@ -1,12 +1,12 @@
--- `lines::lines::end` meets its contract: the words, the pops, the net and the newline, one after another.
+-- `lines::lines::end_line` meets its contract: the words, the pops, the net and the newline, one after another.
 use native.Mathlib.Omega.{arith}
 use mir.Facts.{toZ-ofZ}
 use Rattle.lines.specs.Lines.{endLine}
 use Rattle.lines.proofs.Digits.{length-short, length-read}
 use Rattle.lines.proofs.Joining.{then, line-of-four, not-lined, length-ending}
 use borrow.Author.Needs.{needs}
-use Rattle.lines.proofs.lines.end.Statement.{statement}
-use Rattle.lines.proofs.lines.end.Tie as tie
+use Rattle.lines.proofs.lines.end_line.Statement.{statement}
+use Rattle.lines.proofs.lines.end_line.Tie as tie
 
 returns : tie.Need-returns
 returns c = not-lined _ _ (omega arith)
@@ -51,8 +51,8 @@ returns-2 c =
     let ending = then (omega arith) (c .before .before .before .before .before .before .before .before .before .before .before .before .before .before .before .before .before .before .before .before .before .put .ensures) (c .before .before .before .before .before .before .before .before .before .before .before .before .before .before .before .before .before .put-ending .ensures) in
     line-of-four (omega arith) ending (c .before .before .before .before .before .before .before .before .before .before .before .before .put-named .ensures) net (c .before .before .put2 .ensures)
 
-pub end-spec : {M : Type 1} → statement M
-end-spec =
+pub end-line-spec : {M : Type 1} → statement M
+end-line-spec =
     tie.close
     (tie.spec
     returns

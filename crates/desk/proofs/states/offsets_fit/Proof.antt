@@ -1,9 +1,9 @@
--- `desk::states::in_reach` meets its contract.
+-- `desk::states::offsets_fit` meets its contract.
 use native.Mathlib.Omega.{arith}
-use Rattle.desk.proofs.Reach.{offset-past, records-decide}
+use Rattle.desk.proofs.OffsetsFit.{offset-past, records-decide}
 use borrow.Author.Needs.{needs}
-use Rattle.desk.proofs.states.in_reach.Statement.{statement}
-use Rattle.desk.proofs.states.in_reach.Tie as tie
+use Rattle.desk.proofs.states.offsets_fit.Statement.{statement}
+use Rattle.desk.proofs.states.offsets_fit.Tie as tie
 
 sub-if1 : tie.Need-sub-if1
 sub-if1 c = search needs
@@ -17,5 +17,5 @@ sub-result c = search needs
 returns-2 : tie.Need-returns-2
 returns-2 c = let a = c .before .before .before .args in records-decide (a .s .at) (a .s .records) (a .len) (omega arith) (omega arith)
 
-pub in-reach-spec : {M : Type 1} → statement M
-in-reach-spec = tie.close (tie.spec sub-if1 returns sub-result returns-2)
+pub offsets-fit-spec : {M : Type 1} → statement M
+offsets-fit-spec = tie.close (tie.spec sub-if1 returns sub-result returns-2)

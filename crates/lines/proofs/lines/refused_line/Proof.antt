@@ -1,11 +1,11 @@
--- `lines::lines::refused` meets its contract: the words, the number, the byte and the newline, one after another.
+-- `lines::lines::refused_line` meets its contract: the words, the number, the byte and the newline, one after another.
 use native.Mathlib.Omega.{arith}
 use Rattle.lines.specs.Lines.{refusedLine}
 use Rattle.lines.proofs.Digits.{length-decimal}
 use Rattle.lines.proofs.Joining.{line-of-three, not-lined}
 use borrow.Author.Needs.{needs}
-use Rattle.lines.proofs.lines.refused.Statement.{statement}
-use Rattle.lines.proofs.lines.refused.Tie as tie
+use Rattle.lines.proofs.lines.refused_line.Statement.{statement}
+use Rattle.lines.proofs.lines.refused_line.Tie as tie
 
 returns : tie.Need-returns
 returns c = not-lined _ _ (omega arith)
@@ -13,8 +13,8 @@ returns c = not-lined _ _ (omega arith)
 number-requires : tie.Need-number-requires
 number-requires c κs = search needs
 
-cast-told : tie.Need-cast-told
-cast-told c = search needs
+cast-number : tie.Need-cast-number
+cast-number c = search needs
 
 slice-aggregate-put-named : tie.Need-slice-aggregate-put-named
 slice-aggregate-put-named c = search needs
@@ -43,13 +43,13 @@ returns-2 c =
     let refusal = rw (c .before .before .before .before .before .before .before .before .before .before .before .before .before .before .before .number .ensures) at (c .before .before .before .before .before .before .before .before .before .before .before .before .put-named .ensures) in
     line-of-three (omega arith) refusal (c .before .before .before .before .before .before .before .put-named2 .ensures) (c .before .before .put .ensures)
 
-pub refused-spec : {M : Type 1} → statement M
-refused-spec =
+pub refused-line-spec : {M : Type 1} → statement M
+refused-line-spec =
     tie.close
     (tie.spec
     returns
     number-requires
-    cast-told
+    cast-number
     slice-aggregate-put-named
     put-named-requires
     slice-aggregate-put-named-2

@@ -1,4 +1,4 @@
--- `sketchfile::writing::used` meets its contract. The invariant: the records that are counted and those that are left are as long as all.
+-- `sketchfile::writing::nonzero_buckets` meets its contract. The invariant: the records that are counted and those that are left are as long as all.
 use mathlib.Core.Path.{_≡_, sym, ap, _∙_}
 use mathlib.Core.Logic.{⊎-elim}
 use Prim.Native.Nat.{_+_, _*_, _-_, _≤_}
@@ -12,16 +12,17 @@ use Rattle.field.proofs.Casts.{back}
 use Rattle.sketch.specs.Sketch.{sketch}
 use Rattle.files.specs.Bytes.{wordBytes}
 use Rattle.files.specs.Layout.{bucketBytes}
-use Rattle.sketchfile.specs.Writing.{zeroAt, bucketsBytes, usedBuckets}
-use Rattle.sketchfile.proofs.Written.{left-few, buckets-long, all-left, none-left, zero-next, used-next}
-use Rattle.sketchfile.proofs.writing.used.Statement.{statement}
-use Rattle.sketchfile.proofs.writing.used.Tie as tie
+use Rattle.files.specs.Records.{bucketLength}
+use Rattle.sketchfile.specs.Writing.{zeroAt, bucketsBytes, nonzeroBuckets}
+use Rattle.sketchfile.proofs.Written.{left-few, buckets-long, all-left, none-left, zero-next, nonzero-next}
+use Rattle.sketchfile.proofs.writing.nonzero_buckets.Statement.{statement}
+use Rattle.sketchfile.proofs.writing.nonzero_buckets.Tie as tie
 
 abbrev Inv-loop : tie.InvT-loop
 Inv-loop counts idsums n₀ k₀ n k =
     (k ≤ length counts)
     × (n ≤ k)
-    × (13 * n + length (bucketsBytes k (length counts - k) (sketch counts idsums)) ≡ length (bucketsBytes 0 (length counts) (sketch counts idsums)))
+    × (bucketLength * n + length (bucketsBytes k (length counts - k) (sketch counts idsums)) ≡ length (bucketsBytes 0 (length counts) (sketch counts idsums)))
 
 abbrev μ-loop : tie.MeasureT-loop
 μ-loop counts idsums n₀ k₀ n k = length counts - k
@@ -69,7 +70,7 @@ loop-again c =
       search needs,
       ⊎-elim (λ w. omega (arith, w .1)) (λ w. omega (arith, w .1)) (c .if1 .came),
       ⊎-elim
-          (λ w. omega (arith, w .1, ap length (used-next S n (l .k) h (sym (tested b) ∙ not-true _ (w .0 .taken)))))
+          (λ w. omega (arith, w .1, ap length (nonzero-next S n (l .k) h (sym (tested b) ∙ not-true _ (w .0 .taken)))))
           (λ w. omega (arith, w .1, ap length (zero-next S n (l .k) h (sym (tested b) ∙ not-false _ (w .0 .left)))))
           (c .if1 .came),
     )
@@ -80,11 +81,11 @@ returns c =
     let a = c .before .before .before .args in
     let S = sketch (now (a .counts)) (now (a .idsums)) in
     let n = length (now (a .counts)) in
-    let count : l .n ≡ usedBuckets 0 n S = omega (arith, ap length (none-left S n (l .k) (c .loop-test .left)), buckets-long S 0 n) in
+    let count : l .n ≡ nonzeroBuckets 0 n S = omega (arith, ap length (none-left S n (l .k) (c .loop-test .left)), buckets-long S 0 n) in
     (count, omega (arith, left-few S 0 n))
 
-pub used-spec : {M : Type 1} → statement M
-used-spec =
+pub nonzero-buckets-spec : {M : Type 1} → statement M
+nonzero-buckets-spec =
     tie.close
     (tie.spec
     Inv-loop

@@ -17,19 +17,21 @@ use Rattle.sketch.specs.Sketch.{Sketch, sketch, zeros}
 use Rattle.files.specs.Bytes.{word, countOf}
 use Rattle.files.specs.Heads.{openingAnswer}
 use Rattle.files.specs.Turns.{inTurn, bucketPlace, recordsOf, endAnswer}
+use Rattle.files.specs.Records.{bucketKind}
+use Rattle.files.specs.Fields.{indexField, countField, idsumField}
 
 -- how many bucket records there are, and the index, the count and the idsum in the k-th, counted from 0
 abbrev pub bucketsIn : List ℕ → ℕ
-bucketsIn bs = recordsOf 3 bucketPlace bs
+bucketsIn bs = recordsOf bucketKind bucketPlace bs
 
 abbrev pub bucketIndex : List ℕ → ℕ → ℕ
-bucketIndex bs k = word bs (bucketPlace k + 1)
+bucketIndex bs k = word bs (bucketPlace k + indexField)
 
 abbrev pub bucketCount : List ℕ → ℕ → ℤ
-bucketCount bs k = countOf (word bs (bucketPlace k + 5))
+bucketCount bs k = countOf (word bs (bucketPlace k + countField))
 
 abbrev pub bucketIdsum : List ℕ → ℕ → ℕ
-bucketIdsum bs k = word bs (bucketPlace k + 9)
+bucketIdsum bs k = word bs (bucketPlace k + idsumField)
 
 -- the lowest index that the k-th record may have: above that of the record before it
 unfoldable pub lowest : List ℕ → ℕ → ℕ

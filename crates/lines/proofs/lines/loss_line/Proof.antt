@@ -1,4 +1,4 @@
--- `lines::lines::loss` meets its contract: the word, the flow, the count and the newline, one after another.
+-- `lines::lines::loss_line` meets its contract: the word, the flow, the count and the newline, one after another.
 use native.Mathlib.Omega.{arith}
 use mir.Facts.{sfits-widen}
 use Rattle.field.proofs.Casts.{widened, widens}
@@ -6,8 +6,8 @@ use Rattle.lines.specs.Lines.{lossLine}
 use Rattle.lines.proofs.Digits.{length-short, length-read}
 use Rattle.lines.proofs.Joining.{line-of-three, not-lined}
 use borrow.Author.Needs.{needs}
-use Rattle.lines.proofs.lines.loss.Statement.{statement}
-use Rattle.lines.proofs.lines.loss.Tie as tie
+use Rattle.lines.proofs.lines.loss_line.Statement.{statement}
+use Rattle.lines.proofs.lines.loss_line.Tie as tie
 
 returns : tie.Need-returns
 returns c = not-lined _ _ (omega arith)
@@ -45,8 +45,8 @@ returns-2 c =
     let count = rw (widened (s .fits .count)) at (c .before .before .before .before .before .before .before .put-named-signed .ensures) in
     line-of-three (omega arith) (c .before .before .before .before .before .before .before .before .before .before .before .before .put-named .ensures) count (c .before .before .put .ensures)
 
-pub loss-spec : {M : Type 1} → statement M
-loss-spec =
+pub loss-line-spec : {M : Type 1} → statement M
+loss-line-spec =
     tie.close
     (tie.spec
     returns
