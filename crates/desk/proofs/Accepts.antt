@@ -1,29 +1,26 @@
 -- Two streams that their reader accepts, one directly after the other, are an input that the desk accepts, with the same sketches.
 use mathlib.Core.Path.{_≡_, refl, sym, ap, _∙_}
-use mathlib.Core.Bool.{Bool, true, false, not, _&&_}
+use mathlib.Core.Bool.{Bool, true, false}
 use mathlib.Core.List.{List, _++_}
 use Prim.Native.Nat.{ℕ, _+_, _-_, _*_, _≤_, _<_}
 use native.Mathlib.Omega.{arith}
-use borrow.Author.Tests.{lt-leb, le-leb, eq-eqb, ne-eqb, not-false}
+use borrow.Author.Tests.{lt-leb, le-leb, eq-eqb, ne-eqb}
 use lib.Dec.{leb}
 use lib.ListN.{length, getD, drop, length-append, length-drop, List·getD-append}
 use lib.Seq.{drop-at, drop-drop, getD-drop}
 use Rattle.params.specs.declared.params.Params.{Params}
-use Rattle.params.specs.declared.answers.Refusal.the-variants.{Param, Form}
 use Rattle.params.specs.declared.answers.Answer.the-variants.{Done}
 use Rattle.params.specs.Answers.{first, kept}
 use Rattle.params.specs.Params.{size, goodParams}
 use Rattle.sketch.specs.Sketch.{Sketch, zeros}
 use Rattle.files.specs.Bytes.{word}
-use Rattle.params.proofs.Searches.{and-true}
-use Rattle.params.proofs.Judging.{first-done, refuse-done}
 use Rattle.params.proofs.SameParams.{size-same}
 use Rattle.files.specs.Records.{recordAt, isKind, headKind, packetsKind, endKind, headLength, packetsLength, endLength}
-use Rattle.files.specs.Heads.{paramsIn, isHead, headAnswer, openingAnswer}
+use Rattle.files.specs.Heads.{paramsIn, headAnswer}
 use Rattle.files.specs.Turns.{packetPlace}
 use Rattle.files.specs.Fields.{recordsField}
 use Rattle.files.proofs.HeadTrips.{Opened}
-use Rattle.streamfile.specs.Streams.{packetsIn, streamAnswer, StreamRead}
+use Rattle.streamfile.specs.Streams.{packetsIn, StreamRead}
 use Rattle.streamfile.proofs.Accepting.{stream-done}
 use Rattle.desk.specs.declared.states.Stage.the-variants.{Packets, Head, Over}
 use Rattle.desk.specs.declared.states.State.{State}
@@ -138,13 +135,6 @@ module _ {P : Params} {a : List ℕ} {S : Sketch} (read : StreamRead P a (zeros 
       let e = end-said-done a (packetPlace (packetsIn a)) (packetsIn a) (stream-done P a (zeros P) (sym (read .answer)) .ended) in
       omega (arith, e .last, whole-record a (packetPlace (packetsIn a)) endKind (e .kind) .1)
 
-  file-good : goodParams (paramsIn a) ≡ true
-  unfolding streamAnswer openingAnswer
-  file-good =
-      let opened = first-done (openingAnswer P a (length (zeros P .counts)) (length (zeros P .idsums))) _ (sym (read .answer)) .0 in
-      let h = refuse-done (not (isHead (recordAt a 0))) Form 0 _ opened in
-      and-true (goodParams (paramsIn a)) (goodParams P) (not-false _ (refuse-done (not (goodParams (paramsIn a) && goodParams P)) Param 0 _ (h .1) .0)) .0
-
   file-opened : Opened P a (length (zeros P .counts)) (length (zeros P .idsums))
   file-opened = stream-done P a (zeros P) (sym (read .answer)) .opened
 
@@ -189,7 +179,7 @@ module _ {P : Params} {a b : List ℕ} {S T : Sketch} (one : StreamRead P a (zer
   answer-same =
       let same = file-opened two .same in
       let small : leb (size (paramsIn b)) mostBuckets ≡ true = ap (λ (k : ℕ). leb k mostBuckets) (sym (size-same P (paramsIn b) same)) ∙ few in
-      rw (file-good two, small, same)
+      rw (file-opened two .file-good, small, same)
 
   all-stand : Passed P bytes (zeros P) (zeros P)
   all-stand =
@@ -222,4 +212,4 @@ module _ {P : Params} {a b : List ℕ} {S T : Sketch} (one : StreamRead P a (zer
   begins =
       let opened = file-opened one in
       let small : leb (size (paramsIn a)) mostBuckets ≡ true = ap (λ (k : ℕ). leb k mostBuckets) (sym (size-same P (paramsIn a) (opened .same))) ∙ few in
-      begin-settled a b (omega (arith, file-long one)) ∙ rw (opened .head, file-good one, small)
+      begin-settled a b (omega (arith, file-long one)) ∙ rw (opened .head, opened .file-good, small)

@@ -14,7 +14,7 @@ use Rattle.params.specs.Params.{goodParams, sameParams}
 use Rattle.params.proofs.Judging.{Refuses, first-refused, refuse-done}
 use Rattle.files.specs.declared.heads.Headed.{Headed}
 use Rattle.files.specs.Records.{recordAt}
-use Rattle.files.specs.Heads.{paramsIn, isHead, headAnswer, noParams, headOf}
+use Rattle.files.specs.Heads.{paramsIn, isHead, headAnswer, noParams, refusedHead, headOf}
 use Rattle.desk.specs.Desk.{fewEnough, beginAnswer, beginOf, secondAnswer}
 
 module _ (bs : List ℕ) where
@@ -38,7 +38,7 @@ module _ (bs : List ℕ) where
       let refused : Refuses (headAnswer bs) = rw (ap (λ (h : Headed). h .answer) e) at q in
       e ∙ ap (λ (a : Answer). record { answer = a; params = kept a noParams (paramsIn bs) }) (first-refused (headAnswer bs) (headAnswer bs) _ refl refused)
 
-  pub first-too-large : headAnswer bs ≡ Done → fewEnough (paramsIn bs) ≡ false → _≡_ {A = Headed} (record { answer = Refused Param 0; params = noParams }) (beginOf bs)
+  pub first-too-large : headAnswer bs ≡ Done → fewEnough (paramsIn bs) ≡ false → refusedHead Param ≡ beginOf bs
   unfolding beginAnswer first kept
   first-too-large e f = rw (e, f)
 

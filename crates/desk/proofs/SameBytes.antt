@@ -22,7 +22,7 @@ use Rattle.params.proofs.Judging.{first-passed, refuse-none, refuse-done}
 use Rattle.sketch.proofs.ManyPackets.{after-end}
 use Rattle.files.specs.Bytes.{word}
 use Rattle.files.specs.Records.{bodyLength, recordAt, isKind, placeOf, packetsKind, endKind, headLength, packetsLength, endLength}
-use Rattle.files.specs.Heads.{paramsIn, isHead, openingAnswer}
+use Rattle.files.specs.Heads.{paramsIn, isHead, parametersAnswer}
 use Rattle.files.specs.Turns.{atOffset, packetFrom, packetPlace, endAnswer}
 use Rattle.files.specs.Fields.{flowField, numberField, recordsField}
 use Rattle.files.proofs.EndStages.{ended}
@@ -126,12 +126,12 @@ module _ (P : Params) (fs xs : List ℕ) (n : ℕ) (long : length fs ≡ headLen
     -- so a head with the given parameters makes fs a stream that is read into a fresh sketch
     pub fed-is-read : isHead (recordAt fs 0) ≡ true → goodParams P ≡ true → goodParams (paramsIn fs) ≡ true → sameParams P (paramsIn fs) ≡ true
         → takenAnswer P xs (zeros P) ≡ Done → StreamRead P fs (zeros P) Done (afterTaken P xs (zeros P))
-    unfolding streamAnswer openingAnswer kept
+    unfolding streamAnswer parametersAnswer kept
     fed-is-read head good goods alike done =
         let all = all-taken P xs (zeros P) done in
-        let opened : openingAnswer P fs (length (zeros P .counts)) (length (zeros P .idsums)) ≡ Done = rw (head, goods, good, alike) (fresh-lengths P) in
+        let right : parametersAnswer P fs ≡ Done = rw (head, goods, good, alike) in
         record {
-          answer = sym (first-passed _ _ opened ∙ refuse-none (size P) (damagedAt (zeros P)) Damage _ (fresh-sound P) ∙ records-done (zeros P) all);
+          answer = sym (first-passed _ _ right ∙ first-passed _ _ (fresh-lengths P) ∙ refuse-none (size P) (damagedAt (zeros P)) Damage _ (fresh-sound P) ∙ records-done (zeros P) all);
           after-all = all-same (zeros P) all;
         }
 

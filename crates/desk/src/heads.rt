@@ -3,7 +3,7 @@ ghost use mathlib.Core.Path.{_≡_};
 ghost use mathlib.Core.Bool.{true};
 ghost use Rattle.params.specs.Params.{goodParams};
 ghost use Rattle.files.specs.Records.{recordAt, isKind, headKind};
-ghost use Rattle.files.specs.Heads.{paramsIn, noParams};
+ghost use Rattle.files.specs.Heads.{paramsIn};
 ghost use Rattle.desk.specs.Desk.{fewEnough, beginOf, secondAnswer};
 use files::heads::Headed;
 use files::heads::head;
@@ -22,22 +22,6 @@ fn few_enough(p: Params) -> bool
     p.size() <= MOST_BUCKETS
 }
 
-// What a head that is refused says: no parameters.
-fn refused(refusal: Refusal) -> Headed
-    ensures { λ r. ⌜ r ≡ record { answer = Answer.Refused refusal 0; params = noParams } ⌝ }
-{
-    let none = [0u32; 4];
-    Headed {
-        answer: Answer::Refused(refusal, 0),
-        params: Params {
-            d: 0,
-            m: 0,
-            a: none,
-            b: none,
-        },
-    }
-}
-
 // Judges the first head of the input, once as many bytes as a head has are at hand or the input has ended.
 pub fn begin(bytes: &[u8]) -> Headed
     ensures { λ r. ⌜ r ≡ beginOf (now (bytes .entry)) ⌝ }
@@ -49,7 +33,7 @@ pub fn begin(bytes: &[u8]) -> Headed
     };
     let p = h.params;
     if !few_enough(p) {
-        return refused(Refusal::Param);
+        return Headed::refused(Refusal::Param);
     }
     h
 }

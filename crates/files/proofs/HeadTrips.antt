@@ -11,16 +11,18 @@ use Rattle.params.specs.declared.params.Params.{Params}
 use Rattle.params.specs.declared.answers.Refusal.the-variants.{Param, Mismatch, Form}
 use Rattle.params.specs.declared.answers.Answer.the-variants.{Done}
 use Rattle.params.specs.Lists.{below}
-use Rattle.params.specs.Params.{prime, pairOk, pairAt, twins, goodDimensions, goodParams, samePair, sameParams, lengthsAnswer}
+use Rattle.params.specs.Answers.{first}
+use Rattle.params.specs.Params.{prime, pairOk, pairAt, twins, goodDimensions, goodParams, samePair, sameParams, lengthsAnswer, lentAnswer}
 use Rattle.params.proofs.Searches.{and-true, below-at}
-use Rattle.params.proofs.Judging.{refuse-done}
+use Rattle.params.proofs.Judging.{refuse-done, first-passed, first-done}
 use Rattle.params.proofs.Rules.{good-dimensions}
 use Rattle.params.proofs.SameParams.{dimensions-same, pair-same}
 use Rattle.files.specs.Bytes.{word, wordBytes}
 use Rattle.files.specs.Records.{recordAt, headKind, headLength}
-use Rattle.files.specs.Heads.{paramsIn, isHead, openingAnswer}
+use Rattle.files.specs.Heads.{paramsIn, isHead, parametersAnswer}
 use Rattle.files.specs.Layout.{pairBytes, headBytes}
 use Rattle.files.specs.Fields.{arraysField, bucketsField, multiplierField}
+use Rattle.files.proofs.HeadStages.{openingAnswer}
 use Rattle.files.proofs.Standing.{kind-ends}
 use Rattle.files.proofs.RoundTrips.{digits-make, byte-then, word-then}
 use Rattle.files.proofs.RecordTrips.{record-whole, record-read}
@@ -102,27 +104,41 @@ module _ (P : Params) (ys : List ℕ) where
       )
 
   pub opening-written : (c s : ℕ) → goodParams P ≡ true → openingAnswer P (headBytes P ++ ys) c s ≡ lengthsAnswer P c s
-  unfolding openingAnswer
+  unfolding parametersAnswer first
   opening-written c s g = rw (head-kind, params-written g, four-good P, g, four-same P)
 
 -- where the opening is not refused
 pub record Opened (P : Params) (bs : List ℕ) (c s : ℕ) : Type 0 where
   pub head : isHead (recordAt bs 0) ≡ true
   pub good : goodParams P ≡ true
+  pub file-good : goodParams (paramsIn bs) ≡ true
   pub same : sameParams P (paramsIn bs) ≡ true
   pub lengths : lengthsAnswer P c s ≡ Done
 
-pub opening-done : (P : Params) (bs : List ℕ) (c s : ℕ) → openingAnswer P bs c s ≡ Done → Opened P bs c s
-unfolding openingAnswer
-opening-done P bs c s e =
+-- parameters that are not refused are good, and the lengths decide then
+parameters-good : (P : Params) (bs : List ℕ) → parametersAnswer P bs ≡ Done → goodParams P ≡ true
+unfolding parametersAnswer
+parameters-good P bs e =
     let h = refuse-done (not (isHead (recordAt bs 0))) Form 0 _ e in
+    and-true (goodParams (paramsIn bs)) (goodParams P) (not-false _ (refuse-done (not (goodParams (paramsIn bs) && goodParams P)) Param 0 _ (h .1) .0)) .1
+
+pub opening-lent : (P : Params) (bs : List ℕ) (c s : ℕ) → parametersAnswer P bs ≡ Done → lentAnswer P c s ≡ openingAnswer P bs c s
+unfolding lentAnswer
+opening-lent P bs c s e = rw (parameters-good P bs e) (sym (first-passed _ _ e))
+
+pub opening-done : (P : Params) (bs : List ℕ) (c s : ℕ) → openingAnswer P bs c s ≡ Done → Opened P bs c s
+unfolding parametersAnswer
+opening-done P bs c s e =
+    let both = first-done (parametersAnswer P bs) (lengthsAnswer P c s) e in
+    let h = refuse-done (not (isHead (recordAt bs 0))) Form 0 _ (both .0) in
     let k = refuse-done (not (goodParams (paramsIn bs) && goodParams P)) Param 0 _ (h .1) in
-    let l = refuse-done (not (sameParams P (paramsIn bs))) Mismatch 0 (lengthsAnswer P c s) (k .1) in
+    let l = refuse-done (not (sameParams P (paramsIn bs))) Mismatch 0 Done (k .1) in
     record {
       head = not-false _ (h .0);
       good = and-true (goodParams (paramsIn bs)) (goodParams P) (not-false _ (k .0)) .1;
+      file-good = and-true (goodParams (paramsIn bs)) (goodParams P) (not-false _ (k .0)) .0;
       same = not-false _ (l .0);
-      lengths = l .1;
+      lengths = both .1;
     }
 
 -- the head that was read is the one that is written

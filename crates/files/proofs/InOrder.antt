@@ -12,19 +12,20 @@ use Rattle.params.specs.declared.answers.Refusal.{Refusal}
 use Rattle.params.specs.declared.answers.Refusal.the-variants.{Param, Length, Flow, Count, Damage, Range, Mismatch, Form}
 use Rattle.params.specs.declared.answers.Answer.{Answer}
 use Rattle.params.specs.declared.answers.Answer.the-variants.{Done, Refused}
-use Rattle.params.specs.Answers.{numberIn, indexIn, refuseIf, kept}
+use Rattle.params.specs.Answers.{numberIn, indexIn, refuseIf, first, kept}
 use Rattle.params.specs.Params.{size, goodParams, sameParams, lengthsAnswer}
 use Rattle.params.proofs.Judging.{number-done}
-use Rattle.params.proofs.InOrder.{firstOf, refuse-number}
+use Rattle.params.proofs.InOrder.{firstOf, refuse-number, first-refuse}
 use Rattle.files.specs.declared.records.Record.{Record}
 use Rattle.files.specs.declared.records.Record.the-variants.{Whole, Cut, Unknown, Missing}
 use Rattle.files.specs.declared.writing.Written.{Written}
 use Rattle.files.specs.declared.writing.Written.the-variants.{Refused as NotWritten}
 use Rattle.files.specs.Bytes.{word}
 use Rattle.files.specs.Records.{bodyLength, recordAt, isKind, placeOf, recordNumber, recordPlace, endKind, endLength}
-use Rattle.files.specs.Heads.{paramsIn, isHead, openingAnswer}
+use Rattle.files.specs.Heads.{paramsIn, isHead, parametersAnswer}
 use Rattle.files.specs.Turns.{endAnswer}
 use Rattle.files.specs.Writing.{writtenOf, writtenNumber, writtenIndex, writtenLength}
+use Rattle.files.proofs.HeadStages.{openingAnswer}
 use Rattle.files.specs.Fields.{recordsField}
 
 -- what is judged before the records, in this order: the head, the parameters in it and those that are given, whether they differ, and the lent lengths
@@ -47,16 +48,29 @@ refuse-start true w next e = refl
 refuse-start false w next e = e
 
 module _ (P : Params) (bs : List ℕ) (c s : ℕ) where
+  -- one after the other
+  abbrev inOrder : Answer
+  inOrder =
+      refuseIf (not (isHead (recordAt bs 0))) Form 0
+      (refuseIf (not (goodParams (paramsIn bs) && goodParams P)) Param 0
+      (refuseIf (not (sameParams P (paramsIn bs))) Mismatch 0
+      (lengthsAnswer P c s)))
+
+  opening-is : openingAnswer P bs c s ≡ inOrder
+  unfolding parametersAnswer first
+  opening-is = simp first-refuse
+
   -- the first that applies decides the number
   pub opening-number : numberIn (openingAnswer P bs c s) ≡ firstOf openingOrder (openingFault P bs c s)
-  unfolding openingAnswer lengthsAnswer
-  opening-number = simp refuse-number
+  unfolding lengthsAnswer
+  opening-number = ap numberIn opening-is ∙ simp refuse-number
 
   -- and 0 goes with it
   pub opening-index : indexIn (openingAnswer P bs c s) ≡ 0
-  unfolding openingAnswer lengthsAnswer
+  unfolding lengthsAnswer
   opening-index =
-      refuse-start (not (isHead (recordAt bs 0))) Form _
+      ap indexIn opening-is
+      ∙ refuse-start (not (isHead (recordAt bs 0))) Form _
       (refuse-start (not (goodParams (paramsIn bs) && goodParams P)) Param _
       (refuse-start (not (sameParams P (paramsIn bs))) Mismatch _
       (refuse-start (not (eqb c (size P) && eqb s (size P))) Length Done refl)))

@@ -4,11 +4,12 @@ use mathlib.Core.List.{List, [], _∷_}
 use Prim.Native.Nat.{ℕ}
 use lib.ListN.{getD}
 use Rattle.params.specs.declared.params.Params.{Params}
+use Rattle.params.specs.declared.answers.Refusal.{Refusal}
 use Rattle.params.specs.declared.answers.Refusal.the-variants.{Param, Mismatch, Form}
 use Rattle.params.specs.declared.answers.Answer.{Answer}
-use Rattle.params.specs.declared.answers.Answer.the-variants.{Done}
+use Rattle.params.specs.declared.answers.Answer.the-variants.{Done, Refused}
 use Rattle.params.specs.Answers.{refuseIf, kept}
-use Rattle.params.specs.Params.{goodParams, sameParams, lengthsAnswer}
+use Rattle.params.specs.Params.{goodParams, sameParams}
 use Rattle.files.specs.declared.records.Record.{Record}
 use Rattle.files.specs.declared.heads.Headed.{Headed}
 use Rattle.files.specs.Bytes.{word}
@@ -35,17 +36,21 @@ headAnswer bs =
     (refuseIf (not (goodParams (paramsIn bs))) Param 0
     Done)
 
+-- what stands for the parameters where a head is refused
 abbrev pub noParams : Params
 noParams = record { d = 0; m = 0; a = 0 ∷ 0 ∷ 0 ∷ 0 ∷ []; b = 0 ∷ 0 ∷ 0 ∷ 0 ∷ [] }
+
+abbrev pub refusedHead : Refusal → Headed
+refusedHead w = record { answer = Refused w 0; params = noParams }
 
 abbrev pub headOf : List ℕ → Headed
 headOf bs = record { answer = headAnswer bs; params = kept (headAnswer bs) noParams (paramsIn bs) }
 
--- what is judged before the records: the head, the parameters in it and those that are given, whether they are the same, and the
--- lengths of the lent counts and idsums
-unfoldable pub openingAnswer : Params → List ℕ → ℕ → ℕ → Answer
-openingAnswer P bs c s =
+-- what is judged first of a file: the head, the parameters in it and those that are given, and whether they are the same. The
+-- lengths of the lent counts and idsums come after them.
+unfoldable pub parametersAnswer : Params → List ℕ → Answer
+parametersAnswer P bs =
     refuseIf (not (isHead (recordAt bs 0))) Form 0
     (refuseIf (not (goodParams (paramsIn bs) && goodParams P)) Param 0
     (refuseIf (not (sameParams P (paramsIn bs))) Mismatch 0
-    (lengthsAnswer P c s)))
+    Done))

@@ -2,7 +2,7 @@
 ghost use mathlib.Core.Path.{_≡_};
 ghost use Prim.Native.Nat.{_≤_};
 ghost use lib.ListN.{length};
-ghost use Rattle.files.specs.Heads.{paramsIn, noParams, headOf, openingAnswer};
+ghost use Rattle.files.specs.Heads.{paramsIn, refusedHead, headOf, parametersAnswer};
 ghost use Rattle.files.specs.Records.{headLength};
 use crate::fields::ARRAYS_AT;
 use crate::fields::BUCKETS_AT;
@@ -54,18 +54,21 @@ fn params(bytes: &[u8]) -> Params
     }
 }
 
-fn refused(refusal: Refusal) -> Headed
-    ensures { λ r. ⌜ r ≡ record { answer = Answer.Refused refusal 0; params = noParams } ⌝ }
-{
-    let none = [0u32; 4];
-    Headed {
-        answer: Answer::Refused(refusal, 0),
-        params: Params {
-            d: 0,
-            m: 0,
-            a: none,
-            b: none,
-        },
+impl Headed {
+    // A head that is refused, with no parameters.
+    pub fn refused(refusal: Refusal) -> Headed
+        ensures { λ r. ⌜ r ≡ refusedHead refusal ⌝ }
+    {
+        let none = [0u32; 4];
+        Headed {
+            answer: Answer::Refused(refusal, 0),
+            params: Params {
+                d: 0,
+                m: 0,
+                a: none,
+                b: none,
+            },
+        }
     }
 }
 
@@ -75,14 +78,14 @@ pub fn head(bytes: &[u8]) -> Headed
 {
     let found = record_at(bytes, 0);
     let Record::Whole(kind, _) = found else {
-        return refused(Refusal::Form);
+        return Headed::refused(Refusal::Form);
     };
     if kind != HEAD {
-        return refused(Refusal::Form);
+        return Headed::refused(Refusal::Form);
     }
     let p = params(bytes);
     if !p.check() {
-        return refused(Refusal::Param);
+        return Headed::refused(Refusal::Param);
     }
     Headed {
         answer: Answer::Done,
@@ -90,9 +93,9 @@ pub fn head(bytes: &[u8]) -> Headed
     }
 }
 
-// What is judged before the records: the head, the parameters in it and the given ones, and the lengths of the lent slices.
-pub fn opening(p: Params, bytes: &[u8], counts: usize, idsums: usize) -> Answer
-    ensures { λ r. ⌜ r ≡ openingAnswer p (now (bytes .entry)) counts idsums ⌝ }
+// What is judged first of a file: the head, the parameters in it and the given ones, and whether they are the same.
+pub fn judge_parameters(p: Params, bytes: &[u8]) -> Answer
+    ensures { λ r. ⌜ r ≡ parametersAnswer p (now (bytes .entry)) ⌝ }
 {
     let h = head(bytes);
     let judged = h.answer;
@@ -106,5 +109,5 @@ pub fn opening(p: Params, bytes: &[u8], counts: usize, idsums: usize) -> Answer
     if !p.same(q) {
         return Answer::Refused(Refusal::Mismatch, 0);
     }
-    p.judge_lent(counts, idsums)
+    Answer::Done
 }

@@ -16,15 +16,16 @@ use Rattle.sketch.specs.Sketch.{Sketch, sketch, damagedAt, zeros}
 use Rattle.params.proofs.Judging.{first-done, first-passed, refuse-none}
 use Rattle.params.proofs.Rules.{good-dimensions, dimensions-small}
 use Rattle.files.specs.Bytes.{wordBytes}
-use Rattle.files.specs.Heads.{openingAnswer}
+use Rattle.files.proofs.HeadStages.{openingAnswer}
 use Rattle.files.specs.Layout.{headBytes, endBytes}
 use Rattle.files.specs.Turns.{inTurn, bucketPlace, endAnswer}
-use Rattle.files.specs.Records.{bucketKind, headLength}
+use Rattle.files.specs.Records.{bucketKind, headLength, endKind}
 use Rattle.files.proofs.HeadTrips.{headed-long, opening-written, opening-done, head-read}
 use Rattle.files.proofs.RecordTrips.{not-kind, end-written}
 use Rattle.files.proofs.Turning.{in-turn-done, done-in-turn, whole-within, records-are}
 use Rattle.sketchfile.specs.Reading.{bucketsIn, lowest, bucketJudged, bucketsJudged, sketchAnswer, stored, sketchIn}
 use Rattle.sketchfile.specs.Writing.{bucketsBytes, nonzeroBuckets, sketchBytes, sketchWriteAnswer}
+use Rattle.sketchfile.proofs.BucketRecords.{sketch-opening}
 use Rattle.sketchfile.proofs.Written.{left-few, buckets-long, Writable}
 use Rattle.sketchfile.proofs.Filling.{filled-all, counts-long, idsums-long, Agrees, agrees-none, agrees-all}
 use Rattle.sketchfile.proofs.Rewriting.{rewritten-all, same-bytes}
@@ -72,14 +73,15 @@ module _ (P : Params) (S : Sketch) (able : Writable P S) where
   unfolding endBytes
   counted =
       let long : length file ≡ bucketPlace number + length (endBytes number) = ap length file-is ∙ length-append before (endBytes number) ∙ ap (λ (n : ℕ). n + length (endBytes number)) end-place in
-      let four : getD file (bucketPlace number) 0 ≡ 4 = rw file-is (getD-at before 4 (wordBytes number) 0 (bucketPlace number) end-place) in
+      let four : getD file (bucketPlace number) 0 ≡ endKind = rw file-is (getD-at before endKind (wordBytes number) 0 (bucketPlace number) end-place) in
       records-are bucketKind bucketPlace file number (omega arith) (agrees .kinds) (not-kind file (bucketPlace number) bucketKind (λ q. omega arith))
 
   pub file-accepted : (c s : ℕ) → c ≡ size P → s ≡ size P → sketchAnswer P file c s ≡ Done
-  unfolding sketchBytes sketchAnswer bucketsJudged
+  unfolding sketchBytes bucketsJudged
   file-accepted c s e h =
       let judged = in-turn-done number (bucketJudged (size P) file) (agrees .judged) in
-      first-passed (openingAnswer P file c s) _ (opening-written P _ c s (able .good) ∙ lengths-good P c s e h)
+      sketch-opening P file c s
+      ∙ first-passed (openingAnswer P file c s) _ (opening-written P _ c s (able .good) ∙ lengths-good P c s e h)
       ∙ rw counted (first-passed (inTurn 0 number (bucketJudged (size P) file)) _ judged ∙ ended)
 
   pub file-content : sketchIn P file ≡ S
@@ -93,10 +95,10 @@ module _ (P : Params) (S : Sketch) (able : Writable P S) where
 -- an accepted file is that of the sketch that it holds, which can be written
 pub accepted : (P : Params) (bs : List ℕ) (c s : ℕ) → ((k : ℕ) → getD bs k 0 < 256) → sketchAnswer P bs c s ≡ Done
     → Writable P (sketchIn P bs) × (sketchBytes P (sketchIn P bs) ≡ bs)
-unfolding sketchAnswer bucketsJudged sketchIn
+unfolding bucketsJudged sketchIn
 accepted P bs c s small e =
     let n = bucketsIn bs in
-    let h = first-done (openingAnswer P bs c s) (bucketsJudged (size P) bs) e in
+    let h = first-done (openingAnswer P bs c s) (bucketsJudged (size P) bs) (sym (sketch-opening P bs c s) ∙ e) in
     let opened = opening-done P bs c s (h .0) in
     let k = first-done (inTurn 0 n (bucketJudged (size P) bs)) (endAnswer bs (bucketPlace n) n) (h .1) in
     let head = head-read bs small P (opened .head) (opened .same) in

@@ -24,19 +24,20 @@ use Rattle.params.proofs.InOrder.{order, firstOf, lowest-first, some, refuse-nu
 use Rattle.sketch.proofs.InOrder.{wrongLength}
 use Rattle.files.specs.declared.writing.Written.{Written}
 use Rattle.files.specs.declared.writing.Written.the-variants.{Refused as NotWritten}
-use Rattle.files.specs.Heads.{openingAnswer}
+use Rattle.files.proofs.HeadStages.{openingAnswer}
 use Rattle.files.specs.Turns.{inTurn, bucketPlace, endAnswer}
 use Rattle.files.specs.Writing.{writtenNumber, writtenIndex, writtenLength}
 use Rattle.files.proofs.HeadTrips.{Opened, opening-done}
 use Rattle.files.proofs.Turning.{Earliest, in-turn-earliest, done-in-turn}
 use Rattle.files.proofs.InOrder.{openingOrder, openingFault, opening-number, opening-index, EndFault, end-fault, written-number, written-index, written-length, refused-as-it-was}
-use Rattle.sketchfile.specs.Reading.{bucketsIn, bucketIndex, bucketCount, bucketIdsum, lowest, bucketAnswer, bucketJudged, bucketsJudged, sketchAnswer}
+use Rattle.sketchfile.specs.Reading.{bucketsIn, bucketIndex, bucketCount, bucketIdsum, lowest, tooLarge, notRising, bucketAnswer, bucketJudged, bucketsJudged, sketchAnswer}
 use Rattle.sketchfile.specs.Writing.{sketchBytes, sketchWriteAnswer, SketchWritten}
+use Rattle.sketchfile.proofs.BucketRecords.{sketch-opening}
 
--- which faults the j-th record has, in a sketch of N buckets: damage, an index that does not rise or is not below N, or a bucket that is all zero
+-- which faults the j-th record has, in a sketch of N buckets: damage, an index that is too large or does not rise, or a bucket that is all zero
 abbrev pub bucketFault : ℕ → List ℕ → ℕ → Refusal → Bool
 bucketFault N bs j Damage = damaged (bucketCount bs j) (bucketIdsum bs j)
-bucketFault N bs j Form = not (leb (lowest bs j) (bucketIndex bs j) && ltb (bucketIndex bs j) N) || allZero (bucketCount bs j) (bucketIdsum bs j)
+bucketFault N bs j Form = tooLarge N (bucketIndex bs j) || (notRising (lowest bs j) (bucketIndex bs j) || allZero (bucketCount bs j) (bucketIdsum bs j))
 bucketFault N bs j Param = false
 bucketFault N bs j Length = false
 bucketFault N bs j Flow = false
@@ -51,13 +52,14 @@ module _ (N : ℕ) (bs : List ℕ) (j : ℕ) where
 
   bucket-place : (w : Refusal) (k : ℕ) → bucketJudged N bs j ≡ Refused w k → k ≡ bucketPlace j
   unfolding bucketJudged bucketAnswer
-  bucket-place w k = go (damaged (bucketCount bs j) (bucketIdsum bs j)) (not (leb (lowest bs j) (bucketIndex bs j) && ltb (bucketIndex bs j) N)) (allZero (bucketCount bs j) (bucketIdsum bs j))
+  bucket-place w k = go (damaged (bucketCount bs j) (bucketIdsum bs j)) (tooLarge N (bucketIndex bs j)) (notRising (lowest bs j) (bucketIndex bs j)) (allZero (bucketCount bs j) (bucketIdsum bs j))
     where
-      go : (x y z : Bool) → refuseIf x Damage (bucketPlace j) (refuseIf y Form (bucketPlace j) (refuseIf z Form (bucketPlace j) Done)) ≡ Refused w k → k ≡ bucketPlace j
-      go true y z e = cc
-      go false true z e = cc
-      go false false true e = cc
-      go false false false e = absurd (let z : _≡_ {A = ℕ} 0 1 = cc in omega arith)
+      go : (x y z v : Bool) → refuseIf x Damage (bucketPlace j) (refuseIf y Form (bucketPlace j) (refuseIf z Form (bucketPlace j) (refuseIf v Form (bucketPlace j) Done))) ≡ Refused w k → k ≡ bucketPlace j
+      go true y z v e = cc
+      go false true z v e = cc
+      go false false true v e = cc
+      go false false false true e = cc
+      go false false false false e = absurd (let z : _≡_ {A = ℕ} 0 1 = cc in omega arith)
 
 module _ (P : Params) (bs : List ℕ) (c s : ℕ) (w : Refusal) (k : ℕ) where
   -- the earliest bucket at fault: those before it were accepted, the first of its faults decides the number, and its offset goes with it
@@ -95,12 +97,11 @@ module _ (P : Params) (bs : List ℕ) (c s : ℕ) (w : Refusal) (k : ℕ) where
       (first-either (inTurn 0 n judge) (endAnswer bs (bucketPlace n) n) w k e)
 
   pub sketch-fault : sketchAnswer P bs c s ≡ Refused w k → SketchFault
-  unfolding sketchAnswer
   sketch-fault e =
       ⊎-elim
       (λ h. in-opening (sym (ap numberIn h) ∙ opening-number P bs c s) (sym (ap indexIn h) ∙ opening-index P bs c s))
       (λ h. records-fault (opening-done P bs c s (h .0)) (h .1))
-      (first-either (openingAnswer P bs c s) (bucketsJudged (size P) bs) w k e)
+      (first-either (openingAnswer P bs c s) (bucketsJudged (size P) bs) w k (sym (sketch-opening P bs c s) ∙ e))
 
 -- which faults apply where a sketch is written into an output of o bytes
 abbrev pub writeFault : Params → Sketch → ℕ → Refusal → Bool

@@ -1,6 +1,6 @@
 -- A sketch file read: a head, the buckets that are not all zero in rising index, each once, an end.
 use mathlib.Core.Path.{_≡_}
-use mathlib.Core.Bool.{not, _&&_}
+use mathlib.Core.Bool.{Bool}
 use mathlib.Core.List.{List}
 use Prim.Native.Nat.{ℕ, zero, suc, _+_}
 use lib.IntN.{ℤ}
@@ -11,11 +11,11 @@ use Rattle.params.specs.declared.answers.Refusal.the-variants.{Damage, Form}
 use Rattle.params.specs.declared.answers.Answer.{Answer}
 use Rattle.params.specs.declared.answers.Answer.the-variants.{Done}
 use Rattle.params.specs.Answers.{refuseIf, first, kept}
-use Rattle.params.specs.Params.{size}
+use Rattle.params.specs.Params.{size, lengthsAnswer}
 use Rattle.buckets.specs.Buckets.{allZero, damaged}
 use Rattle.sketch.specs.Sketch.{Sketch, sketch, zeros}
 use Rattle.files.specs.Bytes.{word, countOf}
-use Rattle.files.specs.Heads.{openingAnswer}
+use Rattle.files.specs.Heads.{parametersAnswer}
 use Rattle.files.specs.Turns.{inTurn, bucketPlace, recordsOf, endAnswer}
 use Rattle.files.specs.Records.{bucketKind}
 use Rattle.files.specs.Fields.{indexField, countField, idsumField}
@@ -38,13 +38,22 @@ unfoldable pub lowest : List ℕ → ℕ → ℕ
 lowest bs zero = 0
 lowest bs (suc k) = suc (bucketIndex bs k)
 
--- what is refused of a bucket record at an offset, in a sketch of N buckets, where no index below `low` may stand
+-- The tests of a bucket record with the index x, the count c and the idsum s: its index is too large for a sketch of N buckets, or
+-- does not rise, where none below `low` may stand; its bucket is damaged, or all zero.
+abbrev pub tooLarge : ℕ → ℕ → Bool
+tooLarge N x = leb N x
+
+abbrev pub notRising : ℕ → ℕ → Bool
+notRising low x = ltb x low
+
+-- what is refused of one at an offset: the lowest number
 unfoldable pub bucketAnswer : ℕ → ℕ → ℕ → ℕ → ℤ → ℕ → Answer
 bucketAnswer N low at x c s =
     refuseIf (damaged c s) Damage at
-    (refuseIf (not (leb low x && ltb x N)) Form at
+    (refuseIf (tooLarge N x) Form at
+    (refuseIf (notRising low x) Form at
     (refuseIf (allZero c s) Form at
-    Done))
+    Done)))
 
 unfoldable pub bucketJudged : ℕ → List ℕ → ℕ → Answer
 bucketJudged N bs k = bucketAnswer N (lowest bs k) (bucketPlace k) (bucketIndex bs k) (bucketCount bs k) (bucketIdsum bs k)
@@ -55,9 +64,12 @@ bucketsJudged N bs =
     first (inTurn 0 (bucketsIn bs) (bucketJudged N bs))
     (endAnswer bs (bucketPlace (bucketsIn bs)) (bucketsIn bs))
 
--- the head and the lengths of the lent slices, c and s, then the records
+-- the head and the parameters, the lengths of the lent slices, c and s, then the records
 unfoldable pub sketchAnswer : Params → List ℕ → ℕ → ℕ → Answer
-sketchAnswer P bs c s = first (openingAnswer P bs c s) (bucketsJudged (size P) bs)
+sketchAnswer P bs c s =
+    first (parametersAnswer P bs)
+    (first (lengthsAnswer P c s)
+    (bucketsJudged (size P) bs))
 
 -- the first k buckets of the file stored one after the other
 unfoldable pub stored : List ℕ → ℕ → Sketch → Sketch

@@ -26,10 +26,10 @@ use Rattle.streamfile.proofs.Found.{length-flows, length-numbers, flow-
 use Rattle.streamfile.proofs.Accepting.{stream-done}
 
 -- an offset in place of the index is no other number
-first-number : (at : ℕ) (r next later : Answer) → numberIn next ≡ numberIn later → numberIn (first (atOffset at r) next) ≡ numberIn (first r later)
+first-at-offset : (at : ℕ) (r next later : Answer) → numberIn next ≡ numberIn later → numberIn (first (atOffset at r) next) ≡ numberIn (first r later)
 unfolding first atOffset
-first-number at Done next later e = e
-first-number at (Refused w k) next later e = refl
+first-at-offset at Done next later e = e
+first-at-offset at (Refused w k) next later e = refl
 
 module _ (P : Params) (bs : List ℕ) (S : Sketch) where
   -- packet i goes into T, which those before it left
@@ -65,7 +65,7 @@ module _ (P : Params) (bs : List ℕ) (S : Sketch) where
   judged-from (suc n) i T e made =
       let one : i < packetsIn bs = omega arith in
       ap (λ (r : Answer). numberIn (first r (inTurn (suc i) n (packetJudged P bs S)))) (judged-so i T one made)
-      ∙ first-number (packetPlace i) _ _ _ (judged-from n (suc i) (next i T one made) (omega arith) (made-next i T one made))
+      ∙ first-at-offset (packetPlace i) _ _ _ (judged-from n (suc i) (next i T one made) (omega arith) (made-next i T one made))
       ∙ sym (ap numberIn (opened i T one made))
 
   pub packets-judged : numberIn (inTurn 0 (packetsIn bs) (packetJudged P bs S)) ≡ numberIn (packetsAnswer P (flowsIn bs) (numbersIn bs) S)

@@ -24,7 +24,7 @@ use Rattle.params.proofs.InOrder.{order, firstOf, lowest-first, refuse-number, 
 use Rattle.sketch.proofs.InOrder.{moveFault, move-number}
 use Rattle.files.specs.declared.writing.Written.{Written}
 use Rattle.files.specs.declared.writing.Written.the-variants.{Refused as NotWritten}
-use Rattle.files.specs.Heads.{openingAnswer}
+use Rattle.files.proofs.HeadStages.{openingAnswer}
 use Rattle.files.specs.Turns.{atOffset, inTurn, packetPlace, endAnswer}
 use Rattle.files.specs.Writing.{writtenNumber, writtenIndex, writtenLength}
 use Rattle.files.proofs.HeadTrips.{Opened, opening-done}
@@ -32,6 +32,7 @@ use Rattle.files.proofs.Turning.{Earliest, in-turn-earliest, done-in-turn}
 use Rattle.files.proofs.InOrder.{openingOrder, openingFault, opening-number, opening-index, EndFault, end-fault, refuse-start, written-number, written-index, written-length, refused-as-it-was}
 use Rattle.streamfile.specs.Streams.{packetsIn, packetFlow, packetNumber, flowsIn, numbersIn, afterFirst, packetJudged, packetsJudged, streamAnswer}
 use Rattle.streamfile.specs.Writing.{streamBytes, isFlowAt, isNumberAt, streamWriteAnswer, StreamWritten}
+use Rattle.streamfile.proofs.Stages.{stream-opening}
 use Rattle.streamfile.proofs.Accepting.{judged-accepted}
 
 module _ (P : Params) (bs : List ℕ) (S : Sketch) (w : Refusal) (k : ℕ) where
@@ -87,14 +88,13 @@ module _ (P : Params) (bs : List ℕ) (S : Sketch) (w : Refusal) (k : ℕ) where
       (refuse-at (size P) (damagedAt S) Damage w k (packetsJudged P bs S) e)
 
   pub stream-fault : streamAnswer P bs S ≡ Refused w k → StreamFault
-  unfolding streamAnswer
   stream-fault e =
       let c = length (S .counts) in
       let s = length (S .idsums) in
       ⊎-elim
       (λ h. in-opening (sym (ap numberIn h) ∙ opening-number P bs c s) (sym (ap indexIn h) ∙ opening-index P bs c s))
       (λ h. past-opening (opening-done P bs c s (h .0)) (h .1))
-      (first-either (openingAnswer P bs c s) _ w k e)
+      (first-either (openingAnswer P bs c s) _ w k (sym (stream-opening P bs S) ∙ e))
 
 -- which faults apply where packets are written into an output of o bytes
 abbrev pub writeFault : Params → List ℕ → List ℕ → ℕ → Refusal → Bool

@@ -21,7 +21,7 @@ use Rattle.params.proofs.Searches.{and-true, below-at, all-below}
 use Rattle.sketch.proofs.Steps.{step-done}
 use Rattle.params.proofs.Judging.{first-end, first-number, refuse-done, refuse-none}
 use Rattle.files.specs.Bytes.{wordBytes}
-use Rattle.files.specs.Heads.{openingAnswer}
+use Rattle.files.proofs.HeadStages.{openingAnswer}
 use Rattle.files.specs.Layout.{headBytes, packetBytes, endBytes}
 use Rattle.files.specs.Turns.{packetPlace, inTurn, endAnswer}
 use Rattle.files.specs.Records.{packetsKind, headLength, packetsLength}
@@ -30,6 +30,7 @@ use Rattle.files.proofs.RecordTrips.{not-kind, end-written}
 use Rattle.files.proofs.Turning.{records-are}
 use Rattle.streamfile.specs.Streams.{packetsIn, flowsIn, numbersIn, afterFirst, packetJudged, packetsJudged, streamAnswer}
 use Rattle.streamfile.specs.Writing.{packetsBytes, streamBytes, isFlowAt, isNumberAt, streamWriteAnswer}
+use Rattle.streamfile.proofs.Stages.{stream-opening}
 use Rattle.streamfile.proofs.Written.{packets-long, stream-long, Passed, writing-passed, stream-passed}
 use Rattle.streamfile.proofs.Found.{There, length-flows, length-numbers, flow-is, number-is}
 use Rattle.streamfile.proofs.Accepting.{StreamDone}
@@ -156,7 +157,8 @@ module _ (P : Params) (fs ns : List ℕ) (able : Sendable P fs ns) where
       ∙ rw (eq-eqb (length fs) (length ns) (able .same))
 
   pub file-number : (S : Sketch) → ((k : ℕ) → k < size P → damagedAt S k ≡ false) → numberIn (streamAnswer P file S) ≡ numberIn (allAnswer P fs ns S)
-  unfolding streamAnswer allAnswer
+  unfolding allAnswer
   file-number S undamaged =
-      ap (λ (r : Answer). numberIn (first r (refuseAt (size P) (damagedAt S) Damage (packetsJudged P file S)))) (opening-is (length (S .counts)) (length (S .idsums)))
+      ap numberIn (stream-opening P file S)
+      ∙ ap (λ (r : Answer). numberIn (first r (refuseAt (size P) (damagedAt S) Damage (packetsJudged P file S)))) (opening-is (length (S .counts)) (length (S .idsums)))
       ∙ first-number (lentAnswer P (length (S .counts)) (length (S .idsums))) _ _ (past-lent S undamaged)

@@ -9,11 +9,11 @@ use Rattle.params.specs.declared.answers.Refusal.the-variants.{Damage}
 use Rattle.params.specs.declared.answers.Answer.{Answer}
 use Rattle.params.specs.Lists.{from}
 use Rattle.params.specs.Answers.{refuseAt, first, kept}
-use Rattle.params.specs.Params.{size}
+use Rattle.params.specs.Params.{size, lengthsAnswer}
 use Rattle.sketch.specs.Sketch.{Sketch, damagedAt}
 use Rattle.sketch.specs.Packets.{stepAnswer, after}
 use Rattle.files.specs.Bytes.{word}
-use Rattle.files.specs.Heads.{openingAnswer}
+use Rattle.files.specs.Heads.{parametersAnswer}
 use Rattle.files.specs.Turns.{atOffset, inTurn, packetFrom, packetPlace, recordsOf, endAnswer}
 use Rattle.files.specs.Records.{packetsKind, headLength}
 use Rattle.files.specs.Fields.{flowField, numberField}
@@ -64,12 +64,13 @@ packetsJudged P bs S =
     first (inTurn 0 (packetsIn bs) (packetJudged P bs S))
     (endAnswer bs (packetPlace (packetsIn bs)) (packetsIn bs))
 
--- the head and the lengths, damage anywhere in the sketch, the records
+-- the head and the parameters, the lengths, damage anywhere in the sketch, the records
 unfoldable pub streamAnswer : Params → List ℕ → Sketch → Answer
 streamAnswer P bs S =
-    first (openingAnswer P bs (length (S .counts)) (length (S .idsums)))
+    first (parametersAnswer P bs)
+    (first (lengthsAnswer P (length (S .counts)) (length (S .idsums)))
     (refuseAt (size P) (damagedAt S) Damage
-    (packetsJudged P bs S))
+    (packetsJudged P bs S)))
 
 -- the packets in turn, into a sketch whose damage is judged already
 pub record RecordsRead (P : Params) (bs : List ℕ) (S : Sketch) (r : Answer) (S' : Sketch) : Type 0 where

@@ -9,7 +9,7 @@ use buckets::first_damaged;
 use files::ends::judge_end;
 use files::fields::Packets;
 use files::fields::packets_at;
-use files::heads::opening;
+use files::heads::judge_parameters;
 use files::records::HEAD_LENGTH;
 use files::records::PACKETS_LENGTH;
 use params::Answer;
@@ -75,9 +75,13 @@ fn read_records(p: Params, counts: &mut [i32], idsums: &mut [u32], bytes: &[u8])
 pub fn read_stream(p: Params, counts: &mut [i32], idsums: &mut [u32], bytes: &[u8]) -> Answer
     ensures { λ r. ⌜ StreamRead p (now (bytes .entry)) (sketch (now (counts .entry)) (now (idsums .entry))) r (sketch (now (counts .exit)) (now (idsums .exit))) ⌝ }
 {
-    let o = opening(p, bytes, counts.len(), idsums.len());
-    let Answer::Done = o else {
-        return o;
+    let a = judge_parameters(p, bytes);
+    let Answer::Done = a else {
+        return a;
+    };
+    let l = p.judge_lent(counts.len(), idsums.len());
+    let Answer::Done = l else {
+        return l;
     };
     let x = first_damaged(counts, idsums);
     if x < counts.len() {
