@@ -24,9 +24,9 @@ use Rattle.files.proofs.RecordTrips.{record-whole}
 use Rattle.desk.proofs.Whole.{whole-record}
 use Rattle.streamfile.specs.Streams.{StreamRead}
 use Rattle.desk.specs.declared.states.Stage.{Stage}
-use Rattle.desk.specs.declared.states.Stage.the-variants.{Packets, Head, Over, Refused as Stopped}
+use Rattle.desk.specs.declared.states.Stage.the-variants.{UpstreamPackets, DownstreamHead, DownstreamPackets, Nothing, Refused as Stopped}
 use Rattle.desk.specs.declared.states.Fed.{Fed}
-use Rattle.desk.specs.Desk.{overDue, fewEnough, beginAnswer, beginOf, started, afterTaken, secondAnswer, packetsSketch, offsetsFit, Feeds, finishAnswer}
+use Rattle.desk.specs.Desk.{nothingDue, fewEnough, beginAnswer, beginOf, started, afterTaken, secondAnswer, packetsSketch, offsetsFit, Feeds, finishAnswer}
 use Rattle.desk.proofs.InTheRest.{whole-at, word-at}
 use Rattle.desk.proofs.Taking.{all-taken}
 use Rattle.desk.proofs.SameBytes.{fed-is-read}
@@ -144,11 +144,12 @@ module _ (P : Params) (input : List ℕ) (b : Begun P input) (p : Passed P (drop
       }
 
 -- the end of the input finds that nothing more was due
-finished-over : (g : Stage) (at : ℕ) → finishAnswer g at ≡ Done → g ≡ Over
-finished-over Over at e = refl
-finished-over (Stopped w) at e = cc
-finished-over Packets at e = cc
-finished-over Head at e = cc
+finished-nothing : (g : Stage) (at : ℕ) → finishAnswer g at ≡ Done → g ≡ Nothing
+finished-nothing Nothing at e = refl
+finished-nothing (Stopped w) at e = cc
+finished-nothing UpstreamPackets at e = cc
+finished-nothing DownstreamHead at e = cc
+finished-nothing DownstreamPackets at e = cc
 
 -- the desk takes few enough buckets alone
 pub few-begun : (P : Params) (input : List ℕ) → beginOf input ≡ record { answer = Done; params = P } → fewEnough P ≡ true
@@ -165,14 +166,14 @@ near-done {bs = bs} {r = r} fed done = at (offsetsFit bs started) refl
     at : (b : Bool) → offsetsFit bs started ≡ b → b ≡ true
     at true near = refl
     at false far =
-        let over = finished-over (r .state .stage) (r .state .at) done in
-        absurd (true≢false (sym (ap overDue over) ∙ ap (λ s. overDue (s .stage)) (rw far at (fed .state))))
+        let nothing = finished-nothing (r .state .stage) (r .state .at) done in
+        absurd (true≢false (sym (ap nothingDue nothing) ∙ ap (λ s. nothingDue (s .stage)) (rw far at (fed .state))))
 
 pub accepted : (P : Params) (input : List ℕ) (r : Fed) (up down : Sketch) → beginOf input ≡ record { answer = Done; params = P }
     → Feeds P (drop headLength input) (zeros P) (zeros P) started r up down → finishAnswer (r .state .stage) (r .state .at) ≡ Done → TwoStreams P input up down
 unfolding packetsSketch
 accepted P input r up down head fed done =
     let near = near-done fed done in
-    let over = finished-over (r .state .stage) (r .state .at) done in
-    let p = passed P (drop headLength input) (zeros P) (zeros P) (sym (ap (λ s. s .stage) (rw near at (fed .state))) ∙ over) in
+    let nothing = finished-nothing (r .state .stage) (r .state .at) done in
+    let p = passed P (drop headLength input) (zeros P) (zeros P) (sym (ap (λ s. s .stage) (rw near at (fed .state))) ∙ nothing) in
     rw (rw near at (fed .upstream), rw near at (fed .downstream) ∙ p .1) (two-streams P input (begun P input head) (p .0))

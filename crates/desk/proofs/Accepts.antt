@@ -22,10 +22,10 @@ use Rattle.files.specs.Fields.{recordsField}
 use Rattle.files.proofs.HeadTrips.{Opened}
 use Rattle.streamfile.specs.Streams.{packetsIn, StreamRead}
 use Rattle.streamfile.proofs.Accepting.{stream-done}
-use Rattle.desk.specs.declared.states.Stage.the-variants.{Packets, Head, Over}
+use Rattle.desk.specs.declared.states.Stage.the-variants.{UpstreamPackets, DownstreamHead, DownstreamPackets, Nothing}
 use Rattle.desk.specs.declared.states.State.{State}
 use Rattle.desk.specs.declared.states.Fed.{Fed}
-use Rattle.desk.specs.Desk.{mostBuckets, fewEnough, beginAnswer, beginOf, started, stageAfter, taken, takenAnswer, afterTaken, isDue, packetsState, dueOf, dueEnd, endedState, secondAnswer, headedState, packetsStage, packetsSketch, endStage, headStage, overStage, rest, offsetsFit, firstPackets, firstEnd, secondHead, secondPackets, secondEnd, fedState, Feeds, finishAnswer}
+use Rattle.desk.specs.Desk.{mostBuckets, fewEnough, beginAnswer, beginOf, started, stageAfter, taken, takenAnswer, afterTaken, isDue, packetsDue, packetsState, dueOf, dueEnd, endedState, secondAnswer, headedState, packetsStage, packetsSketch, endStage, headStage, nothingStage, rest, offsetsFit, firstPackets, firstEnd, secondHead, secondPackets, secondEnd, fedState, Feeds, finishAnswer}
 use Rattle.desk.proofs.Whole.{whole-record}
 use Rattle.desk.proofs.FirstHead.{begin-settled}
 use Rattle.desk.proofs.InTheRest.{word-at, whole-left}
@@ -33,24 +33,24 @@ use Rattle.desk.proofs.SameBytes.{end-said-done, end-back, said-back, a
 use Rattle.desk.proofs.BothStreams.{firstNumber, secondFile, secondBody, secondNumber, Passed}
 
 -- each stage, where what is due stands there
-packets-pass : (second : Bool) (P : Params) (bs : List ℕ) (S : Sketch) (s : State) → isDue second s ≡ true → takenAnswer P bs S ≡ Done
-    → packetsStage second P bs S s ≡ record { stage = Packets; second = s .second; at = s .at + packetsLength * taken P bs S; records = s .records + taken P bs S }
+packets-pass : (downstream : Bool) (P : Params) (bs : List ℕ) (S : Sketch) (s : State) → isDue downstream (s .stage) ≡ true → takenAnswer P bs S ≡ Done
+    → packetsStage downstream P bs S s ≡ record { stage = s .stage; at = s .at + packetsLength * taken P bs S; records = s .records + taken P bs S }
 unfolding packetsStage packetsState stageAfter
-packets-pass second P bs S s due done = rw (due, done)
+packets-pass downstream P bs S s due done = rw (due, done)
 
-end-passes : (bs : List ℕ) (s : State) → s .stage ≡ Packets → isKind endKind (recordAt bs 0) ≡ true → word bs recordsField ≡ s .records → endStage bs s ≡ endedState s
+end-passes : (bs : List ℕ) (s : State) → packetsDue (s .stage) ≡ true → isKind endKind (recordAt bs 0) ≡ true → word bs recordsField ≡ s .records → endStage bs s ≡ endedState s
 unfolding endStage dueEnd dueOf
 end-passes bs s due whole said =
     let w = whole-record bs 0 endKind whole in
     rw (due, lt-leb (length bs) 0 (omega (arith, w .1)), ne-eqb (getD bs 0 0) packetsKind (λ e. omega (arith, w .0)), whole, eq-eqb (word bs recordsField) (s .records) said)
 
-head-passes : (P : Params) (bs : List ℕ) (s : State) → s .stage ≡ Head → isKind headKind (recordAt bs 0) ≡ true → secondAnswer P (paramsIn bs) ≡ Done → headStage P bs s ≡ headedState s
+head-passes : (P : Params) (bs : List ℕ) (s : State) → s .stage ≡ DownstreamHead → isKind headKind (recordAt bs 0) ≡ true → secondAnswer P (paramsIn bs) ≡ Done → headStage P bs s ≡ headedState s
 unfolding headStage dueOf
 head-passes P bs s due whole same = let w = whole-record bs 0 headKind whole in rw (due, lt-leb (length bs) 0 (omega (arith, w .1)), whole, same)
 
-over-passes : (bs : List ℕ) (s : State) → s .stage ≡ Over → length bs ≡ 0 → overStage bs s ≡ s
-unfolding overStage
-over-passes bs s due none = rw (due, le-leb (length bs) 0 (omega arith))
+nothing-passes : (bs : List ℕ) (s : State) → s .stage ≡ Nothing → length bs ≡ 0 → nothingStage bs s ≡ s
+unfolding nothingStage
+nothing-passes bs s due none = rw (due, le-leb (length bs) 0 (omega arith))
 
 -- all of them, one after the other: up and down are what is in the two sketches before
 module _ (P : Params) (bs : List ℕ) (up down : Sketch) (p : Passed P bs up down) where
@@ -61,7 +61,7 @@ module _ (P : Params) (bs : List ℕ) (up down : Sketch) (p : Passed P bs up dow
   m = secondNumber P bs up down
 
   abbrev after-packets : State
-  after-packets = record { stage = Packets; second = false; at = headLength + packetsLength * n; records = 0 + n }
+  after-packets = record { stage = UpstreamPackets; at = headLength + packetsLength * n; records = 0 + n }
 
   abbrev after-end : State
   after-end = endedState after-packets
@@ -70,7 +70,7 @@ module _ (P : Params) (bs : List ℕ) (up down : Sketch) (p : Passed P bs up dow
   after-head = headedState after-end
 
   abbrev after-second : State
-  after-second = record { stage = Packets; second = true; at = after-head .at + packetsLength * m; records = 0 + m }
+  after-second = record { stage = DownstreamPackets; at = after-head .at + packetsLength * m; records = 0 + m }
 
   abbrev after-all : State
   after-all = endedState after-second
@@ -115,9 +115,9 @@ module _ (P : Params) (bs : List ℕ) (up down : Sketch) (p : Passed P bs up dow
 
   pub passes : fedState P bs up down started ≡ after-all
   passes =
-      ap (λ t. overStage (rest started t bs) t) at-all
-      ∙ ap (λ xs. overStage xs after-all) (into-body after-all (packetsLength * m + endLength) (omega arith))
-      ∙ over-passes (drop (packetsLength * m + endLength) (secondBody P bs up down)) after-all refl (p .nothing-more)
+      ap (λ t. nothingStage (rest started t bs) t) at-all
+      ∙ ap (λ xs. nothingStage xs after-all) (into-body after-all (packetsLength * m + endLength) (omega arith))
+      ∙ nothing-passes (drop (packetsLength * m + endLength) (secondBody P bs up down)) after-all refl (p .nothing-more)
 
   -- and what is then in the two sketches
   pub first-sketch : packetsSketch false P bs up started ≡ afterTaken P bs up

@@ -1,6 +1,6 @@
 -- An input after whose first head all stages were passed: packets, an end, a head, packets, an end, and nothing more.
 use mathlib.Core.Path.{_≡_, refl, sym, ap, _∙_}
-use mathlib.Core.Bool.{Bool, true, false, cond, Bool·beq, true≢false}
+use mathlib.Core.Bool.{true, false, true≢false}
 use mathlib.Core.Logic.{_⊎_, inl, inr, ⊎-elim}
 use mathlib.Core.List.{List}
 use Prim.Native.Nat.{ℕ, _+_, _-_, _*_}
@@ -10,93 +10,90 @@ use lib.Seq.{drop-drop}
 use Rattle.params.specs.declared.params.Params.{Params}
 use Rattle.params.specs.declared.answers.Answer.the-variants.{Done}
 use Rattle.sketch.specs.Sketch.{Sketch}
-use Rattle.params.proofs.Searches.{and-true}
 use Rattle.files.specs.Bytes.{word}
 use Rattle.files.specs.Records.{recordAt, isKind, headKind, endKind, headLength, packetsLength, endLength}
 use Rattle.files.specs.Heads.{paramsIn}
 use Rattle.files.specs.Fields.{recordsField}
 use Rattle.desk.specs.declared.states.Stage.{Stage}
-use Rattle.desk.specs.declared.states.Stage.the-variants.{Packets, Head, Over}
+use Rattle.desk.specs.declared.states.Stage.the-variants.{UpstreamPackets, DownstreamHead, DownstreamPackets, Nothing, Refused as Stopped}
 use Rattle.desk.specs.declared.states.State.{State}
-use Rattle.desk.specs.Desk.{packetsDue, overDue, started, stageAfter, taken, takenAnswer, afterTaken, isDue, packetsState, secondAnswer, packetsSketch, rest, firstPackets, secondHead, secondEnd, fedState}
-use Rattle.desk.proofs.Back.{live, packets-stage, TakenBy, packets-back, EndedBy, end-back, HeadedBy, head-back, over-back}
+use Rattle.desk.specs.Desk.{isDue, packetsDue, nothingDue, afterEnd, started, stageAfter, taken, takenAnswer, afterTaken, packetsState, secondAnswer, packetsSketch, rest, firstPackets, secondHead, secondEnd, fedState}
+use Rattle.desk.proofs.Back.{live, downstream-stage, packets-live, due-live, TakenBy, packets-back, EndedBy, end-back, HeadedBy, head-back, nothing-back}
 
--- one stage after the other, from a, where packets of the first stream are due, to e, where nothing more is
+-- one stage after the other, from a, where upstream packets are due, to e, where nothing more is
 module _ {P : Params} {S : Sketch} {ws xs ys zs : List ℕ} {a b c d e : State}
-    (at-first : live (a .stage) ≡ true → (a .stage ≡ Packets) × (a .second ≡ false))
+    (at-first : live (a .stage) ≡ true → a .stage ≡ UpstreamPackets)
     (to-b : live (b .stage) ≡ true → (b ≡ a) ⊎ EndedBy ws a b)
     (to-c : live (c .stage) ≡ true → (c ≡ b) ⊎ HeadedBy P xs b c)
-    (to-d : live (d .stage) ≡ true → ((isDue true c ≡ false) × (d ≡ c)) ⊎ TakenBy true P ys S c d)
+    (to-d : live (d .stage) ≡ true → ((isDue true (c .stage) ≡ false) × (d ≡ c)) ⊎ TakenBy true P ys S c d)
     (to-e : live (e .stage) ≡ true → (e ≡ d) ⊎ EndedBy zs d e)
-    (over : e .stage ≡ Over) where
-  not-over : {g : Stage} {A : Type 0} → g ≡ Over → overDue g ≡ false → A
-  not-over p q = absurd (true≢false (sym (ap overDue p) ∙ q))
+    (nothing : e .stage ≡ Nothing) where
+  not-nothing : {g : Stage} {A : Type 0} → g ≡ Nothing → nothingDue g ≡ false → A
+  not-nothing p q = absurd (true≢false (sym (ap nothingDue p) ∙ q))
 
-  -- the first stream has not ended, or its end stood there and a head is due
-  b-is : live (b .stage) ≡ true → ((b .stage ≡ Packets) × (b .second ≡ false)) ⊎ (EndedBy ws a b × (b .stage ≡ Head))
+  -- the upstream stream has not ended, or its end stood there and a head is due
+  b-is : live (b .stage) ≡ true → (b .stage ≡ UpstreamPackets) ⊎ (EndedBy ws a b × (b .stage ≡ DownstreamHead))
   b-is l = ⊎-elim same ended (to-b l)
     where
-      same : b ≡ a → ((b .stage ≡ Packets) × (b .second ≡ false)) ⊎ (EndedBy ws a b × (b .stage ≡ Head))
-      same q = let h = at-first (rw q at l) in inl (rw q (h .0), rw q (h .1))
+      same : b ≡ a → (b .stage ≡ UpstreamPackets) ⊎ (EndedBy ws a b × (b .stage ≡ DownstreamHead))
+      same q = inl (rw q (at-first (rw q at l)))
 
-      ended : EndedBy ws a b → ((b .stage ≡ Packets) × (b .second ≡ false)) ⊎ (EndedBy ws a b × (b .stage ≡ Head))
-      ended w =
-          let h = at-first (ap live (w .due)) in
-          inr (w, ap (λ s. s .stage) (w .next) ∙ ap (λ (t : Bool). cond t Over Head) (h .1))
+      ended : EndedBy ws a b → (b .stage ≡ UpstreamPackets) ⊎ (EndedBy ws a b × (b .stage ≡ DownstreamHead))
+      ended w = inr (w, ap (λ s. s .stage) (w .next) ∙ ap afterEnd (at-first (packets-live (a .stage) (w .due))))
 
-  -- a head is due still, or the first stream has not ended, or the second has begun
-  c-is : live (c .stage) ≡ true → (c .stage ≡ Head) ⊎ ((c .stage ≡ Packets) × (c .second ≡ false)) ⊎ (EndedBy ws a b × HeadedBy P xs b c × (c .stage ≡ Packets))
+  -- a head is due still, or the upstream stream has not ended, or the downstream one has begun
+  c-is : live (c .stage) ≡ true → (c .stage ≡ DownstreamHead) ⊎ (c .stage ≡ UpstreamPackets) ⊎ (EndedBy ws a b × HeadedBy P xs b c × (c .stage ≡ DownstreamPackets))
   c-is l = ⊎-elim same headed (to-c l)
     where
-      same : c ≡ b → (c .stage ≡ Head) ⊎ ((c .stage ≡ Packets) × (c .second ≡ false)) ⊎ (EndedBy ws a b × HeadedBy P xs b c × (c .stage ≡ Packets))
-      same q = ⊎-elim (λ h. inr (inl (rw q (h .0), rw q (h .1)))) (λ h. inl (rw q (h .1))) (b-is (rw q at l))
+      same : c ≡ b → (c .stage ≡ DownstreamHead) ⊎ (c .stage ≡ UpstreamPackets) ⊎ (EndedBy ws a b × HeadedBy P xs b c × (c .stage ≡ DownstreamPackets))
+      same q = ⊎-elim (λ h. inr (inl (rw q h))) (λ h. inl (rw q (h .1))) (b-is (rw q at l))
 
-      headed : HeadedBy P xs b c → (c .stage ≡ Head) ⊎ ((c .stage ≡ Packets) × (c .second ≡ false)) ⊎ (EndedBy ws a b × HeadedBy P xs b c × (c .stage ≡ Packets))
+      headed : HeadedBy P xs b c → (c .stage ≡ DownstreamHead) ⊎ (c .stage ≡ UpstreamPackets) ⊎ (EndedBy ws a b × HeadedBy P xs b c × (c .stage ≡ DownstreamPackets))
       headed w =
-          ⊎-elim (λ h. absurd (true≢false (sym (ap packetsDue (h .0)) ∙ ap packetsDue (w .due)))) (λ h. inr (inr (h .0, w, ap (λ s. s .stage) (w .next))))
+          ⊎-elim (λ h. absurd (true≢false (sym (ap packetsDue h) ∙ ap packetsDue (w .due)))) (λ h. inr (inr (h .0, w, ap (λ s. s .stage) (w .next))))
           (b-is (ap live (w .due)))
 
   -- none of these is the end of all
-  c-not-over : c .stage ≡ Over → ⊥
-  c-not-over p =
-      ⊎-elim (λ h. not-over p (ap overDue h)) (⊎-elim (λ h. not-over p (ap overDue (h .0))) (λ h. not-over p (ap overDue (h .2))))
+  c-not-nothing : c .stage ≡ Nothing → ⊥
+  c-not-nothing p =
+      ⊎-elim (λ h. not-nothing p (ap nothingDue h)) (⊎-elim (λ h. not-nothing p (ap nothingDue h)) (λ h. not-nothing p (ap nothingDue (h .2))))
       (c-is (ap live p))
 
   abbrev AllPassed : Type 0
   AllPassed = EndedBy ws a b × HeadedBy P xs b c × TakenBy true P ys S c d × EndedBy zs d e
 
-  -- so the second stream ended
+  -- so the downstream stream ended
   second-ended : EndedBy zs d e → AllPassed
-  second-ended w = ⊎-elim waiting taken-so (to-d (ap live (w .due)))
+  second-ended w = ⊎-elim waiting taken-so (to-d (packets-live (d .stage) (w .due)))
     where
-      in-second : (t : Bool) → cond t Over Head ≡ Over → t ≡ true
-      in-second true q = refl
-      in-second false q = not-over q refl
+      last-end : (g : Stage) → packetsDue g ≡ true → afterEnd g ≡ Nothing → isDue true g ≡ true
+      last-end UpstreamPackets p q = not-nothing q refl
+      last-end DownstreamHead p q = not-nothing q refl
+      last-end DownstreamPackets p q = refl
+      last-end Nothing p q = absurd (true≢false (sym p))
+      last-end (Stopped v) p q = not-nothing q refl
 
-      second : d .second ≡ true
-      second = in-second (d .second) (sym (ap (λ s. s .stage) (w .next)) ∙ over)
+      due : isDue true (d .stage) ≡ true
+      due = last-end (d .stage) (w .due) (sym (ap (λ s. s .stage) (w .next)) ∙ nothing)
 
-      waiting : (isDue true c ≡ false) × (d ≡ c) → AllPassed
-      waiting h =
-          let due : isDue true c ≡ true = rw (← h .1, w .due, second) in
-          absurd (true≢false (sym due ∙ h .0))
+      waiting : (isDue true (c .stage) ≡ false) × (d ≡ c) → AllPassed
+      waiting h = absurd (true≢false (sym due ∙ ap (λ s. isDue true (s .stage)) (h .1) ∙ h .0))
 
       taken-so : TakenBy true P ys S c d → AllPassed
       taken-so t =
-          let h = and-true (packetsDue (c .stage)) (Bool·beq (c .second) true) (t .due) in
-          ⊎-elim (λ k. absurd (true≢false (sym (h .0) ∙ ap packetsDue k)))
-          (⊎-elim (λ k. absurd (true≢false (sym (h .1) ∙ ap (λ (s : Bool). Bool·beq s true) (k .1)))) (λ k. (k .0, k .1, t, w)))
-          (c-is (ap live (packets-stage (c .stage) (h .0))))
+          let other : isDue true (c .stage) ≡ false → AllPassed = λ q. absurd (true≢false (sym (t .due) ∙ q)) in
+          ⊎-elim (λ k. other (ap (isDue true) k)) (⊎-elim (λ k. other (ap (isDue true) k)) (λ k. (k .0, k .1, t, w)))
+          (c-is (due-live true (c .stage) (t .due)))
 
   all-passed : AllPassed
   unfolding packetsState stageAfter
-  all-passed = ⊎-elim unended second-ended (to-e (ap live over))
+  all-passed = ⊎-elim unended second-ended (to-e (ap live nothing))
     where
       unended : e ≡ d → AllPassed
       unended q =
-          let d-over : d .stage ≡ Over = rw q at over in
-          ⊎-elim (λ h. absurd (c-not-over (rw (h .1) at d-over))) (λ t. not-over d-over (rw (t .next, t .done)))
-          (to-d (ap live d-over))
+          let d-nothing : d .stage ≡ Nothing = rw q at nothing in
+          ⊎-elim (λ h. absurd (c-not-nothing (rw (h .1) at d-nothing))) (λ t. not-nothing d-nothing (rw (t .next, t .done, downstream-stage (c .stage) (t .due))))
+          (to-d (ap live d-nothing))
 
 -- what stands in the bytes after the first head: n packets and an end, a head, m packets and an end
 module _ (P : Params) (bs : List ℕ) (up down : Sketch) where
@@ -177,7 +174,7 @@ module _ (P : Params) (bs : List ℕ) (up down : Sketch) where
           nothing-more = rw e-left at none;
         }
 
-    -- and what the second stream's packets left
+    -- and what the downstream packets left
     second-left : packetsSketch true P (rest started c bs) down c ≡ afterTaken P secondBody down
     unfolding packetsSketch
     second-left = rw (td .due, c-left)
@@ -186,16 +183,14 @@ module _ (P : Params) (bs : List ℕ) (up down : Sketch) where
   first-taken l = ⊎-elim (λ h. absurd (true≢false (h .0))) (λ t. t) (packets-back false P bs up started l)
 
   at-first-packets : live (firstPackets P bs up down started .stage) ≡ true
-      → (firstPackets P bs up down started .stage ≡ Packets) × (firstPackets P bs up down started .second ≡ false)
+      → firstPackets P bs up down started .stage ≡ UpstreamPackets
   unfolding packetsState stageAfter
-  at-first-packets l =
-      let t = first-taken l in
-      (ap (λ s. s .stage) (t .next) ∙ ap stageAfter (t .done), ap (λ s. s .second) (t .next))
+  at-first-packets l = let t = first-taken l in ap (λ s. s .stage) (t .next) ∙ ap (stageAfter UpstreamPackets) (t .done)
 
-  pub passed : fedState P bs up down started .stage ≡ Over
+  pub passed : fedState P bs up down started .stage ≡ Nothing
       → Passed × (packetsSketch true P (rest started (secondHead P bs up down started) bs) down (secondHead P bs up down started) ≡ afterTaken P secondBody down)
-  passed over =
-      let last = over-back (rest started (secondEnd P bs up down started) bs) (secondEnd P bs up down started) over in
-      let all = all-passed at-first-packets (end-back _ _) (head-back P _ _) (packets-back true P _ down _) (end-back _ _) (ap (λ s. s .stage) (sym (last .0)) ∙ over) in
-      let first = first-taken (ap live (all .0 .due)) in
+  passed nothing =
+      let last = nothing-back (rest started (secondEnd P bs up down started) bs) (secondEnd P bs up down started) nothing in
+      let all = all-passed at-first-packets (end-back _ _) (head-back P _ _) (packets-back true P _ down _) (end-back _ _) (ap (λ s. s .stage) (sym (last .0)) ∙ nothing) in
+      let first = first-taken (packets-live (firstPackets P bs up down started .stage) (all .0 .due)) in
       (found first (all .0) (all .1) (all .2) (all .3) (last .1), second-left first (all .0) (all .1) (all .2) (all .3) (last .1))

@@ -18,7 +18,7 @@ use Rattle.desk.proofs.Whole.{whole-record}
 use Rattle.desk.specs.declared.states.State.{State}
 use Rattle.desk.specs.declared.stages.Due.{Due}
 use Rattle.desk.specs.declared.stages.Due.the-variants.{Here, NotYet, Other}
-use Rattle.desk.specs.Desk.{packetsDue, headDue, dueOf, dueEnd, endState, headState, endStage, headStage, overStage}
+use Rattle.desk.specs.Desk.{packetsDue, headDue, dueOf, dueEnd, endState, headState, endStage, headStage, nothingStage}
 use Rattle.desk.proofs.WhatIsDue.{here-whole, end-whole}
 
 abbrev pub notYet : Due → Bool
@@ -145,8 +145,8 @@ module _ (xs ys : List ℕ) where
       at Other e = refl
       at Here e = rw (params-more (omega (arith, whole-record xs 0 headKind (here-whole headKind xs e) .1)))
 
-  pub over-more : (s : State) → 0 < length xs → (leb (length (xs ++ ys)) 0 ≡ false) × (overStage (xs ++ ys) s ≡ overStage xs s)
-  unfolding overStage
-  over-more s l =
+  pub nothing-more : (s : State) → 0 < length xs → (leb (length (xs ++ ys)) 0 ≡ false) × (nothingStage (xs ++ ys) s ≡ nothingStage xs s)
+  unfolding nothingStage
+  nothing-more s l =
       let e = lt-leb (length (xs ++ ys)) 0 (omega (arith, longer)) in
       (e, rw (e, lt-leb (length xs) 0 l))

@@ -20,7 +20,7 @@ use Rattle.files.proofs.Standing.{kind-ends}
 use Rattle.desk.specs.declared.states.State.{State}
 use Rattle.desk.specs.declared.stages.Due.{Due}
 use Rattle.desk.specs.declared.stages.Due.the-variants.{Here, NotYet, Other}
-use Rattle.desk.specs.Desk.{packetsDue, headDue, overDue, isDue, packetsState, dueOf, dueEnd, endState, endedState, stopped, secondAnswer, answered, headState, headedState, packetsStage, packetsSketch, endStage, headStage, overStage, rest, offsetsFit}
+use Rattle.desk.specs.Desk.{packetsDue, headDue, nothingDue, isDue, packetsState, dueOf, dueEnd, endState, endedState, stopped, secondAnswer, answered, headState, headedState, packetsStage, packetsSketch, endStage, headStage, nothingStage, rest, offsetsFit}
 use Rattle.desk.proofs.Taking.{taken-bytes}
 use Rattle.desk.proofs.WhatIsDue.{here-whole, end-whole}
 use Rattle.desk.proofs.OffsetsFit.{bounded, offsets-fit}
@@ -46,9 +46,9 @@ onward-fits bs s t e h =
     offsets-fit (rest s t bs) t (omega arith)
 
 -- each stage
-pub packets-onward : (second : Bool) (P : Params) (bs : List ℕ) (S : Sketch) (s : State) → Onward bs s (packetsStage second P bs S s)
+pub packets-onward : (downstream : Bool) (P : Params) (bs : List ℕ) (S : Sketch) (s : State) → Onward bs s (packetsStage downstream P bs S s)
 unfolding packetsStage packetsState
-packets-onward second P bs S s = at (isDue second s)
+packets-onward downstream P bs S s = at (isDue downstream (s .stage))
   where
     at : (b : Bool) → Onward bs s (cond b (packetsState P bs S s) s)
     at true = omega (arith, taken-bytes P bs S)
@@ -82,9 +82,9 @@ head-onward P bs s = at (headDue (s .stage)) (dueOf headKind bs) refl
     at true Other e = omega arith
     at true Here e = judged (secondAnswer P (paramsIn bs)) (here-whole headKind bs e)
 
-pub over-onward : (bs : List ℕ) (s : State) → Onward bs s (overStage bs s)
-unfolding overStage
-over-onward bs s = at (overDue (s .stage) && not (leb (length bs) 0))
+pub nothing-onward : (bs : List ℕ) (s : State) → Onward bs s (nothingStage bs s)
+unfolding nothingStage
+nothing-onward bs s = at (nothingDue (s .stage) && not (leb (length bs) 0))
   where
     at : (b : Bool) → Onward bs s (cond b (stopped Form s) s)
     at true = omega arith
@@ -124,10 +124,10 @@ module _ {bs : List ℕ} {s t x : State} (h : Came bs s t x) where
   pub then-packets : (P : Params) (S : Sketch) (u : State) → u ≡ packetsStage true P (part bs s t) S t → Came bs s u (packetsStage true P (rest s x bs) S x)
   then-packets P S u e = further (λ xs v. packetsStage true P xs S v) (λ xs v. packets-onward true P xs S v) u e
 
-  pub then-over : (u : State) → u ≡ overStage (part bs s t) t → Came bs s u (overStage (rest s x bs) x)
-  then-over u e = further overStage over-onward u e
+  pub then-nothing : (u : State) → u ≡ nothingStage (part bs s t) t → Came bs s u (nothingStage (rest s x bs) x)
+  then-nothing u e = further nothingStage nothing-onward u e
 
-  -- and the sketch that the second stream's packets leave
+  -- and the sketch that the downstream packets leave
   pub then-sketch : (P : Params) (S S' : Sketch) → S' ≡ packetsSketch true P (part bs s t) S t → S' ≡ packetsSketch true P (rest s x bs) S x
   then-sketch P S S' e = e ∙ ap (λ xs. packetsSketch true P xs S t) (part-rest bs s t) ∙ ap (λ v. packetsSketch true P (rest s v bs) S v) (h .same)
 

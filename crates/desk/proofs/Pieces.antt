@@ -11,10 +11,10 @@ use Rattle.desk.specs.declared.states.State.{State}
 use Rattle.desk.specs.declared.states.Fed.{Fed}
 use Rattle.desk.specs.Desk.{packetsSketch, rest, offsetsFit, firstPackets, firstEnd, secondHead, secondPackets, secondEnd, fedState, Feeds}
 use Rattle.desk.proofs.OffsetsFit.{bounded, offsets-fit}
-use Rattle.desk.proofs.Onward.{Onward, packets-onward, end-onward, head-onward, over-onward, onward-then}
+use Rattle.desk.proofs.Onward.{Onward, packets-onward, end-onward, head-onward, nothing-onward, onward-then}
 use Rattle.desk.proofs.OneRecord.{Moment, waits}
 use Rattle.desk.proofs.Reaching.{Reaches, then, one-end, with-more, rest-rest}
-use Rattle.desk.proofs.StagesReach.{end-reach, head-reach, over-reach}
+use Rattle.desk.proofs.StagesReach.{end-reach, head-reach, nothing-reach}
 use Rattle.desk.proofs.PacketsReach.{packets-reach}
 use Rattle.desk.proofs.AtRest.{fed-waits}
 
@@ -59,7 +59,7 @@ module _ (P : Params) (bs : List ℕ) (up down : Sketch) (s : State) where
       let after-headed = further first-end headed _ _ (after-first-end .0) (head-onward P (rest s first-end bs) first-end) (after-first-end .1) (head-reach P (rest s first-end bs) (moment first-end up-left down)) in
       let after-second-packets = further headed second-packets _ _ (after-headed .0) (packets-onward true P (rest s headed bs) down headed) (after-headed .1) (packets-reach P true (rest s headed bs) (moment headed up-left down)) in
       let after-second-end = further second-packets second-end _ _ (after-second-packets .0) (end-onward (rest s second-packets bs) second-packets) (after-second-packets .1) (end-reach P (rest s second-packets bs) (moment second-packets up-left down-left)) in
-      further second-end last _ _ (after-second-end .0) (over-onward (rest s second-end bs) second-end) (after-second-end .1) (over-reach P (rest s second-end bs) (moment second-end up-left down-left))
+      further second-end last _ _ (after-second-end .0) (nothing-onward (rest s second-end bs) second-end) (after-second-end .1) (nothing-reach P (rest s second-end bs) (moment second-end up-left down-left))
 
 -- what feeding comes to: from s to t, where more bytes are waited for
 record Fully (P : Params) (bs : List ℕ) (up down : Sketch) (s t : State) (up' down' : Sketch) : Type 0 where

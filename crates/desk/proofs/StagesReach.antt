@@ -11,11 +11,11 @@ use Rattle.params.specs.declared.params.Params.{Params}
 use Rattle.files.specs.Records.{recordAt, isKind, headKind, packetsKind}
 use Rattle.desk.proofs.Whole.{whole-record}
 use Rattle.desk.specs.declared.states.Stage.{Stage}
-use Rattle.desk.specs.declared.states.Stage.the-variants.{Packets, Head, Over, Refused as Stopped}
+use Rattle.desk.specs.declared.states.Stage.the-variants.{UpstreamPackets, DownstreamHead, DownstreamPackets, Nothing, Refused as Stopped}
 use Rattle.desk.specs.declared.states.State.{State}
 use Rattle.desk.specs.declared.stages.Due.{Due}
 use Rattle.desk.specs.declared.stages.Due.the-variants.{Here, NotYet, Other}
-use Rattle.desk.specs.Desk.{packetsDue, headDue, dueOf, dueEnd, endState, headState, endStage, headStage, overStage, rest}
+use Rattle.desk.specs.Desk.{packetsDue, headDue, dueOf, dueEnd, endState, headState, endStage, headStage, nothingStage, rest}
 use Rattle.desk.proofs.MoreBytes.{notYet}
 use Rattle.desk.proofs.OneRecord.{Moment, into, oneAt, waitsAt}
 use Rattle.desk.proofs.Reaching.{Reaches, stays, by-one, rest-none}
@@ -60,11 +60,14 @@ module _ (P : Params) (bs : List ℕ) (k : Moment) where
     where
       at : (g : Stage) → k .state .stage ≡ g → (x : Bool) → isKind packetsKind (recordAt bs 0) ≡ x → (y : Bool) → notYet (dueEnd bs) ≡ y
           → Reaches P bs k (rest (k .state) (endStage bs (k .state)) bs) (into (endStage bs (k .state)) k)
-      at Packets e true w y f = unmoved _ (end-waits bs (k .state) (packets-no-end bs w))
-      at Packets e false w true f = unmoved _ (end-waits bs (k .state) f)
-      at Packets e false w false f = by-one bs k (into (endStage bs (k .state)) k) (rw (e, w) f) (rw (e, w))
-      at Head e x w y f = unmoved _ (rw e)
-      at Over e x w y f = unmoved _ (rw e)
+      at UpstreamPackets e true w y f = unmoved _ (end-waits bs (k .state) (packets-no-end bs w))
+      at UpstreamPackets e false w true f = unmoved _ (end-waits bs (k .state) f)
+      at UpstreamPackets e false w false f = by-one bs k (into (endStage bs (k .state)) k) (rw (e, w) f) (rw (e, w))
+      at DownstreamPackets e true w y f = unmoved _ (end-waits bs (k .state) (packets-no-end bs w))
+      at DownstreamPackets e false w true f = unmoved _ (end-waits bs (k .state) f)
+      at DownstreamPackets e false w false f = by-one bs k (into (endStage bs (k .state)) k) (rw (e, w) f) (rw (e, w))
+      at DownstreamHead e x w y f = unmoved _ (rw e)
+      at Nothing e x w y f = unmoved _ (rw e)
       at (Stopped v) e x w y f = unmoved _ (rw e)
 
   pub head-reach : Reaches P bs k (rest (k .state) (headStage P bs (k .state)) bs) (into (headStage P bs (k .state)) k)
@@ -73,20 +76,22 @@ module _ (P : Params) (bs : List ℕ) (k : Moment) where
     where
       at : (g : Stage) → k .state .stage ≡ g → (y : Bool) → notYet (dueOf headKind bs) ≡ y
           → Reaches P bs k (rest (k .state) (headStage P bs (k .state)) bs) (into (headStage P bs (k .state)) k)
-      at Head e true f = unmoved _ (head-waits P bs (k .state) f)
-      at Head e false f = by-one bs k (into (headStage P bs (k .state)) k) (rw e f) (rw e)
-      at Packets e y f = unmoved _ (rw e)
-      at Over e y f = unmoved _ (rw e)
+      at DownstreamHead e true f = unmoved _ (head-waits P bs (k .state) f)
+      at DownstreamHead e false f = by-one bs k (into (headStage P bs (k .state)) k) (rw e f) (rw e)
+      at UpstreamPackets e y f = unmoved _ (rw e)
+      at DownstreamPackets e y f = unmoved _ (rw e)
+      at Nothing e y f = unmoved _ (rw e)
       at (Stopped v) e y f = unmoved _ (rw e)
 
-  pub over-reach : Reaches P bs k (rest (k .state) (overStage bs (k .state)) bs) (into (overStage bs (k .state)) k)
-  unfolding overStage oneAt waitsAt
-  over-reach = at (k .state .stage) refl (leb (length bs) 0) refl
+  pub nothing-reach : Reaches P bs k (rest (k .state) (nothingStage bs (k .state)) bs) (into (nothingStage bs (k .state)) k)
+  unfolding nothingStage oneAt waitsAt
+  nothing-reach = at (k .state .stage) refl (leb (length bs) 0) refl
     where
       at : (g : Stage) → k .state .stage ≡ g → (y : Bool) → leb (length bs) 0 ≡ y
-          → Reaches P bs k (rest (k .state) (overStage bs (k .state)) bs) (into (overStage bs (k .state)) k)
-      at Over e true f = unmoved _ (rw (e, f))
-      at Over e false f = by-one bs k (into (overStage bs (k .state)) k) (rw e f) (rw e)
-      at Packets e y f = unmoved _ (rw e)
-      at Head e y f = unmoved _ (rw e)
+          → Reaches P bs k (rest (k .state) (nothingStage bs (k .state)) bs) (into (nothingStage bs (k .state)) k)
+      at Nothing e true f = unmoved _ (rw (e, f))
+      at Nothing e false f = by-one bs k (into (nothingStage bs (k .state)) k) (rw e f) (rw e)
+      at UpstreamPackets e y f = unmoved _ (rw e)
+      at DownstreamHead e y f = unmoved _ (rw e)
+      at DownstreamPackets e y f = unmoved _ (rw e)
       at (Stopped v) e y f = unmoved _ (rw e)

@@ -12,7 +12,7 @@ use Rattle.sketch.specs.Sketch.{Sketch}
 use Rattle.files.specs.Records.{bodyLength, recordAt, isKind, headKind, packetsKind, endKind, headLength}
 use Rattle.files.proofs.RecordTrips.{record-whole}
 use Rattle.desk.specs.declared.states.Stage.{Stage}
-use Rattle.desk.specs.declared.states.Stage.the-variants.{Packets, Head, Over, Refused as Stopped}
+use Rattle.desk.specs.declared.states.Stage.the-variants.{UpstreamPackets, DownstreamHead, DownstreamPackets, Nothing, Refused as Stopped}
 use Rattle.desk.specs.declared.states.State.{State}
 use Rattle.desk.specs.declared.states.Fed.{Fed}
 use Rattle.desk.specs.Desk.{dueOf, dueEnd, offsetsFit, Feeds}
@@ -43,9 +43,10 @@ module _ (bs : List ℕ) (long : headLength ≤ length bs) where
 
   none-waits : (g : Stage) → live g ≡ true → waitsAt g bs ≡ false
   unfolding waitsAt
-  none-waits Packets h = packets-or-end
-  none-waits Head h = due-or-other headKind (omega arith) (omega arith)
-  none-waits Over h = lt-leb (length bs) 0 (omega arith)
+  none-waits UpstreamPackets h = packets-or-end
+  none-waits DownstreamPackets h = packets-or-end
+  none-waits DownstreamHead h = due-or-other headKind (omega arith) (omega arith)
+  none-waits Nothing h = lt-leb (length bs) 0 (omega arith)
   none-waits (Stopped w) h = absurd (true≢false (sym h))
 
 -- so where the input is not refused, less than a head is left

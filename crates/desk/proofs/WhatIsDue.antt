@@ -17,31 +17,27 @@ use Rattle.files.specs.Layout.{endAt}
 use Rattle.files.specs.Fields.{recordsField}
 use Rattle.files.proofs.fields.End.{the-type as end-type}
 use Rattle.desk.specs.declared.states.Stage.{Stage}
-use Rattle.desk.specs.declared.states.Stage.the-variants.{Packets, Head, Over, Refused as Stopped}
+use Rattle.desk.specs.declared.states.Stage.the-variants.{UpstreamPackets, DownstreamHead, DownstreamPackets, Nothing, Refused as Stopped}
 use Rattle.desk.specs.declared.states.State.{State}
 use Rattle.desk.specs.declared.stages.Due.{Due}
 use Rattle.desk.specs.declared.stages.Due.the-variants.{Here, NotYet, Other}
-use Rattle.desk.specs.Desk.{packetsDue, headDue, overDue, dueOf, dueEnd, endState, endStage, headState, headStage}
+use Rattle.desk.specs.Desk.{packetsDue, headDue, nothingDue, dueOf, dueEnd, endState, endStage, headState, headStage}
 use Rattle.desk.proofs.states.Stage.{the-type}
 
 -- another stage than the one that a `let .. else` asks for
-pub not-packets : (g : Stage) → OneOf (1 ∷ 2 ∷ 3 ∷ []) (tagOf the-type g) → packetsDue g ≡ false
-not-packets Packets h = absurd (miss (1 ∷ 2 ∷ 3 ∷ []) 0 tt h)
-not-packets Head h = refl
-not-packets Over h = refl
-not-packets (Stopped w) h = refl
-
-pub not-head : (g : Stage) → OneOf (0 ∷ 2 ∷ 3 ∷ []) (tagOf the-type g) → headDue g ≡ false
-not-head Packets h = refl
-not-head Head h = absurd (miss (0 ∷ 2 ∷ 3 ∷ []) 1 tt h)
-not-head Over h = refl
+pub not-head : (g : Stage) → OneOf (0 ∷ 2 ∷ 3 ∷ 4 ∷ []) (tagOf the-type g) → headDue g ≡ false
+not-head UpstreamPackets h = refl
+not-head DownstreamHead h = absurd (miss (0 ∷ 2 ∷ 3 ∷ 4 ∷ []) 1 tt h)
+not-head DownstreamPackets h = refl
+not-head Nothing h = refl
 not-head (Stopped w) h = refl
 
-pub not-over : (g : Stage) → OneOf (0 ∷ 1 ∷ 3 ∷ []) (tagOf the-type g) → overDue g ≡ false
-not-over Packets h = refl
-not-over Head h = refl
-not-over Over h = absurd (miss (0 ∷ 1 ∷ 3 ∷ []) 2 tt h)
-not-over (Stopped w) h = refl
+pub not-nothing : (g : Stage) → OneOf (0 ∷ 1 ∷ 2 ∷ 4 ∷ []) (tagOf the-type g) → nothingDue g ≡ false
+not-nothing UpstreamPackets h = refl
+not-nothing DownstreamHead h = refl
+not-nothing DownstreamPackets h = refl
+not-nothing Nothing h = absurd (miss (0 ∷ 1 ∷ 2 ∷ 4 ∷ []) 3 tt h)
+not-nothing (Stopped w) h = refl
 
 -- a record that was found to be there is whole
 pub here-whole : (kind : ℕ) (bs : List ℕ) → dueOf kind bs ≡ Here → isKind kind (recordAt bs 0) ≡ true
@@ -72,10 +68,10 @@ unfolding endAt
 end-not-said bs {r} w e h = let said : r ≡ EndOf (word bs recordsField) = rw w at e in miss (1 ∷ []) 0 tt (rw said at h)
 
 -- where packets, or a head, are due, what stands there decides
-pub end-decides : (bs : List ℕ) (s t : State) (d : Due) → s .stage ≡ Packets → d ≡ dueEnd bs → t ≡ endState d bs s → t ≡ endStage bs s
+pub end-decides : (bs : List ℕ) (s t : State) (d : Due) → packetsDue (s .stage) ≡ true → d ≡ dueEnd bs → t ≡ endState d bs s → t ≡ endStage bs s
 unfolding endStage
 end-decides bs s t d e q h = h ∙ rw (e, q)
 
-pub head-decides : (P : Params) (bs : List ℕ) (s t : State) (d : Due) → s .stage ≡ Head → d ≡ dueOf headKind bs → t ≡ headState d P bs s → t ≡ headStage P bs s
+pub head-decides : (P : Params) (bs : List ℕ) (s t : State) (d : Due) → s .stage ≡ DownstreamHead → d ≡ dueOf headKind bs → t ≡ headState d P bs s → t ≡ headStage P bs s
 unfolding headStage
 head-decides P bs s t d e q h = h ∙ rw (e, q)

@@ -1,6 +1,6 @@
 -- Records of an upstream stream and, directly after it, of a downstream one, as they come.
 use mathlib.Core.Path.{_≡_}
-use mathlib.Core.Bool.{Bool, true, false, not, cond, _&&_, Bool·beq}
+use mathlib.Core.Bool.{Bool, true, false, not, cond, _&&_}
 use mathlib.Core.List.{List}
 use Prim.Native.Nat.{ℕ, _+_, _-_, _*_}
 use lib.Dec.{eqb, ltb, leb}
@@ -22,7 +22,7 @@ use Rattle.files.specs.Heads.{paramsIn, headAnswer, noParams}
 use Rattle.files.specs.Fields.{recordsField}
 use Rattle.streamfile.specs.Streams.{packetsFrom, flowFrom, numberFrom, flowsFrom, numbersFrom}
 use Rattle.desk.specs.declared.states.Stage.{Stage}
-use Rattle.desk.specs.declared.states.Stage.the-variants.{Packets, Head, Over, Refused as Stopped}
+use Rattle.desk.specs.declared.states.Stage.the-variants.{UpstreamPackets, DownstreamHead, DownstreamPackets, Nothing, Refused as Stopped}
 use Rattle.desk.specs.declared.states.State.{State}
 use Rattle.desk.specs.declared.stages.Due.{Due}
 use Rattle.desk.specs.declared.stages.Due.the-variants.{Here, NotYet, Other}
@@ -42,40 +42,58 @@ beginAnswer bs = first (headAnswer bs) (refuseIf (not (fewEnough (paramsIn bs)))
 abbrev pub beginOf : List ℕ → Headed
 beginOf bs = record { answer = beginAnswer bs; params = kept (beginAnswer bs) noParams (paramsIn bs) }
 
--- A state says what is due next, in which stream, at which offset of the whole input, and how many records stood since the head.
+-- A state says what is due next, at which offset of the whole input, and how many records stood since the head.
 -- Below, bs are the bytes at hand: the first of them is the one at that offset.
 
 -- after the first head
 abbrev pub started : State
-started = record { stage = Packets; second = false; at = headLength; records = 0 }
+started = record { stage = UpstreamPackets; at = headLength; records = 0 }
 
 -- refused for what stands next
 abbrev pub stopped : Refusal → State → State
-stopped w s = record { stage = Stopped w; second = s .second; at = s .at; records = s .records }
+stopped w s = record { stage = Stopped w; at = s .at; records = s .records }
 
--- packets of this stream, a head, or nothing more are due
+-- packets of the downstream stream, or of the upstream one, are due; packets of either; a head; nothing more
+abbrev pub isDue : Bool → Stage → Bool
+isDue downstream UpstreamPackets = not downstream
+isDue downstream DownstreamHead = false
+isDue downstream DownstreamPackets = downstream
+isDue downstream Nothing = false
+isDue downstream (Stopped w) = false
+
 abbrev pub packetsDue : Stage → Bool
-packetsDue Packets = true
-packetsDue Head = false
-packetsDue Over = false
+packetsDue UpstreamPackets = true
+packetsDue DownstreamHead = false
+packetsDue DownstreamPackets = true
+packetsDue Nothing = false
 packetsDue (Stopped w) = false
 
 abbrev pub headDue : Stage → Bool
-headDue Packets = false
-headDue Head = true
-headDue Over = false
+headDue UpstreamPackets = false
+headDue DownstreamHead = true
+headDue DownstreamPackets = false
+headDue Nothing = false
 headDue (Stopped w) = false
 
-abbrev pub overDue : Stage → Bool
-overDue Packets = false
-overDue Head = false
-overDue Over = true
-overDue (Stopped w) = false
+abbrev pub nothingDue : Stage → Bool
+nothingDue UpstreamPackets = false
+nothingDue DownstreamHead = false
+nothingDue DownstreamPackets = false
+nothingDue Nothing = true
+nothingDue (Stopped w) = false
 
--- what is due after packets with this answer
-unfoldable pub stageAfter : Answer → Stage
-stageAfter Done = Packets
-stageAfter (Refused w k) = Stopped w
+-- what is due after packets with this answer: still packets or an end, unless one was refused
+unfoldable pub stageAfter : Stage → Answer → Stage
+stageAfter g Done = g
+stageAfter g (Refused w k) = Stopped w
+
+-- what is due after the end of a stream
+abbrev pub afterEnd : Stage → Stage
+afterEnd UpstreamPackets = DownstreamHead
+afterEnd DownstreamHead = DownstreamHead
+afterEnd DownstreamPackets = Nothing
+afterEnd Nothing = Nothing
+afterEnd (Stopped w) = Stopped w
 
 abbrev pub refuses : Answer → Bool
 refuses Done = false
@@ -96,15 +114,11 @@ takenAnswer P bs S = cond (ltb (taken P bs S) (packetsFrom 0 bs)) (packetAnswer 
 unfoldable pub afterTaken : Params → List ℕ → Sketch → Sketch
 afterTaken P bs S = after P (take (taken P bs S) (flowsFrom 0 bs)) (take (taken P bs S) (numbersFrom 0 bs)) S
 
--- the packet records at hand, where this stream's packets are due
-abbrev pub isDue : Bool → State → Bool
-isDue second s = packetsDue (s .stage) && Bool·beq (s .second) second
-
+-- the packet records at hand, where packets are due
 unfoldable pub packetsState : Params → List ℕ → Sketch → State → State
 packetsState P bs S s =
     record {
-      stage = stageAfter (takenAnswer P bs S);
-      second = s .second;
+      stage = stageAfter (s .stage) (takenAnswer P bs S);
       at = s .at + packetsLength * taken P bs S;
       records = s .records + taken P bs S;
     }
@@ -120,9 +134,9 @@ dueOf kind bs =
 unfoldable pub dueEnd : List ℕ → Due
 dueEnd bs = cond (not (leb (length bs) 0) && eqb (getD bs 0 0) packetsKind) NotYet (dueOf endKind bs)
 
--- the end of a stream, which says how many records there were: then a head is due, or nothing more
+-- the end of a stream, which says how many records there were
 abbrev pub endedState : State → State
-endedState s = record { stage = cond (s .second) Over Head; second = true; at = s .at + endLength; records = 0 }
+endedState s = record { stage = afterEnd (s .stage); at = s .at + endLength; records = 0 }
 
 abbrev pub endState : Due → List ℕ → State → State
 endState NotYet bs s = s
@@ -137,7 +151,7 @@ secondAnswer P Q =
     Done)
 
 abbrev pub headedState : State → State
-headedState s = record { stage = Packets; second = true; at = s .at + headLength; records = 0 }
+headedState s = record { stage = DownstreamPackets; at = s .at + headLength; records = 0 }
 
 abbrev pub answered : Answer → State → State → State
 answered Done s next = next
@@ -150,10 +164,10 @@ headState Here P bs s = answered (secondAnswer P (paramsIn bs)) s (headedState s
 
 -- The stages, each where it is due.
 unfoldable pub packetsStage : Bool → Params → List ℕ → Sketch → State → State
-packetsStage second P bs S s = cond (isDue second s) (packetsState P bs S s) s
+packetsStage downstream P bs S s = cond (isDue downstream (s .stage)) (packetsState P bs S s) s
 
 unfoldable pub packetsSketch : Bool → Params → List ℕ → Sketch → State → Sketch
-packetsSketch second P bs S s = cond (isDue second s) (afterTaken P bs S) S
+packetsSketch downstream P bs S s = cond (isDue downstream (s .stage)) (afterTaken P bs S) S
 
 unfoldable pub endStage : List ℕ → State → State
 endStage bs s = cond (packetsDue (s .stage)) (endState (dueEnd bs) bs s) s
@@ -161,8 +175,8 @@ endStage bs s = cond (packetsDue (s .stage)) (endState (dueEnd bs) bs s) s
 unfoldable pub headStage : Params → List ℕ → State → State
 headStage P bs s = cond (headDue (s .stage)) (headState (dueOf headKind bs) P bs s) s
 
-unfoldable pub overStage : List ℕ → State → State
-overStage bs s = cond (overDue (s .stage) && not (leb (length bs) 0)) (stopped Form s) s
+unfoldable pub nothingStage : List ℕ → State → State
+nothingStage bs s = cond (nothingDue (s .stage) && not (leb (length bs) 0)) (stopped Form s) s
 
 -- the bytes at hand from a later state on
 abbrev pub rest : State → State → List ℕ → List ℕ
@@ -190,7 +204,7 @@ module _ (P : Params) (bs : List ℕ) (up down : Sketch) (s : State) where
   secondEnd = endStage (rest s secondPackets bs) secondPackets
 
   abbrev pub fedState : State
-  fedState = overStage (rest s secondEnd bs) secondEnd
+  fedState = nothingStage (rest s secondEnd bs) secondEnd
 
   -- what feeding answers and leaves; a state out of reach takes nothing
   pub record Feeds (r : Fed) (up' down' : Sketch) : Type 0 where
@@ -201,7 +215,8 @@ module _ (P : Params) (bs : List ℕ) (up down : Sketch) (s : State) where
 
 -- the end of the input: nothing more was due, or a record is cut or missing
 abbrev pub finishAnswer : Stage → ℕ → Answer
-finishAnswer Over at = Done
+finishAnswer Nothing at = Done
 finishAnswer (Stopped w) at = Refused w at
-finishAnswer Packets at = Refused Form at
-finishAnswer Head at = Refused Form at
+finishAnswer UpstreamPackets at = Refused Form at
+finishAnswer DownstreamHead at = Refused Form at
+finishAnswer DownstreamPackets at = Refused Form at

@@ -1,10 +1,10 @@
 // Records taken as they come: those of the upstream stream go into one sketch, those of the downstream one into another.
 ghost use Rattle.sketch.specs.Sketch.{sketch};
 ghost use Rattle.desk.specs.Desk.{Feeds};
-use crate::stages::end;
-use crate::stages::over;
-use crate::stages::packets;
-use crate::stages::second_head;
+use crate::stages::end_stage;
+use crate::stages::head_stage;
+use crate::stages::nothing_stage;
+use crate::stages::packets_stage;
 use crate::states::Fed;
 use crate::states::State;
 use crate::states::offsets_fit;
@@ -27,17 +27,17 @@ pub fn feed(
         return Fed { state: s, used: 0 };
     }
     let from = s.at;
-    let first_packets = packets(false, p, s, up_counts, up_idsums, bytes);
+    let first_packets = packets_stage(false, p, s, up_counts, up_idsums, bytes);
     let i = first_packets.at - from;
-    let first_end = end(first_packets, &bytes[i..]);
+    let first_end = end_stage(first_packets, &bytes[i..]);
     let j = first_end.at - from;
-    let headed = second_head(p, first_end, &bytes[j..]);
+    let headed = head_stage(p, first_end, &bytes[j..]);
     let k = headed.at - from;
-    let second_packets = packets(true, p, headed, down_counts, down_idsums, &bytes[k..]);
+    let second_packets = packets_stage(true, p, headed, down_counts, down_idsums, &bytes[k..]);
     let l = second_packets.at - from;
-    let second_end = end(second_packets, &bytes[l..]);
+    let second_end = end_stage(second_packets, &bytes[l..]);
     let m = second_end.at - from;
-    let fed = over(second_end, &bytes[m..]);
+    let fed = nothing_stage(second_end, &bytes[m..]);
     Fed {
         state: fed,
         used: fed.at - from,

@@ -1,9 +1,9 @@
-// The stages of the reading, each where it is due: the packets of a stream and its end, the second head, and nothing more.
+// The stages of the reading, each where it is due: the packets of a stream and its end, the downstream head, and nothing more.
 ghost use mathlib.Core.Path.{_≡_};
 ghost use mathlib.Core.Bool.{true};
 ghost use Rattle.sketch.specs.Sketch.{sketch};
 ghost use Rattle.files.specs.Records.{recordAt, isKind, headKind, endKind};
-ghost use Rattle.desk.specs.Desk.{stageAfter, taken as «taken-of», takenAnswer, afterTaken, dueOf, dueEnd, endState, endStage, headState, headStage, overStage, packetsStage, packetsSketch, offsetsFit};
+ghost use Rattle.desk.specs.Desk.{isDue, packetsDue, stageAfter, afterEnd, taken as «taken-of», takenAnswer, afterTaken, dueOf, dueEnd, endState, endStage, headState, headStage, nothingStage, packetsStage, packetsSketch, offsetsFit};
 use crate::heads::judge_second;
 use crate::states::Stage;
 use crate::states::State;
@@ -62,19 +62,58 @@ fn take_packets(p: Params, counts: &mut [i32], idsums: &mut [u32], bytes: &[u8])
     }
 }
 
+// Packets of the downstream stream, or of the upstream one, are due.
+fn is_due(downstream: bool, stage: Stage) -> bool
+    ensures { λ r. ⌜ r ≡ isDue downstream stage ⌝ }
+{
+    match stage {
+        Stage::UpstreamPackets => !downstream,
+        Stage::DownstreamPackets => downstream,
+        Stage::DownstreamHead => false,
+        Stage::Nothing => false,
+        Stage::Refused(_) => false,
+    }
+}
+
+// Packets of either are due.
+fn packets_due(stage: Stage) -> bool
+    ensures { λ r. ⌜ r ≡ packetsDue stage ⌝ }
+{
+    match stage {
+        Stage::UpstreamPackets => true,
+        Stage::DownstreamPackets => true,
+        Stage::DownstreamHead => false,
+        Stage::Nothing => false,
+        Stage::Refused(_) => false,
+    }
+}
+
 // What is due after packets with this answer.
-fn stage_after(answer: Answer) -> Stage
-    ensures { λ r. ⌜ r ≡ stageAfter answer ⌝ }
+fn stage_after(stage: Stage, answer: Answer) -> Stage
+    ensures { λ r. ⌜ r ≡ stageAfter stage answer ⌝ }
 {
     match answer {
-        Answer::Done => Stage::Packets,
+        Answer::Done => stage,
         Answer::Refused(refusal, _) => Stage::Refused(refusal),
     }
 }
 
-// The packets of a stream, the second or the first, where they are due.
-pub(crate) fn packets(
-    second: bool,
+// What is due after the end of a stream.
+fn after_end(stage: Stage) -> Stage
+    ensures { λ r. ⌜ r ≡ afterEnd stage ⌝ }
+{
+    match stage {
+        Stage::UpstreamPackets => Stage::DownstreamHead,
+        Stage::DownstreamPackets => Stage::Nothing,
+        Stage::DownstreamHead => stage,
+        Stage::Nothing => stage,
+        Stage::Refused(_) => stage,
+    }
+}
+
+// The packets of the downstream stream, or of the upstream one, where they are due.
+pub(crate) fn packets_stage(
+    downstream: bool,
     p: Params,
     s: State,
     counts: &mut [i32],
@@ -82,21 +121,17 @@ pub(crate) fn packets(
     bytes: &[u8],
 ) -> State
     requires { ⌜ offsetsFit (now bytes) s ≡ true ⌝ }
-    ensures { λ r. ⌜ r ≡ packetsStage second p (now (bytes .entry)) (sketch (now (counts .entry)) (now (idsums .entry))) s ⌝ }
-    ensures { λ r. ⌜ sketch (now (counts .exit)) (now (idsums .exit)) ≡ packetsSketch second p (now (bytes .entry)) (sketch (now (counts .entry)) (now (idsums .entry))) s ⌝ }
+    ensures { λ r. ⌜ r ≡ packetsStage downstream p (now (bytes .entry)) (sketch (now (counts .entry)) (now (idsums .entry))) s ⌝ }
+    ensures { λ r. ⌜ sketch (now (counts .exit)) (now (idsums .exit)) ≡ packetsSketch downstream p (now (bytes .entry)) (sketch (now (counts .entry)) (now (idsums .entry))) s ⌝ }
 {
     let stage = s.stage;
-    let Stage::Packets = stage else {
-        return s;
-    };
-    if s.second != second {
+    if !is_due(downstream, stage) {
         return s;
     }
     let run = take_packets(p, counts, idsums, bytes);
     let answer = run.answer;
     State {
-        stage: stage_after(answer),
-        second: s.second,
+        stage: stage_after(stage, answer),
         at: s.at + PACKETS_LENGTH * run.taken,
         records: s.records + run.taken,
     }
@@ -143,23 +178,23 @@ fn take_end(s: State, bytes: &[u8]) -> State
     if number as usize != s.records {
         return stop(Refusal::Form, s);
     }
+    let stage = s.stage;
     State {
-        stage: if s.second { Stage::Over } else { Stage::Head },
-        second: true,
+        stage: after_end(stage),
         at: s.at + END_LENGTH,
         records: 0,
     }
 }
 
 // The end of a stream, where packets are due.
-pub(crate) fn end(s: State, bytes: &[u8]) -> State
+pub(crate) fn end_stage(s: State, bytes: &[u8]) -> State
     requires { ⌜ offsetsFit (now bytes) s ≡ true ⌝ }
     ensures { λ r. ⌜ r ≡ endStage (now (bytes .entry)) s ⌝ }
 {
     let stage = s.stage;
-    let Stage::Packets = stage else {
+    if !packets_due(stage) {
         return s;
-    };
+    }
     let d = due_end(bytes);
     match d {
         Due::NotYet => s,
@@ -176,8 +211,7 @@ fn take_head(p: Params, s: State, bytes: &[u8]) -> State
     let r = judge_second(p, bytes);
     match r {
         Answer::Done => State {
-            stage: Stage::Packets,
-            second: true,
+            stage: Stage::DownstreamPackets,
             at: s.at + HEAD_LENGTH,
             records: 0,
         },
@@ -186,12 +220,12 @@ fn take_head(p: Params, s: State, bytes: &[u8]) -> State
 }
 
 // The second head, where it is due.
-pub(crate) fn second_head(p: Params, s: State, bytes: &[u8]) -> State
+pub(crate) fn head_stage(p: Params, s: State, bytes: &[u8]) -> State
     requires { ⌜ offsetsFit (now bytes) s ≡ true ⌝ }
     ensures { λ r. ⌜ r ≡ headStage p (now (bytes .entry)) s ⌝ }
 {
     let stage = s.stage;
-    let Stage::Head = stage else {
+    let Stage::DownstreamHead = stage else {
         return s;
     };
     let d = due_of(HEAD, bytes);
@@ -203,11 +237,11 @@ pub(crate) fn second_head(p: Params, s: State, bytes: &[u8]) -> State
 }
 
 // Nothing more is due.
-pub(crate) fn over(s: State, bytes: &[u8]) -> State
-    ensures { λ r. ⌜ r ≡ overStage (now (bytes .entry)) s ⌝ }
+pub(crate) fn nothing_stage(s: State, bytes: &[u8]) -> State
+    ensures { λ r. ⌜ r ≡ nothingStage (now (bytes .entry)) s ⌝ }
 {
     let stage = s.stage;
-    let Stage::Over = stage else {
+    let Stage::Nothing = stage else {
         return s;
     };
     if 0 < bytes.len() {

@@ -8,19 +8,20 @@ use files::records::HEAD_LENGTH;
 use params::Answer;
 use params::Refusal;
 
-// What is due next: packets or the end of a stream, the second head, or nothing more; or the refusal of the input.
+// What is due next: packets or the end of the upstream stream, the downstream one's head, its packets or end, or nothing more; or
+// the refusal of the input.
 pub enum Stage {
-    Packets,
-    Head,
-    Over,
+    UpstreamPackets,
+    DownstreamHead,
+    DownstreamPackets,
+    Nothing,
     Refused(Refusal),
 }
 
-// What is due, whether that is in the second stream, the offset of the next byte in the whole input, and how many records stood
-// since the head. The offset is that of the record at fault where the input is refused.
+// What is due, the offset of the next byte in the whole input, and how many records stood since the head. The offset is that of
+// the record at fault where the input is refused.
 pub struct State {
     pub stage: Stage,
-    pub second: bool,
     pub at: usize,
     pub records: usize,
 }
@@ -36,8 +37,7 @@ pub fn start() -> State
     ensures { λ r. ⌜ r ≡ started ⌝ }
 {
     State {
-        stage: Stage::Packets,
-        second: false,
+        stage: Stage::UpstreamPackets,
         at: HEAD_LENGTH,
         records: 0,
     }
@@ -49,7 +49,6 @@ pub(crate) fn stop(refusal: Refusal, s: State) -> State
 {
     State {
         stage: Stage::Refused(refusal),
-        second: s.second,
         at: s.at,
         records: s.records,
     }
@@ -71,9 +70,10 @@ pub fn finish(s: State) -> Answer
 {
     let stage = s.stage;
     match stage {
-        Stage::Over => Answer::Done,
+        Stage::Nothing => Answer::Done,
         Stage::Refused(refusal) => Answer::Refused(refusal, s.at),
-        Stage::Packets => Answer::Refused(Refusal::Form, s.at),
-        Stage::Head => Answer::Refused(Refusal::Form, s.at),
+        Stage::UpstreamPackets => Answer::Refused(Refusal::Form, s.at),
+        Stage::DownstreamHead => Answer::Refused(Refusal::Form, s.at),
+        Stage::DownstreamPackets => Answer::Refused(Refusal::Form, s.at),
     }
 }

@@ -1,10 +1,10 @@
--- `desk::stages::second_head` meets its contract.
+-- `desk::stages::head_stage` meets its contract.
 use mathlib.Core.Path.{refl, sym, _∙_}
 use Rattle.desk.specs.Desk.{headStage}
 use Rattle.desk.proofs.WhatIsDue.{not-head, here-whole, head-decides}
 use borrow.Author.Needs.{needs}
-use Rattle.desk.proofs.stages.second_head.Statement.{statement}
-use Rattle.desk.proofs.stages.second_head.Tie as tie
+use Rattle.desk.proofs.stages.head_stage.Statement.{statement}
+use Rattle.desk.proofs.stages.head_stage.Tie as tie
 use Rattle.files.specs.Records.{headKind}
 
 enum-told : tie.Need-enum-told
@@ -41,8 +41,8 @@ returns-3 c = head-decides _ _ _ _ _ (c .before .before .before .before .enum-to
 returns-4 : tie.Need-returns-4
 returns-4 c = head-decides _ _ _ _ _ (c .before .before .before .before .enum-told .given .1) (sym (c .before .enum-told4 .given .1) ∙ c .before .before .before .due-of .ensures) (c .take-head .ensures)
 
-pub second-head-spec : {M : Type 1} → statement M
-second-head-spec =
+pub head-stage-spec : {M : Type 1} → statement M
+head-stage-spec =
     tie.close
     (tie.spec
     enum-told
