@@ -26,11 +26,11 @@ use Rattle.streamfile.specs.Streams.{StreamRead}
 use Rattle.desk.specs.declared.states.Stage.{Stage}
 use Rattle.desk.specs.declared.states.Stage.the-variants.{UpstreamPackets, DownstreamHead, DownstreamPackets, Nothing, Refused as Stopped}
 use Rattle.desk.specs.declared.states.Fed.{Fed}
-use Rattle.desk.specs.Desk.{nothingDue, fewEnough, beginAnswer, beginOf, started, afterTaken, secondAnswer, packetsSketch, offsetsFit, Feeds, finishAnswer}
+use Rattle.desk.specs.Desk.{nothingDue, fewEnough, beginAnswer, beginOf, started, afterTaken, downstreamHeadAnswer, packetsSketch, offsetsFit, Feeds, finishAnswer}
 use Rattle.desk.proofs.InTheRest.{whole-at, word-at}
 use Rattle.desk.proofs.Taking.{all-taken}
 use Rattle.desk.proofs.SameBytes.{fed-is-read}
-use Rattle.desk.proofs.BothStreams.{firstNumber, secondFile, secondBody, secondNumber, Passed, passed}
+use Rattle.desk.proofs.BothStreams.{upstreamNumber, downstreamFile, downstreamBody, downstreamNumber, Passed, passed}
 
 -- the parameters in a first part of the input that holds the head
 module _ (xs : List ℕ) (e : ℕ) (long : headLength ≤ e) where
@@ -61,8 +61,8 @@ module _ (xs : List ℕ) (e : ℕ) (long : headLength ≤ e) where
 pub record TwoStreams (P : Params) (input : List ℕ) (up down : Sketch) : Type 0 where
   pub split : ℕ
   pub within : split ≤ length input
-  pub first-read : StreamRead P (take split input) (zeros P) Done up
-  pub second-read : StreamRead P (drop split input) (zeros P) Done down
+  pub upstream-read : StreamRead P (take split input) (zeros P) Done up
+  pub downstream-read : StreamRead P (drop split input) (zeros P) Done down
 
 -- the first head is one of a file, and gives the parameters
 record Begun (P : Params) (input : List ℕ) : Type 0 where
@@ -86,16 +86,16 @@ module _ (P : Params) (input : List ℕ) (b : Begun P input) (p : Passed P (drop
   xs = drop headLength input
 
   abbrev n : ℕ
-  n = firstNumber P xs (zeros P) (zeros P)
+  n = upstreamNumber P xs (zeros P) (zeros P)
 
   abbrev file : List ℕ
-  file = secondFile P xs (zeros P) (zeros P)
+  file = downstreamFile P xs (zeros P) (zeros P)
 
   abbrev body : List ℕ
-  body = secondBody P xs (zeros P) (zeros P)
+  body = downstreamBody P xs (zeros P) (zeros P)
 
   abbrev m : ℕ
-  m = secondNumber P xs (zeros P) (zeros P)
+  m = downstreamNumber P xs (zeros P) (zeros P)
 
   good-params : goodParams P ≡ true
   good-params = rw (b .params) (b .good)
@@ -126,7 +126,7 @@ module _ (P : Params) (input : List ℕ) (b : Begun P input) (p : Passed P (drop
       omega (arith, w, length-drop (packetsLength * m) body, length-drop headLength file, p .nothing-more, length-drop (packetsLength * m + endLength) body)
 
   second-file : StreamRead P file (zeros P) Done (afterTaken P body (zeros P))
-  unfolding secondAnswer
+  unfolding downstreamHeadAnswer
   second-file =
       let h = refuse-done (not (goodParams (paramsIn file) && fewEnough (paramsIn file))) Param 0 _ (p .second-same) in
       let k = refuse-done (not (sameParams P (paramsIn file))) Mismatch 0 Done (h .1) in
@@ -139,8 +139,8 @@ module _ (P : Params) (input : List ℕ) (b : Begun P input) (p : Passed P (drop
       record {
         split = headLength + (packetsLength * n + endLength);
         within = split-within;
-        first-read = first-file;
-        second-read = rw (← drop-drop (packetsLength * n + endLength) headLength input) second-file;
+        upstream-read = first-file;
+        downstream-read = rw (← drop-drop (packetsLength * n + endLength) headLength input) second-file;
       }
 
 -- the end of the input finds that nothing more was due

@@ -25,12 +25,12 @@ use Rattle.streamfile.proofs.Accepting.{stream-done}
 use Rattle.desk.specs.declared.states.Stage.the-variants.{UpstreamPackets, DownstreamHead, DownstreamPackets, Nothing}
 use Rattle.desk.specs.declared.states.State.{State}
 use Rattle.desk.specs.declared.states.Fed.{Fed}
-use Rattle.desk.specs.Desk.{mostBuckets, fewEnough, beginAnswer, beginOf, started, stageAfter, taken, takenAnswer, afterTaken, isDue, packetsDue, packetsState, dueOf, dueEnd, endedState, secondAnswer, headedState, packetsStage, packetsSketch, endStage, headStage, nothingStage, rest, offsetsFit, firstPackets, firstEnd, secondHead, secondPackets, secondEnd, fedState, Feeds, finishAnswer}
+use Rattle.desk.specs.Desk.{mostBuckets, fewEnough, beginAnswer, beginOf, started, stageAfter, taken, takenAnswer, afterTaken, isDue, packetsDue, packetsState, dueOf, dueEnd, endedState, downstreamHeadAnswer, headedState, packetsStage, packetsSketch, endStage, headStage, nothingStage, rest, offsetsFit, upstreamTaken, upstreamEnded, downstreamHeaded, downstreamTaken, downstreamEnded, fedState, Feeds, finishAnswer}
 use Rattle.desk.proofs.Whole.{whole-record}
 use Rattle.desk.proofs.FirstHead.{begin-settled}
 use Rattle.desk.proofs.InTheRest.{word-at, whole-left}
 use Rattle.desk.proofs.SameBytes.{end-said-done, end-back, said-back, all-back, sketch-back}
-use Rattle.desk.proofs.BothStreams.{firstNumber, secondFile, secondBody, secondNumber, Passed}
+use Rattle.desk.proofs.BothStreams.{upstreamNumber, downstreamFile, downstreamBody, downstreamNumber, Passed}
 
 -- each stage, where what is due stands there
 packets-pass : (downstream : Bool) (P : Params) (bs : List ℕ) (S : Sketch) (s : State) → isDue downstream (s .stage) ≡ true → takenAnswer P bs S ≡ Done
@@ -44,7 +44,7 @@ end-passes bs s due whole said =
     let w = whole-record bs 0 endKind whole in
     rw (due, lt-leb (length bs) 0 (omega (arith, w .1)), ne-eqb (getD bs 0 0) packetsKind (λ e. omega (arith, w .0)), whole, eq-eqb (word bs recordsField) (s .records) said)
 
-head-passes : (P : Params) (bs : List ℕ) (s : State) → s .stage ≡ DownstreamHead → isKind headKind (recordAt bs 0) ≡ true → secondAnswer P (paramsIn bs) ≡ Done → headStage P bs s ≡ headedState s
+head-passes : (P : Params) (bs : List ℕ) (s : State) → s .stage ≡ DownstreamHead → isKind headKind (recordAt bs 0) ≡ true → downstreamHeadAnswer P (paramsIn bs) ≡ Done → headStage P bs s ≡ headedState s
 unfolding headStage dueOf
 head-passes P bs s due whole same = let w = whole-record bs 0 headKind whole in rw (due, lt-leb (length bs) 0 (omega (arith, w .1)), whole, same)
 
@@ -55,10 +55,10 @@ nothing-passes bs s due none = rw (due, le-leb (length bs) 0 (omega arith))
 -- all of them, one after the other: up and down are what is in the two sketches before
 module _ (P : Params) (bs : List ℕ) (up down : Sketch) (p : Passed P bs up down) where
   abbrev n : ℕ
-  n = firstNumber P bs up down
+  n = upstreamNumber P bs up down
 
   abbrev m : ℕ
-  m = secondNumber P bs up down
+  m = downstreamNumber P bs up down
 
   abbrev after-packets : State
   after-packets = record { stage = UpstreamPackets; at = headLength + packetsLength * n; records = 0 + n }
@@ -75,56 +75,56 @@ module _ (P : Params) (bs : List ℕ) (up down : Sketch) (p : Passed P bs up dow
   abbrev after-all : State
   after-all = endedState after-second
 
-  at-packets : firstPackets P bs up down started ≡ after-packets
+  at-packets : upstreamTaken P bs up down started ≡ after-packets
   at-packets = packets-pass false P bs up started refl (p .first-done)
 
   -- what is left of the bytes at each
   left : (t : State) (k : ℕ) → t .at ≡ headLength + k → rest started t bs ≡ drop k bs
   left t k e = ap (λ (i : ℕ). drop i bs) {x = t .at - headLength} {y = k} (omega arith)
 
-  at-end : firstEnd P bs up down started ≡ after-end
+  at-end : upstreamEnded P bs up down started ≡ after-end
   at-end =
       ap (λ t. endStage (rest started t bs) t) at-packets
       ∙ ap (λ xs. endStage xs after-packets) (left after-packets (packetsLength * n) refl)
       ∙ end-passes (drop (packetsLength * n) bs) after-packets refl (p .first-end) (p .first-said ∙ omega arith)
 
-  at-head : secondHead P bs up down started ≡ after-head
+  at-head : downstreamHeaded P bs up down started ≡ after-head
   at-head =
       ap (λ t. headStage P (rest started t bs) t) at-end
       ∙ ap (λ xs. headStage P xs after-end) (left after-end (packetsLength * n + endLength) (omega arith))
-      ∙ head-passes P (secondFile P bs up down) after-end refl (p .second-head) (p .second-same)
+      ∙ head-passes P (downstreamFile P bs up down) after-end refl (p .second-head) (p .second-same)
 
-  body-left : rest started after-head bs ≡ secondBody P bs up down
+  body-left : rest started after-head bs ≡ downstreamBody P bs up down
   body-left = left after-head (packetsLength * n + endLength + headLength) (omega arith) ∙ sym (drop-drop headLength (packetsLength * n + endLength) bs)
 
-  into-body : (t : State) (k : ℕ) → t .at ≡ after-head .at + k → rest started t bs ≡ drop k (secondBody P bs up down)
+  into-body : (t : State) (k : ℕ) → t .at ≡ after-head .at + k → rest started t bs ≡ drop k (downstreamBody P bs up down)
   into-body t k e =
       left t (packetsLength * n + endLength + headLength + k) (omega arith) ∙ sym (drop-drop k (packetsLength * n + endLength + headLength) bs) ∙ ap (drop k) (sym (drop-drop headLength (packetsLength * n + endLength) bs))
 
-  at-second : secondPackets P bs up down started ≡ after-second
+  at-second : downstreamTaken P bs up down started ≡ after-second
   at-second =
       ap (λ t. packetsStage true P (rest started t bs) down t) at-head
       ∙ ap (λ xs. packetsStage true P xs down after-head) body-left
-      ∙ packets-pass true P (secondBody P bs up down) down after-head refl (p .second-done)
+      ∙ packets-pass true P (downstreamBody P bs up down) down after-head refl (p .second-done)
 
-  at-all : secondEnd P bs up down started ≡ after-all
+  at-all : downstreamEnded P bs up down started ≡ after-all
   at-all =
       ap (λ t. endStage (rest started t bs) t) at-second
       ∙ ap (λ xs. endStage xs after-second) (into-body after-second (packetsLength * m) refl)
-      ∙ end-passes (drop (packetsLength * m) (secondBody P bs up down)) after-second refl (p .second-end) (p .second-said ∙ omega arith)
+      ∙ end-passes (drop (packetsLength * m) (downstreamBody P bs up down)) after-second refl (p .second-end) (p .second-said ∙ omega arith)
 
   pub passes : fedState P bs up down started ≡ after-all
   passes =
       ap (λ t. nothingStage (rest started t bs) t) at-all
       ∙ ap (λ xs. nothingStage xs after-all) (into-body after-all (packetsLength * m + endLength) (omega arith))
-      ∙ nothing-passes (drop (packetsLength * m + endLength) (secondBody P bs up down)) after-all refl (p .nothing-more)
+      ∙ nothing-passes (drop (packetsLength * m + endLength) (downstreamBody P bs up down)) after-all refl (p .nothing-more)
 
   -- and what is then in the two sketches
   pub first-sketch : packetsSketch false P bs up started ≡ afterTaken P bs up
   unfolding packetsSketch
   first-sketch = refl
 
-  pub second-sketch : packetsSketch true P (rest started (secondHead P bs up down started) bs) down (secondHead P bs up down started) ≡ afterTaken P (secondBody P bs up down) down
+  pub second-sketch : packetsSketch true P (rest started (downstreamHeaded P bs up down started) bs) down (downstreamHeaded P bs up down started) ≡ afterTaken P (downstreamBody P bs up down) down
   unfolding packetsSketch
   second-sketch = rw (at-head, body-left)
 
@@ -162,20 +162,20 @@ module _ {P : Params} {a b : List ℕ} {S T : Sketch} (one : StreamRead P a (zer
   second-back : (taken P (drop headLength b) (zeros P) ≡ packetsIn b) × (takenAnswer P (drop headLength b) (zeros P) ≡ Done)
   second-back = all-back P b (drop headLength b) (packetsIn b) (file-long two) second-room second-same two refl
 
-  file-is : secondFile P bytes (zeros P) (zeros P) ≡ b
+  file-is : downstreamFile P bytes (zeros P) (zeros P) ≡ b
   file-is =
       ap (λ (k : ℕ). drop (packetsLength * k + endLength) bytes) (first-back .0)
       ∙ drop-drop (packetsLength * packetsIn a + endLength) headLength (a ++ b)
       ∙ drop-at a b (headLength + (packetsLength * packetsIn a + endLength)) (file-long one)
 
-  body-is : secondBody P bytes (zeros P) (zeros P) ≡ drop headLength b
+  body-is : downstreamBody P bytes (zeros P) (zeros P) ≡ drop headLength b
   body-is = ap (drop headLength) file-is
 
-  number-is-second : secondNumber P bytes (zeros P) (zeros P) ≡ packetsIn b
+  number-is-second : downstreamNumber P bytes (zeros P) (zeros P) ≡ packetsIn b
   number-is-second = ap (λ xs. taken P xs (zeros P)) body-is ∙ second-back .0
 
-  answer-same : secondAnswer P (paramsIn b) ≡ Done
-  unfolding secondAnswer fewEnough
+  answer-same : downstreamHeadAnswer P (paramsIn b) ≡ Done
+  unfolding downstreamHeadAnswer fewEnough
   answer-same =
       let same = file-opened two .same in
       let small : leb (size (paramsIn b)) mostBuckets ≡ true = ap (λ (k : ℕ). leb k mostBuckets) (sym (size-same P (paramsIn b) same)) ∙ few in

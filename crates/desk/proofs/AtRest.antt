@@ -27,7 +27,7 @@ use Rattle.desk.specs.declared.states.Stage.the-variants.{UpstreamPacket
 use Rattle.desk.specs.declared.states.State.{State}
 use Rattle.desk.specs.declared.stages.Due.{Due}
 use Rattle.desk.specs.declared.stages.Due.the-variants.{Here, NotYet, Other}
-use Rattle.desk.specs.Desk.{isDue, packetsDue, headDue, nothingDue, afterEnd, stopped, endState, secondAnswer, answered, headState, stageAfter, taken, packetsState, dueOf, dueEnd, endedState, headedState, packetsStage, endStage, headStage, nothingStage, rest, firstPackets, firstEnd, secondHead, secondPackets, secondEnd, fedState}
+use Rattle.desk.specs.Desk.{isDue, packetsDue, headDue, nothingDue, afterEnd, stopped, endState, downstreamHeadAnswer, answered, headState, stageAfter, taken, packetsState, dueOf, dueEnd, endedState, headedState, packetsStage, endStage, headStage, nothingStage, rest, upstreamTaken, upstreamEnded, downstreamHeaded, downstreamTaken, downstreamEnded, fedState}
 use Rattle.desk.proofs.InTheRest.{whole-at}
 use Rattle.desk.proofs.Taking.{all-taken}
 use Rattle.desk.proofs.Onward.{Onward, packets-onward, end-onward, head-onward, onward-then}
@@ -111,7 +111,7 @@ head-still P bs s = at (headDue (s .stage)) refl (dueOf headKind bs)
     at false q d p = absurd (true≢false (sym (ap headDue p) ∙ q))
     at true q NotYet p = (refl, refl)
     at true q Other p = absurd (true≢false (sym (ap headDue p)))
-    at true q Here p = absurd (true≢false (sym (ap headDue p) ∙ judged (secondAnswer P (paramsIn bs))))
+    at true q Here p = absurd (true≢false (sym (ap headDue p) ∙ judged (downstreamHeadAnswer P (paramsIn bs))))
 
 nothing-still : (bs : List ℕ) (s : State) → live (nothingStage bs s .stage) ≡ true → nothingStage bs s ≡ s
 unfolding nothingStage
@@ -202,19 +202,19 @@ module _ (P : Params) (S : Sketch) (bs : List ℕ) (s a b c d e f : State)
 -- so the state that feeding comes to waits; the states after each stage are named as in the code
 module _ (P : Params) (bs : List ℕ) (up down : Sketch) (s : State) where
   abbrev a : State
-  a = firstPackets P bs up down s
+  a = upstreamTaken P bs up down s
 
   abbrev b : State
-  b = firstEnd P bs up down s
+  b = upstreamEnded P bs up down s
 
   abbrev c : State
-  c = secondHead P bs up down s
+  c = downstreamHeaded P bs up down s
 
   abbrev d : State
-  d = secondPackets P bs up down s
+  d = downstreamTaken P bs up down s
 
   abbrev e : State
-  e = secondEnd P bs up down s
+  e = downstreamEnded P bs up down s
 
   to-a : Onward bs s a
   to-a = packets-onward false P bs up s

@@ -22,7 +22,7 @@ use Rattle.desk.specs.declared.states.Stage.the-variants.{UpstreamPacket
 use Rattle.desk.specs.declared.states.State.{State}
 use Rattle.desk.specs.declared.stages.Due.{Due}
 use Rattle.desk.specs.declared.stages.Due.the-variants.{Here, NotYet, Other}
-use Rattle.desk.specs.Desk.{packetsDue, headDue, nothingDue, stopped, stageAfter, takenAnswer, isDue, packetsState, dueOf, dueEnd, endedState, endState, secondAnswer, headedState, answered, headState, packetsStage, endStage, headStage, nothingStage}
+use Rattle.desk.specs.Desk.{packetsDue, headDue, nothingDue, stopped, stageAfter, takenAnswer, isDue, packetsState, dueOf, dueEnd, endedState, endState, downstreamHeadAnswer, headedState, answered, headState, packetsStage, endStage, headStage, nothingStage}
 use Rattle.desk.proofs.WhatIsDue.{here-whole, end-whole}
 
 -- the input is not refused
@@ -114,14 +114,14 @@ end-back bs s = at (packetsDue (s .stage)) refl (dueEnd bs) refl
 pub record HeadedBy (P : Params) (bs : List ℕ) (s t : State) : Type 0 where
   pub due : s .stage ≡ DownstreamHead
   pub whole : isKind headKind (recordAt bs 0) ≡ true
-  pub same : secondAnswer P (paramsIn bs) ≡ Done
+  pub same : downstreamHeadAnswer P (paramsIn bs) ≡ Done
   pub next : t ≡ headedState s
 
 pub head-back : (P : Params) (bs : List ℕ) (s : State) → live (headStage P bs s .stage) ≡ true → (headStage P bs s ≡ s) ⊎ HeadedBy P bs s (headStage P bs s)
 unfolding headStage
 head-back P bs s = at (headDue (s .stage)) refl (dueOf headKind bs) refl
   where
-    judged : (r : Answer) → secondAnswer P (paramsIn bs) ≡ r → s .stage ≡ DownstreamHead → isKind headKind (recordAt bs 0) ≡ true → live (answered r s (headedState s) .stage) ≡ true
+    judged : (r : Answer) → downstreamHeadAnswer P (paramsIn bs) ≡ r → s .stage ≡ DownstreamHead → isKind headKind (recordAt bs 0) ≡ true → live (answered r s (headedState s) .stage) ≡ true
         → (answered r s (headedState s) ≡ s) ⊎ HeadedBy P bs s (answered r s (headedState s))
     judged Done q p w e = inr record { due = p; whole = w; same = q; next = refl }
     judged (Refused v k) q p w e = absurd (true≢false (sym e))
@@ -131,7 +131,7 @@ head-back P bs s = at (headDue (s .stage)) refl (dueOf headKind bs) refl
     at false p d q e = inl refl
     at true p NotYet q e = inl refl
     at true p Other q e = absurd (true≢false (sym e))
-    at true p Here q e = judged (secondAnswer P (paramsIn bs)) refl (head-stage _ p) (here-whole headKind bs q) e
+    at true p Here q e = judged (downstreamHeadAnswer P (paramsIn bs)) refl (head-stage _ p) (here-whole headKind bs q) e
 
 -- nothing more was due, and no byte stood there
 pub nothing-back : (bs : List ℕ) (s : State) → nothingStage bs s .stage ≡ Nothing → (nothingStage bs s ≡ s) × (length bs ≡ 0)

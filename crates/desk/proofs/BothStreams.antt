@@ -17,7 +17,7 @@ use Rattle.files.specs.Fields.{recordsField}
 use Rattle.desk.specs.declared.states.Stage.{Stage}
 use Rattle.desk.specs.declared.states.Stage.the-variants.{UpstreamPackets, DownstreamHead, DownstreamPackets, Nothing, Refused as Stopped}
 use Rattle.desk.specs.declared.states.State.{State}
-use Rattle.desk.specs.Desk.{isDue, packetsDue, nothingDue, afterEnd, started, stageAfter, taken, takenAnswer, afterTaken, packetsState, secondAnswer, packetsSketch, rest, firstPackets, secondHead, secondEnd, fedState}
+use Rattle.desk.specs.Desk.{isDue, packetsDue, nothingDue, afterEnd, started, stageAfter, taken, takenAnswer, afterTaken, packetsState, downstreamHeadAnswer, packetsSketch, rest, upstreamTaken, downstreamHeaded, downstreamEnded, fedState}
 use Rattle.desk.proofs.Back.{live, downstream-stage, packets-live, due-live, TakenBy, packets-back, EndedBy, end-back, HeadedBy, head-back, nothing-back}
 
 -- one stage after the other, from a, where upstream packets are due, to e, where nothing more is
@@ -97,28 +97,28 @@ module _ {P : Params} {S : Sketch} {ws xs ys zs : List ℕ} {a b c d e : State}
 
 -- what stands in the bytes after the first head: n packets and an end, a head, m packets and an end
 module _ (P : Params) (bs : List ℕ) (up down : Sketch) where
-  abbrev pub firstNumber : ℕ
-  firstNumber = taken P bs up
+  abbrev pub upstreamNumber : ℕ
+  upstreamNumber = taken P bs up
 
-  abbrev pub secondFile : List ℕ
-  secondFile = drop (packetsLength * firstNumber + endLength) bs
+  abbrev pub downstreamFile : List ℕ
+  downstreamFile = drop (packetsLength * upstreamNumber + endLength) bs
 
-  abbrev pub secondBody : List ℕ
-  secondBody = drop headLength secondFile
+  abbrev pub downstreamBody : List ℕ
+  downstreamBody = drop headLength downstreamFile
 
-  abbrev pub secondNumber : ℕ
-  secondNumber = taken P secondBody down
+  abbrev pub downstreamNumber : ℕ
+  downstreamNumber = taken P downstreamBody down
 
   pub record Passed : Type 0 where
     pub first-done : takenAnswer P bs up ≡ Done
-    pub first-end : isKind endKind (recordAt (drop (packetsLength * firstNumber) bs) 0) ≡ true
-    pub first-said : word (drop (packetsLength * firstNumber) bs) recordsField ≡ firstNumber
-    pub second-head : isKind headKind (recordAt secondFile 0) ≡ true
-    pub second-same : secondAnswer P (paramsIn secondFile) ≡ Done
-    pub second-done : takenAnswer P secondBody down ≡ Done
-    pub second-end : isKind endKind (recordAt (drop (packetsLength * secondNumber) secondBody) 0) ≡ true
-    pub second-said : word (drop (packetsLength * secondNumber) secondBody) recordsField ≡ secondNumber
-    pub nothing-more : length (drop (packetsLength * secondNumber + endLength) secondBody) ≡ 0
+    pub first-end : isKind endKind (recordAt (drop (packetsLength * upstreamNumber) bs) 0) ≡ true
+    pub first-said : word (drop (packetsLength * upstreamNumber) bs) recordsField ≡ upstreamNumber
+    pub second-head : isKind headKind (recordAt downstreamFile 0) ≡ true
+    pub second-same : downstreamHeadAnswer P (paramsIn downstreamFile) ≡ Done
+    pub second-done : takenAnswer P downstreamBody down ≡ Done
+    pub second-end : isKind endKind (recordAt (drop (packetsLength * downstreamNumber) downstreamBody) 0) ≡ true
+    pub second-said : word (drop (packetsLength * downstreamNumber) downstreamBody) recordsField ≡ downstreamNumber
+    pub nothing-more : length (drop (packetsLength * downstreamNumber + endLength) downstreamBody) ≡ 0
 
   -- the bytes that are left at an offset
   left-at : (t : State) (k : ℕ) → t .at ≡ headLength + k → rest started t bs ≡ drop k bs
@@ -126,38 +126,38 @@ module _ (P : Params) (bs : List ℕ) (up down : Sketch) where
 
   module _ {a b c d e : State} (ta : TakenBy false P bs up started a) (tb : EndedBy (rest started a bs) a b) (tc : HeadedBy P (rest started b bs) b c)
       (td : TakenBy true P (rest started c bs) down c d) (te : EndedBy (rest started d bs) d e) (none : length (rest started e bs) ≡ 0) where
-    a-left : rest started a bs ≡ drop (packetsLength * firstNumber) bs
+    a-left : rest started a bs ≡ drop (packetsLength * upstreamNumber) bs
     unfolding packetsState
-    a-left = left-at a (packetsLength * firstNumber) (ap (λ s. s .at) (ta .next))
+    a-left = left-at a (packetsLength * upstreamNumber) (ap (λ s. s .at) (ta .next))
 
-    b-left : rest started b bs ≡ secondFile
+    b-left : rest started b bs ≡ downstreamFile
     unfolding packetsState
-    b-left = left-at b (packetsLength * firstNumber + endLength) (ap (λ s. s .at) (tb .next) ∙ ap (λ s. s .at + endLength) (ta .next) ∙ omega arith)
+    b-left = left-at b (packetsLength * upstreamNumber + endLength) (ap (λ s. s .at) (tb .next) ∙ ap (λ s. s .at + endLength) (ta .next) ∙ omega arith)
 
-    c-at : c .at ≡ headLength + (packetsLength * firstNumber + endLength + headLength)
+    c-at : c .at ≡ headLength + (packetsLength * upstreamNumber + endLength + headLength)
     unfolding packetsState
     c-at = ap (λ s. s .at) (tc .next) ∙ ap (λ s. s .at + headLength) (tb .next) ∙ ap (λ s. s .at + endLength + headLength) (ta .next) ∙ omega arith
 
-    c-left : rest started c bs ≡ secondBody
-    c-left = left-at c (packetsLength * firstNumber + endLength + headLength) c-at ∙ sym (drop-drop headLength (packetsLength * firstNumber + endLength) bs)
+    c-left : rest started c bs ≡ downstreamBody
+    c-left = left-at c (packetsLength * upstreamNumber + endLength + headLength) c-at ∙ sym (drop-drop headLength (packetsLength * upstreamNumber + endLength) bs)
 
     -- k bytes into the second body
-    into : (t : State) (k : ℕ) → t .at ≡ c .at + k → rest started t bs ≡ drop k secondBody
+    into : (t : State) (k : ℕ) → t .at ≡ c .at + k → rest started t bs ≡ drop k downstreamBody
     into t k q =
-        left-at t (packetsLength * firstNumber + endLength + headLength + k) (omega (arith, c-at))
-        ∙ sym (drop-drop k (packetsLength * firstNumber + endLength + headLength) bs)
-        ∙ ap (drop k) (sym (drop-drop headLength (packetsLength * firstNumber + endLength) bs))
+        left-at t (packetsLength * upstreamNumber + endLength + headLength + k) (omega (arith, c-at))
+        ∙ sym (drop-drop k (packetsLength * upstreamNumber + endLength + headLength) bs)
+        ∙ ap (drop k) (sym (drop-drop headLength (packetsLength * upstreamNumber + endLength) bs))
 
-    d-next : d ≡ packetsState P secondBody down c
+    d-next : d ≡ packetsState P downstreamBody down c
     d-next = td .next ∙ ap (λ xs. packetsState P xs down c) c-left
 
-    d-left : rest started d bs ≡ drop (packetsLength * secondNumber) secondBody
+    d-left : rest started d bs ≡ drop (packetsLength * downstreamNumber) downstreamBody
     unfolding packetsState
-    d-left = into d (packetsLength * secondNumber) (ap (λ s. s .at) d-next)
+    d-left = into d (packetsLength * downstreamNumber) (ap (λ s. s .at) d-next)
 
-    e-left : rest started e bs ≡ drop (packetsLength * secondNumber + endLength) secondBody
+    e-left : rest started e bs ≡ drop (packetsLength * downstreamNumber + endLength) downstreamBody
     unfolding packetsState
-    e-left = into e (packetsLength * secondNumber + endLength) (ap (λ s. s .at) (te .next) ∙ ap (λ s. s .at + endLength) d-next ∙ omega arith)
+    e-left = into e (packetsLength * downstreamNumber + endLength) (ap (λ s. s .at) (te .next) ∙ ap (λ s. s .at + endLength) d-next ∙ omega arith)
 
     found : Passed
     unfolding packetsState
@@ -170,27 +170,27 @@ module _ (P : Params) (bs : List ℕ) (up down : Sketch) where
           second-same = rw b-left at (tc .same);
           second-done = rw c-left at (td .done);
           second-end = rw d-left at (te .whole);
-          second-said = rw d-left at (te .said) ∙ ap (λ s. s .records) d-next ∙ ap (λ s. s .records + secondNumber) (tc .next) ∙ omega arith;
+          second-said = rw d-left at (te .said) ∙ ap (λ s. s .records) d-next ∙ ap (λ s. s .records + downstreamNumber) (tc .next) ∙ omega arith;
           nothing-more = rw e-left at none;
         }
 
     -- and what the downstream packets left
-    second-left : packetsSketch true P (rest started c bs) down c ≡ afterTaken P secondBody down
+    second-left : packetsSketch true P (rest started c bs) down c ≡ afterTaken P downstreamBody down
     unfolding packetsSketch
     second-left = rw (td .due, c-left)
 
-  first-taken : live (firstPackets P bs up down started .stage) ≡ true → TakenBy false P bs up started (firstPackets P bs up down started)
+  first-taken : live (upstreamTaken P bs up down started .stage) ≡ true → TakenBy false P bs up started (upstreamTaken P bs up down started)
   first-taken l = ⊎-elim (λ h. absurd (true≢false (h .0))) (λ t. t) (packets-back false P bs up started l)
 
-  at-first-packets : live (firstPackets P bs up down started .stage) ≡ true
-      → firstPackets P bs up down started .stage ≡ UpstreamPackets
+  at-first-packets : live (upstreamTaken P bs up down started .stage) ≡ true
+      → upstreamTaken P bs up down started .stage ≡ UpstreamPackets
   unfolding packetsState stageAfter
   at-first-packets l = let t = first-taken l in ap (λ s. s .stage) (t .next) ∙ ap (stageAfter UpstreamPackets) (t .done)
 
   pub passed : fedState P bs up down started .stage ≡ Nothing
-      → Passed × (packetsSketch true P (rest started (secondHead P bs up down started) bs) down (secondHead P bs up down started) ≡ afterTaken P secondBody down)
+      → Passed × (packetsSketch true P (rest started (downstreamHeaded P bs up down started) bs) down (downstreamHeaded P bs up down started) ≡ afterTaken P downstreamBody down)
   passed nothing =
-      let last = nothing-back (rest started (secondEnd P bs up down started) bs) (secondEnd P bs up down started) nothing in
+      let last = nothing-back (rest started (downstreamEnded P bs up down started) bs) (downstreamEnded P bs up down started) nothing in
       let all = all-passed at-first-packets (end-back _ _) (head-back P _ _) (packets-back true P _ down _) (end-back _ _) (ap (λ s. s .stage) (sym (last .0)) ∙ nothing) in
-      let first = first-taken (packets-live (firstPackets P bs up down started .stage) (all .0 .due)) in
+      let first = first-taken (packets-live (upstreamTaken P bs up down started .stage) (all .0 .due)) in
       (found first (all .0) (all .1) (all .2) (all .3) (last .1), second-left first (all .0) (all .1) (all .2) (all .3) (last .1))

@@ -20,7 +20,7 @@ use Rattle.files.proofs.Standing.{kind-ends}
 use Rattle.desk.specs.declared.states.State.{State}
 use Rattle.desk.specs.declared.stages.Due.{Due}
 use Rattle.desk.specs.declared.stages.Due.the-variants.{Here, NotYet, Other}
-use Rattle.desk.specs.Desk.{packetsDue, headDue, nothingDue, isDue, packetsState, dueOf, dueEnd, endState, endedState, stopped, secondAnswer, answered, headState, headedState, packetsStage, packetsSketch, endStage, headStage, nothingStage, rest, offsetsFit}
+use Rattle.desk.specs.Desk.{packetsDue, headDue, nothingDue, isDue, packetsState, dueOf, dueEnd, endState, endedState, stopped, downstreamHeadAnswer, answered, headState, headedState, packetsStage, packetsSketch, endStage, headStage, nothingStage, rest, offsetsFit}
 use Rattle.desk.proofs.Taking.{taken-bytes}
 use Rattle.desk.proofs.WhatIsDue.{here-whole, end-whole}
 use Rattle.desk.proofs.OffsetsFit.{bounded, offsets-fit}
@@ -80,7 +80,7 @@ head-onward P bs s = at (headDue (s .stage)) (dueOf headKind bs) refl
     at false d e = onward-here bs s
     at true NotYet e = onward-here bs s
     at true Other e = omega arith
-    at true Here e = judged (secondAnswer P (paramsIn bs)) (here-whole headKind bs e)
+    at true Here e = judged (downstreamHeadAnswer P (paramsIn bs)) (here-whole headKind bs e)
 
 pub nothing-onward : (bs : List ℕ) (s : State) → Onward bs s (nothingStage bs s)
 unfolding nothingStage

@@ -9,7 +9,7 @@ use Rattle.params.specs.declared.params.Params.{Params}
 use Rattle.sketch.specs.Sketch.{Sketch}
 use Rattle.desk.specs.declared.states.State.{State}
 use Rattle.desk.specs.declared.states.Fed.{Fed}
-use Rattle.desk.specs.Desk.{packetsSketch, rest, offsetsFit, firstPackets, firstEnd, secondHead, secondPackets, secondEnd, fedState, Feeds}
+use Rattle.desk.specs.Desk.{packetsSketch, rest, offsetsFit, upstreamTaken, upstreamEnded, downstreamHeaded, downstreamTaken, downstreamEnded, fedState, Feeds}
 use Rattle.desk.proofs.OffsetsFit.{bounded, offsets-fit}
 use Rattle.desk.proofs.Onward.{Onward, packets-onward, end-onward, head-onward, nothing-onward, onward-then}
 use Rattle.desk.proofs.OneRecord.{Moment, waits}
@@ -24,19 +24,19 @@ moment s up down = record { state = s; up = up; down = down }
 -- feeding comes to its state and its sketches record by record; the states after each stage
 module _ (P : Params) (bs : List ℕ) (up down : Sketch) (s : State) where
   abbrev first-packets : State
-  first-packets = firstPackets P bs up down s
+  first-packets = upstreamTaken P bs up down s
 
   abbrev first-end : State
-  first-end = firstEnd P bs up down s
+  first-end = upstreamEnded P bs up down s
 
   abbrev headed : State
-  headed = secondHead P bs up down s
+  headed = downstreamHeaded P bs up down s
 
   abbrev second-packets : State
-  second-packets = secondPackets P bs up down s
+  second-packets = downstreamTaken P bs up down s
 
   abbrev second-end : State
-  second-end = secondEnd P bs up down s
+  second-end = downstreamEnded P bs up down s
 
   abbrev last : State
   last = fedState P bs up down s

@@ -143,9 +143,9 @@ endState NotYet bs s = s
 endState Other bs s = stopped Form s
 endState Here bs s = cond (eqb (word bs recordsField) (s .records)) (endedState s) (stopped Form s)
 
--- the second head
-unfoldable pub secondAnswer : Params → Params → Answer
-secondAnswer P Q =
+-- the downstream head
+unfoldable pub downstreamHeadAnswer : Params → Params → Answer
+downstreamHeadAnswer P Q =
     refuseIf (not (goodParams Q && fewEnough Q)) Param 0
     (refuseIf (not (sameParams P Q)) Mismatch 0
     Done)
@@ -160,7 +160,7 @@ answered (Refused w k) s next = stopped w s
 abbrev pub headState : Due → Params → List ℕ → State → State
 headState NotYet P bs s = s
 headState Other P bs s = stopped Form s
-headState Here P bs s = answered (secondAnswer P (paramsIn bs)) s (headedState s)
+headState Here P bs s = answered (downstreamHeadAnswer P (paramsIn bs)) s (headedState s)
 
 -- The stages, each where it is due.
 unfoldable pub packetsStage : Bool → Params → List ℕ → Sketch → State → State
@@ -186,32 +186,32 @@ rest s t bs = drop (t .at - s .at) bs
 unfoldable pub offsetsFit : List ℕ → State → Bool
 offsetsFit bs s = ltb (s .at + length bs) 18446744073709551616 && ltb (s .records + length bs) 18446744073709551616
 
--- the upstream's records and its end, the second head, the downstream's records and its end, and nothing more
+-- the upstream's records and its end, the downstream head, the downstream's records and its end, and nothing more
 module _ (P : Params) (bs : List ℕ) (up down : Sketch) (s : State) where
-  abbrev pub firstPackets : State
-  firstPackets = packetsStage false P bs up s
+  abbrev pub upstreamTaken : State
+  upstreamTaken = packetsStage false P bs up s
 
-  abbrev pub firstEnd : State
-  firstEnd = endStage (rest s firstPackets bs) firstPackets
+  abbrev pub upstreamEnded : State
+  upstreamEnded = endStage (rest s upstreamTaken bs) upstreamTaken
 
-  abbrev pub secondHead : State
-  secondHead = headStage P (rest s firstEnd bs) firstEnd
+  abbrev pub downstreamHeaded : State
+  downstreamHeaded = headStage P (rest s upstreamEnded bs) upstreamEnded
 
-  abbrev pub secondPackets : State
-  secondPackets = packetsStage true P (rest s secondHead bs) down secondHead
+  abbrev pub downstreamTaken : State
+  downstreamTaken = packetsStage true P (rest s downstreamHeaded bs) down downstreamHeaded
 
-  abbrev pub secondEnd : State
-  secondEnd = endStage (rest s secondPackets bs) secondPackets
+  abbrev pub downstreamEnded : State
+  downstreamEnded = endStage (rest s downstreamTaken bs) downstreamTaken
 
   abbrev pub fedState : State
-  fedState = nothingStage (rest s secondEnd bs) secondEnd
+  fedState = nothingStage (rest s downstreamEnded bs) downstreamEnded
 
   -- what feeding answers and leaves; a state out of reach takes nothing
   pub record Feeds (r : Fed) (up' down' : Sketch) : Type 0 where
     pub state : r .state ≡ cond (offsetsFit bs s) fedState s
     pub used : r .used ≡ r .state .at - s .at
     pub upstream : up' ≡ cond (offsetsFit bs s) (packetsSketch false P bs up s) up
-    pub downstream : down' ≡ cond (offsetsFit bs s) (packetsSketch true P (rest s secondHead bs) down secondHead) down
+    pub downstream : down' ≡ cond (offsetsFit bs s) (packetsSketch true P (rest s downstreamHeaded bs) down downstreamHeaded) down
 
 -- the end of the input: nothing more was due, or a record is cut or missing
 abbrev pub finishAnswer : Stage → ℕ → Answer

@@ -27,17 +27,17 @@ pub fn feed(
         return Fed { state: s, used: 0 };
     }
     let from = s.at;
-    let first_packets = packets_stage(false, p, s, up_counts, up_idsums, bytes);
-    let i = first_packets.at - from;
-    let first_end = end_stage(first_packets, &bytes[i..]);
-    let j = first_end.at - from;
-    let headed = head_stage(p, first_end, &bytes[j..]);
+    let upstream_taken = packets_stage(false, p, s, up_counts, up_idsums, bytes);
+    let i = upstream_taken.at - from;
+    let upstream_ended = end_stage(upstream_taken, &bytes[i..]);
+    let j = upstream_ended.at - from;
+    let headed = head_stage(p, upstream_ended, &bytes[j..]);
     let k = headed.at - from;
-    let second_packets = packets_stage(true, p, headed, down_counts, down_idsums, &bytes[k..]);
-    let l = second_packets.at - from;
-    let second_end = end_stage(second_packets, &bytes[l..]);
-    let m = second_end.at - from;
-    let fed = nothing_stage(second_end, &bytes[m..]);
+    let downstream_taken = packets_stage(true, p, headed, down_counts, down_idsums, &bytes[k..]);
+    let l = downstream_taken.at - from;
+    let downstream_ended = end_stage(downstream_taken, &bytes[l..]);
+    let m = downstream_ended.at - from;
+    let fed = nothing_stage(downstream_ended, &bytes[m..]);
     Fed {
         state: fed,
         used: fed.at - from,

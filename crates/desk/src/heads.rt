@@ -1,10 +1,10 @@
-// The two heads of the input: the first gives the parameters, and the second must say the same.
+// The two heads of the input: the first gives the parameters, and the downstream one must say the same.
 ghost use mathlib.Core.Path.{_≡_};
 ghost use mathlib.Core.Bool.{true};
 ghost use Rattle.params.specs.Params.{goodParams};
 ghost use Rattle.files.specs.Records.{recordAt, isKind, headKind};
 ghost use Rattle.files.specs.Heads.{paramsIn};
-ghost use Rattle.desk.specs.Desk.{fewEnough, beginOf, secondAnswer};
+ghost use Rattle.desk.specs.Desk.{fewEnough, beginOf, downstreamHeadAnswer};
 use files::heads::Headed;
 use files::heads::head;
 use params::Answer;
@@ -38,10 +38,10 @@ pub fn begin(bytes: &[u8]) -> Headed
     h
 }
 
-// Judges a second head that stands first, against the first one's parameters.
-pub(crate) fn judge_second(p: Params, bytes: &[u8]) -> Answer
+// Judges a downstream head that stands first, against the first one's parameters.
+pub(crate) fn judge_downstream_head(p: Params, bytes: &[u8]) -> Answer
     requires { ⌜ isKind headKind (recordAt (now bytes) 0) ≡ true ⌝ }
-    ensures { λ r. ⌜ r ≡ secondAnswer p (paramsIn (now (bytes .entry))) ⌝ }
+    ensures { λ r. ⌜ r ≡ downstreamHeadAnswer p (paramsIn (now (bytes .entry))) ⌝ }
 {
     let h = head(bytes);
     let judged = h.answer;

@@ -4,7 +4,7 @@ ghost use mathlib.Core.Bool.{true};
 ghost use Rattle.sketch.specs.Sketch.{sketch};
 ghost use Rattle.files.specs.Records.{recordAt, isKind, headKind, endKind};
 ghost use Rattle.desk.specs.Desk.{isDue, packetsDue, stageAfter, afterEnd, taken as «taken-of», takenAnswer, afterTaken, dueOf, dueEnd, endState, endStage, headState, headStage, nothingStage, packetsStage, packetsSketch, offsetsFit};
-use crate::heads::judge_second;
+use crate::heads::judge_downstream_head;
 use crate::states::Stage;
 use crate::states::State;
 use crate::states::stop;
@@ -208,7 +208,7 @@ fn take_head(p: Params, s: State, bytes: &[u8]) -> State
     requires { ⌜ (isKind headKind (recordAt (now bytes) 0) ≡ true) × (offsetsFit (now bytes) s ≡ true) ⌝ }
     ensures { λ r. ⌜ r ≡ headState Due.Here p (now (bytes .entry)) s ⌝ }
 {
-    let r = judge_second(p, bytes);
+    let r = judge_downstream_head(p, bytes);
     match r {
         Answer::Done => State {
             stage: Stage::DownstreamPackets,
@@ -219,7 +219,7 @@ fn take_head(p: Params, s: State, bytes: &[u8]) -> State
     }
 }
 
-// The second head, where it is due.
+// The downstream head, where it is due.
 pub(crate) fn head_stage(p: Params, s: State, bytes: &[u8]) -> State
     requires { ⌜ offsetsFit (now bytes) s ≡ true ⌝ }
     ensures { λ r. ⌜ r ≡ headStage p (now (bytes .entry)) s ⌝ }

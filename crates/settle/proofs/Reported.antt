@@ -93,7 +93,7 @@ module _ {P : Params} {input text : List ℕ} (r : Reported P input text) where
   difference = combined true (r .up) (r .down)
 
   small : size P ≤ 65536
-  small = dimensions-small (good-dimensions P (fresh-grown (streams .first-read) .good))
+  small = dimensions-small (good-dimensions P (fresh-grown (streams .upstream-read) .good))
 
   abbrev told : Answer
   told = settleJudged P (r .up) (r .down) (r .flows) (r .numbers) (r .queue) (r .marks)
@@ -103,7 +103,7 @@ module _ {P : Params} {input text : List ℕ} (r : Reported P input text) where
 
   not-refused : told ≡ Done
   not-refused =
-      streams-settle (streams .first-read) (streams .second-read) _ _ _ _ (r .lent .0 ∙ sym (r .lent .1)) (omega (arith, r .lent .0, small)) (r .lent .2) (r .lent .3)
+      streams-settle (streams .upstream-read) (streams .downstream-read) _ _ _ _ (r .lent .0 ∙ sym (r .lent .1)) (omega (arith, r .lent .0, small)) (r .lent .2) (r .lent .3)
 
   -- what the slices and the figures then say
   flows-are : r .table-flows ≡ padded (length (r .flows)) 0 (flowsOf (close (outcome .table)))

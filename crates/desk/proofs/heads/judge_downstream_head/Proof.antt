@@ -1,4 +1,4 @@
--- `desk::heads::judge_second` meets its contract.
+-- `desk::heads::judge_downstream_head` meets its contract.
 use mathlib.Core.Path.{_≡_, sym, ap, _∙_}
 use mathlib.Core.Bool.{true}
 use denote.Ref.{now}
@@ -9,8 +9,8 @@ use Rattle.files.specs.Heads.{paramsIn, headAnswer}
 use Rattle.desk.specs.Desk.{fewEnough}
 use Rattle.desk.proofs.HeadAnswers.{head-good, head-says, second-refused, second-too-large, second-other, second-accepted}
 use borrow.Author.Needs.{needs}
-use Rattle.desk.proofs.heads.judge_second.Statement.{statement}
-use Rattle.desk.proofs.heads.judge_second.Tie as tie
+use Rattle.desk.proofs.heads.judge_downstream_head.Statement.{statement}
+use Rattle.desk.proofs.heads.judge_downstream_head.Tie as tie
 
 head-requires : tie.Need-head-requires
 head-requires c κs = search needs
@@ -52,8 +52,8 @@ returns-4 : tie.Need-returns-4
 returns-4 c = second-accepted _ _ (good (c .before .before .before .before .before)) (small (c .before .before))
     (ap (sameParams _) (sym (said (c .before .before .before .before .before) .1)) ∙ test-held (c .before .same .ensures) (c .if2 .left))
 
-pub judge-second-spec : {M : Type 1} → statement M
-judge-second-spec =
+pub judge-downstream-head-spec : {M : Type 1} → statement M
+judge-downstream-head-spec =
     tie.close
     (tie.spec
     head-requires
