@@ -11,7 +11,7 @@ use lib.Seq.{drop-at, drop-drop, getD-drop}
 use Rattle.params.specs.declared.params.Params.{Params}
 use Rattle.params.specs.declared.answers.Answer.the-variants.{Done}
 use Rattle.params.specs.Answers.{first, kept}
-use Rattle.params.specs.Params.{size, goodParams}
+use Rattle.params.specs.Params.{size}
 use Rattle.sketch.specs.Sketch.{Sketch, zeros}
 use Rattle.files.specs.Bytes.{word}
 use Rattle.params.proofs.SameParams.{size-same}

@@ -57,13 +57,13 @@ not-refused Done e = refl
 not-refused (Refused w k) e = absurd (true≢false e)
 
 module _ (P : Params) (bs : List ℕ) (S : Sketch) where
-  abbrev tells : ℕ → Bool
-  tells k = refuses (packetAnswer P bs S k)
+  abbrev refusedAt : ℕ → Bool
+  refusedAt k = refuses (packetAnswer P bs S k)
 
   -- they are at most the packets at hand, which lie within the bytes
   pub taken-within : taken P bs S ≤ packetsFrom 0 bs
   unfolding taken
-  taken-within = omega (arith, least-within (packetsFrom 0 bs) 0 tells)
+  taken-within = omega (arith, least-within (packetsFrom 0 bs) 0 refusedAt)
 
   pub taken-bytes : packetsLength * taken P bs S ≤ length bs
   taken-bytes = at (packetsFrom 0 bs) refl
@@ -78,14 +78,14 @@ module _ (P : Params) (bs : List ℕ) (S : Sketch) where
   accepted-before j l = at (ltb (taken P bs S) (packetsFrom 0 bs)) refl
     where
       at : (b : Bool) → ltb (taken P bs S) (packetsFrom 0 bs) ≡ b → packetAnswer P bs S j ≡ Done
-      at true e = not-refused _ (least-lowest (packetsFrom 0 bs) tells (ltb-true _ _ e) .none-lower j l)
-      at false e = not-refused _ (none-found (packetsFrom 0 bs) tells e j (omega (arith, taken-within)))
+      at true e = not-refused _ (least-lowest (packetsFrom 0 bs) refusedAt (ltb-true _ _ e) .none-lower j l)
+      at false e = not-refused _ (none-found (packetsFrom 0 bs) refusedAt e j (omega (arith, taken-within)))
 
   -- the next one, if there is one, was not
   pub next-refused : taken P bs S < packetsFrom 0 bs
       → (takenAnswer P bs S ≡ packetAnswer P bs S (taken P bs S)) × (refuses (packetAnswer P bs S (taken P bs S)) ≡ true)
   unfolding taken takenAnswer
-  next-refused l = (rw (lt-ltb (taken P bs S) (packetsFrom 0 bs) l), least-lowest (packetsFrom 0 bs) tells l .here)
+  next-refused l = (rw (lt-ltb (taken P bs S) (packetsFrom 0 bs) l), least-lowest (packetsFrom 0 bs) refusedAt l .here)
 
   -- where nothing is refused, all packets at hand were taken
   pub record AllTaken : Type 0 where
@@ -97,16 +97,16 @@ module _ (P : Params) (bs : List ℕ) (S : Sketch) where
   all-taken = at (ltb (taken P bs S) (packetsFrom 0 bs)) refl
     where
       at : (b : Bool) → ltb (taken P bs S) (packetsFrom 0 bs) ≡ b → cond b (packetAnswer P bs S (taken P bs S)) Done ≡ Done → AllTaken
-      at true l e = absurd (true≢false (sym (least-lowest (packetsFrom 0 bs) tells (ltb-true _ _ l) .here) ∙ ap refuses e))
+      at true l e = absurd (true≢false (sym (least-lowest (packetsFrom 0 bs) refusedAt (ltb-true _ _ l) .here) ∙ ap refuses e))
       at false l e =
           let past : packetsFrom 0 bs ≤ taken P bs S = ltb-false (taken P bs S) (packetsFrom 0 bs) l in
-          record { number = omega (arith, taken-within); each = λ k m. not-refused _ (none-found (packetsFrom 0 bs) tells l k m) }
+          record { number = omega (arith, taken-within); each = λ k m. not-refused _ (none-found (packetsFrom 0 bs) refusedAt l k m) }
 
   -- and the other way
   pub none-refused : ((k : ℕ) → k < packetsFrom 0 bs → packetAnswer P bs S k ≡ Done) → (taken P bs S ≡ packetsFrom 0 bs) × (takenAnswer P bs S ≡ Done)
   unfolding taken takenAnswer
   none-refused each =
-      let all = least-past-all (packetsFrom 0 bs) tells (λ k l. ap refuses (each k l)) in
+      let all = least-past-all (packetsFrom 0 bs) refusedAt (λ k l. ap refuses (each k l)) in
       (all, rw (all, le-ltb (packetsFrom 0 bs) (packetsFrom 0 bs) (omega arith)))
 
   abbrev pub ran : Run
@@ -138,7 +138,7 @@ module _ (P : Params) (bs : List ℕ) (S : Sketch) where
 
       taken-before : taken P bs S ≡ n
       unfolding taken
-      taken-before = least-at (packetsFrom 0 bs) n tells next none-refuse (ap refuses next-answer ∙ refusal-refuses r h)
+      taken-before = least-at (packetsFrom 0 bs) n refusedAt next none-refuse (ap refuses next-answer ∙ refusal-refuses r h)
 
       pub run-refused : (_≡_ {A = Run} (record { taken = n; answer = r }) ran) × (T ≡ afterTaken P bs S)
       unfolding takenAnswer
@@ -150,7 +150,7 @@ module _ (P : Params) (bs : List ℕ) (S : Sketch) where
       unfolding taken
       taken-all =
           let all = all-gone P 0 bs S n T g none in
-          ap (λ (m : ℕ). least 0 m tells) (sym all) ∙ least-past-all n _ none-refuse
+          ap (λ (m : ℕ). least 0 m refusedAt) (sym all) ∙ least-past-all n _ none-refuse
 
       pub run-ended : (_≡_ {A = Run} (record { taken = n; answer = Done }) ran) × (T ≡ afterTaken P bs S)
       unfolding takenAnswer

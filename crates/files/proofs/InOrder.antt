@@ -127,7 +127,7 @@ end-fault bs at n w k = go (isKind endKind (recordAt bs at)) (eqb (word bs (at +
     go true true true kind said after e = (cc, byte-after kind (eqb-true _ _ said) (ltb-true _ _ after) cc)
     go true true false kind said after e = absurd (let z : _≡_ {A = ℕ} 0 1 = cc in omega arith)
 
--- what a writer tells is what was judged, and the length of its file, n, where nothing is refused
+-- what a writer returns is what was judged, and the length of its file, n, where nothing is refused
 module _ (a : Answer) (n : ℕ) {r : Written} (e : r ≡ writtenOf a n) where
   pub written-number : writtenNumber r ≡ numberIn a
   written-number = ap writtenNumber e ∙ returned a
@@ -146,7 +146,7 @@ module _ (a : Answer) (n : ℕ) {r : Written} (e : r ≡ writtenOf a n) where
   pub written-length : writtenNumber r ≡ 0 → writtenLength r ≡ n
   written-length z = ap writtenLength (e ∙ ap (λ (x : Answer). writtenOf x n) (number-done a (sym written-number ∙ z)))
 
-  -- where it tells a refusal, the output is as it was
+  -- where it returns a refusal, the output is as it was
   pub refused-as-it-was : {w : Refusal} {k : ℕ} (old new : List ℕ) → r ≡ NotWritten w k → kept a old new ≡ old
   unfolding kept
   refused-as-it-was {w} {k} old new refused = returned a e

@@ -1,4 +1,4 @@
--- What an accepted stream tells: of its opening, of the sketch, of every packet, and of its end.
+-- What holds of an accepted stream: of its opening, of the sketch, of every packet, and of its end.
 use mathlib.Core.Path.{_≡_, refl, sym, _∙_}
 use mathlib.Core.Bool.{false}
 use mathlib.Core.List.{List}

@@ -115,7 +115,7 @@ fresh-count P k = found (decLt k (size P))
     found (yes l) = getD-replicate (size P) k (pos 0) (pos 0) l
     found (no l) = List·getD-eq-default (replicate (size P) (pos 0)) (pos 0) {n = k} (omega (arith, length-replicate (size P) (pos 0)))
 
--- A stream that is accepted into a fresh sketch: its opening tells of the parameters and the lengths, and its packets only add.
+-- A stream that is accepted into a fresh sketch: its parameters and the lengths are right, and its packets only add.
 pub fresh-grown : {P : Params} {bs : List ℕ} {S : Sketch} → StreamRead P bs (zeros P) Done S → Grown P S
 unfolding kept
 fresh-grown {P} {bs} {S} r =
