@@ -17,23 +17,24 @@ use Rattle.params.proofs.Searches.{and-true}
 use Rattle.params.proofs.SameParams.{same-itself}
 use Rattle.params.proofs.Judging.{first-done, refuse-done}
 use Rattle.files.specs.Bytes.{word}
-use Rattle.files.specs.Records.{bodyLength, recordAt}
+use Rattle.files.specs.Records.{recordAt, headKind, endKind, headLength, packetsLength, endLength}
 use Rattle.files.specs.Heads.{paramsIn, isHead, headAnswer}
+use Rattle.files.specs.Fields.{recordsField, arraysField, bucketsField, multiplierField, offsetField}
 use Rattle.files.proofs.RecordTrips.{record-whole}
 use Rattle.desk.proofs.Whole.{whole-record}
 use Rattle.streamfile.specs.Streams.{StreamRead}
 use Rattle.desk.specs.declared.states.Stage.{Stage}
-use Rattle.desk.specs.declared.states.Stage.the-variants.{Packets, Head, Over, Refused as Stopped}
+use Rattle.desk.specs.declared.states.Stage.the-variants.{UpstreamPackets, DownstreamHead, DownstreamPackets, Nothing, Refused as Stopped}
 use Rattle.desk.specs.declared.states.Fed.{Fed}
-use Rattle.desk.specs.Desk.{overDue, fewEnough, beginAnswer, beginOf, started, afterTaken, secondAnswer, packetsSketch, inReach, Feeds, finishAnswer}
+use Rattle.desk.specs.Desk.{nothingDue, fewEnough, beginAnswer, beginOf, started, afterTaken, downstreamHeadAnswer, packetsSketch, offsetsFit, Feeds, finishAnswer}
 use Rattle.desk.proofs.InTheRest.{whole-at, word-at}
 use Rattle.desk.proofs.Taking.{all-taken}
 use Rattle.desk.proofs.SameBytes.{fed-is-read}
-use Rattle.desk.proofs.BothStreams.{firstNumber, secondFile, secondBody, secondNumber, Passed, passed}
+use Rattle.desk.proofs.BothStreams.{upstreamNumber, downstreamFile, downstreamBody, downstreamNumber, Passed, passed}
 
 -- the parameters in a first part of the input that holds the head
-module _ (xs : List ℕ) (e : ℕ) (long : 38 ≤ e) where
-  word-in-part : (at : ℕ) → at + 4 ≤ 38 → word (take e xs) at ≡ word xs at
+module _ (xs : List ℕ) (e : ℕ) (long : headLength ≤ e) where
+  word-in-part : (at : ℕ) → at + 4 ≤ headLength → word (take e xs) at ≡ word xs at
   unfolding word
   word-in-part at h =
       rw (getD-take e xs at 0 (omega arith), getD-take e xs (at + 1) 0 (omega arith), getD-take e xs (at + 2) 0 (omega arith), getD-take e xs (at + 3) 0 (omega arith))
@@ -41,27 +42,27 @@ module _ (xs : List ℕ) (e : ℕ) (long : 38 ≤ e) where
   params-in-part : paramsIn (take e xs) ≡ paramsIn xs
   unfolding paramsIn
   params-in-part =
-      let byte = getD-take e xs 1 0 (omega arith) in
-      let at : (i : ℕ) → i + 4 ≤ 38 → word (take e xs) i ≡ word xs i = word-in-part in
+      let byte = getD-take e xs arraysField 0 (omega arith) in
+      let at : (i : ℕ) → i + 4 ≤ headLength → word (take e xs) i ≡ word xs i = word-in-part in
       rw (
         byte,
-        at 2 (omega arith),
-        at 6 (omega arith),
-        at 14 (omega arith),
-        at 22 (omega arith),
-        at 30 (omega arith),
-        at 10 (omega arith),
-        at 18 (omega arith),
-        at 26 (omega arith),
-        at 34 (omega arith),
+        at bucketsField (omega arith),
+        at (multiplierField 0) (omega arith),
+        at (multiplierField 1) (omega arith),
+        at (multiplierField 2) (omega arith),
+        at (multiplierField 3) (omega arith),
+        at (offsetField 0) (omega arith),
+        at (offsetField 1) (omega arith),
+        at (offsetField 2) (omega arith),
+        at (offsetField 3) (omega arith),
       )
 
 -- the input is two streams, each read into a fresh sketch
 pub record TwoStreams (P : Params) (input : List ℕ) (up down : Sketch) : Type 0 where
   pub split : ℕ
   pub within : split ≤ length input
-  pub first-read : StreamRead P (take split input) (zeros P) Done up
-  pub second-read : StreamRead P (drop split input) (zeros P) Done down
+  pub upstream-read : StreamRead P (take split input) (zeros P) Done up
+  pub downstream-read : StreamRead P (drop split input) (zeros P) Done down
 
 -- the first head is one of a file, and gives the parameters
 record Begun (P : Params) (input : List ℕ) : Type 0 where
@@ -80,78 +81,75 @@ begun P input e =
       params = sym (ap (λ h. h .params) e) ∙ rw done;
     }
 
-module _ (P : Params) (input : List ℕ) (b : Begun P input) (p : Passed P (drop 38 input) (zeros P) (zeros P)) where
+module _ (P : Params) (input : List ℕ) (b : Begun P input) (p : Passed P (drop headLength input) (zeros P) (zeros P)) where
   abbrev xs : List ℕ
-  xs = drop 38 input
+  xs = drop headLength input
 
   abbrev n : ℕ
-  n = firstNumber P xs (zeros P) (zeros P)
+  n = upstreamNumber P xs (zeros P) (zeros P)
 
   abbrev file : List ℕ
-  file = secondFile P xs (zeros P) (zeros P)
+  file = downstreamFile P xs (zeros P) (zeros P)
 
   abbrev body : List ℕ
-  body = secondBody P xs (zeros P) (zeros P)
+  body = downstreamBody P xs (zeros P) (zeros P)
 
   abbrev m : ℕ
-  m = secondNumber P xs (zeros P) (zeros P)
+  m = downstreamNumber P xs (zeros P) (zeros P)
 
   good-params : goodParams P ≡ true
   good-params = rw (b .params) (b .good)
 
-  input-long : 38 ≤ length input
-  unfolding bodyLength
-  input-long = omega (arith, whole-record input 0 1 (b .head) .1)
+  input-long : headLength ≤ length input
+  input-long = omega (arith, whole-record input 0 headKind (b .head) .1)
 
-  first-long : 9 * n + 5 ≤ length xs
-  unfolding bodyLength
-  first-long = omega (arith, whole-record (drop (9 * n) xs) 0 4 (p .first-end) .1, length-drop (9 * n) xs)
+  first-long : packetsLength * n + endLength ≤ length xs
+  first-long = omega (arith, whole-record (drop (packetsLength * n) xs) 0 endKind (p .first-end) .1, length-drop (packetsLength * n) xs)
 
-  split-within : 38 + (9 * n + 5) ≤ length input
-  split-within = omega (arith, first-long, input-long, length-drop 38 input)
+  split-within : headLength + (packetsLength * n + endLength) ≤ length input
+  split-within = omega (arith, first-long, input-long, length-drop headLength input)
 
-  first-file : StreamRead P (take (38 + (9 * n + 5)) input) (zeros P) Done (afterTaken P xs (zeros P))
-  unfolding bodyLength
+  first-file : StreamRead P (take (headLength + (packetsLength * n + endLength)) input) (zeros P) Done (afterTaken P xs (zeros P))
   first-file =
-      let e : ℕ = 38 + (9 * n + 5) in
+      let e : ℕ = headLength + (packetsLength * n + endLength) in
       let long : length (take e input) ≡ e = length-take-le e input split-within in
-      let w = whole-record input 0 1 (b .head) in
+      let w = whole-record input 0 headKind (b .head) in
       let params : paramsIn (take e input) ≡ paramsIn input = params-in-part input e (omega arith) in
-      fed-is-read P (take e input) xs n long first-long (λ j l. getD-take e input (38 + j) 0 (omega arith) ∙ sym (getD-drop 38 input j 0))
-      (sym (all-taken P xs (zeros P) (p .first-done) .number)) (whole-at xs (9 * n) 4 (omega arith) (p .first-end)) (sym (word-at xs (9 * n) 1) ∙ p .first-said)
-      (record-whole (take e input) 0 1 (getD-take e input 0 0 (omega arith) ∙ w .0) (omega arith) (omega arith))
+      fed-is-read P (take e input) xs n long first-long (λ j l. getD-take e input (headLength + j) 0 (omega arith) ∙ sym (getD-drop headLength input j 0))
+      (sym (all-taken P xs (zeros P) (p .first-done) .number)) (whole-at xs (packetsLength * n) endKind (omega arith) (p .first-end)) (sym (word-at xs (packetsLength * n) recordsField) ∙ p .first-said)
+      (record-whole (take e input) 0 headKind (getD-take e input 0 0 (omega arith) ∙ w .0) (omega arith) (omega arith))
       good-params (ap goodParams params ∙ b .good) (ap (sameParams P) (params ∙ sym (b .params)) ∙ same-itself P) (p .first-done)
 
-  second-long : length file ≡ 38 + (9 * m + 5)
-  unfolding bodyLength
+  second-long : length file ≡ headLength + (packetsLength * m + endLength)
   second-long =
-      let w = whole-record (drop (9 * m) body) 0 4 (p .second-end) .1 in
-      omega (arith, w, length-drop (9 * m) body, length-drop 38 file, p .nothing-more, length-drop (9 * m + 5) body)
+      let w = whole-record (drop (packetsLength * m) body) 0 endKind (p .second-end) .1 in
+      omega (arith, w, length-drop (packetsLength * m) body, length-drop headLength file, p .nothing-more, length-drop (packetsLength * m + endLength) body)
 
   second-file : StreamRead P file (zeros P) Done (afterTaken P body (zeros P))
-  unfolding bodyLength secondAnswer
+  unfolding downstreamHeadAnswer
   second-file =
       let h = refuse-done (not (goodParams (paramsIn file) && fewEnough (paramsIn file))) Param 0 _ (p .second-same) in
       let k = refuse-done (not (sameParams P (paramsIn file))) Mismatch 0 Done (h .1) in
-      fed-is-read P file body m second-long (omega (arith, second-long, length-drop 38 file)) (λ j l. sym (getD-drop 38 file j 0))
-      (sym (all-taken P body (zeros P) (p .second-done) .number)) (whole-at body (9 * m) 4 (omega arith) (p .second-end)) (sym (word-at body (9 * m) 1) ∙ p .second-said)
+      fed-is-read P file body m second-long (omega (arith, second-long, length-drop headLength file)) (λ j l. sym (getD-drop headLength file j 0))
+      (sym (all-taken P body (zeros P) (p .second-done) .number)) (whole-at body (packetsLength * m) endKind (omega arith) (p .second-end)) (sym (word-at body (packetsLength * m) recordsField) ∙ p .second-said)
       (p .second-head) good-params (and-true (goodParams (paramsIn file)) (fewEnough (paramsIn file)) (not-false _ (h .0)) .0) (not-false _ (k .0)) (p .second-done)
 
   two-streams : TwoStreams P input (afterTaken P xs (zeros P)) (afterTaken P body (zeros P))
   two-streams =
       record {
-        split = 38 + (9 * n + 5);
+        split = headLength + (packetsLength * n + endLength);
         within = split-within;
-        first-read = first-file;
-        second-read = rw (← drop-drop (9 * n + 5) 38 input) second-file;
+        upstream-read = first-file;
+        downstream-read = rw (← drop-drop (packetsLength * n + endLength) headLength input) second-file;
       }
 
 -- the end of the input finds that nothing more was due
-finished-over : (g : Stage) (at : ℕ) → finishAnswer g at ≡ Done → g ≡ Over
-finished-over Over at e = refl
-finished-over (Stopped w) at e = cc
-finished-over Packets at e = cc
-finished-over Head at e = cc
+finished-nothing : (g : Stage) (at : ℕ) → finishAnswer g at ≡ Done → g ≡ Nothing
+finished-nothing Nothing at e = refl
+finished-nothing (Stopped w) at e = cc
+finished-nothing UpstreamPackets at e = cc
+finished-nothing DownstreamHead at e = cc
+finished-nothing DownstreamPackets at e = cc
 
 -- the desk takes few enough buckets alone
 pub few-begun : (P : Params) (input : List ℕ) → beginOf input ≡ record { answer = Done; params = P } → fewEnough P ≡ true
@@ -162,20 +160,20 @@ few-begun P input e =
 
 -- and an input is accepted only where 64 bits hold its offsets
 pub near-done : {P : Params} {bs : List ℕ} {r : Fed} {up down up' down' : Sketch} → Feeds P bs up down started r up' down' → finishAnswer (r .state .stage) (r .state .at) ≡ Done
-    → inReach bs started ≡ true
-near-done {bs = bs} {r = r} fed done = at (inReach bs started) refl
+    → offsetsFit bs started ≡ true
+near-done {bs = bs} {r = r} fed done = at (offsetsFit bs started) refl
   where
-    at : (b : Bool) → inReach bs started ≡ b → b ≡ true
+    at : (b : Bool) → offsetsFit bs started ≡ b → b ≡ true
     at true near = refl
     at false far =
-        let over = finished-over (r .state .stage) (r .state .at) done in
-        absurd (true≢false (sym (ap overDue over) ∙ ap (λ s. overDue (s .stage)) (rw far at (fed .state))))
+        let nothing = finished-nothing (r .state .stage) (r .state .at) done in
+        absurd (true≢false (sym (ap nothingDue nothing) ∙ ap (λ s. nothingDue (s .stage)) (rw far at (fed .state))))
 
 pub accepted : (P : Params) (input : List ℕ) (r : Fed) (up down : Sketch) → beginOf input ≡ record { answer = Done; params = P }
-    → Feeds P (drop 38 input) (zeros P) (zeros P) started r up down → finishAnswer (r .state .stage) (r .state .at) ≡ Done → TwoStreams P input up down
+    → Feeds P (drop headLength input) (zeros P) (zeros P) started r up down → finishAnswer (r .state .stage) (r .state .at) ≡ Done → TwoStreams P input up down
 unfolding packetsSketch
 accepted P input r up down head fed done =
     let near = near-done fed done in
-    let over = finished-over (r .state .stage) (r .state .at) done in
-    let p = passed P (drop 38 input) (zeros P) (zeros P) (sym (ap (λ s. s .stage) (rw near at (fed .state))) ∙ over) in
+    let nothing = finished-nothing (r .state .stage) (r .state .at) done in
+    let p = passed P (drop headLength input) (zeros P) (zeros P) (sym (ap (λ s. s .stage) (rw near at (fed .state))) ∙ nothing) in
     rw (rw near at (fed .upstream), rw near at (fed .downstream) ∙ p .1) (two-streams P input (begun P input head) (p .0))

@@ -10,8 +10,8 @@ use Rattle.params.specs.declared.params.Params.{Params}
 use Rattle.sketch.specs.Sketch.{Sketch}
 use Rattle.desk.specs.declared.states.State.{State}
 use Rattle.desk.specs.declared.states.Fed.{Fed}
-use Rattle.desk.specs.Desk.{inReach, Feeds}
-use Rattle.desk.proofs.Reach.{reached, in-reach}
+use Rattle.desk.specs.Desk.{offsetsFit, Feeds}
+use Rattle.desk.proofs.OffsetsFit.{bounded, offsets-fit}
 use Rattle.desk.proofs.Pieces.{used-within, pieces}
 
 -- pieces one after another
@@ -25,8 +25,8 @@ pub data InTurn (P : Params) : List ℕ → List (List ℕ) → State → Sketch
   next-fed : {held x : List ℕ} {xs : List (List ℕ)} {s t : State} {r : Fed} {up down up₁ down₁ up' down' : Sketch} → Feeds P (held ++ x) up down s r up₁ down₁
       → InTurn P (drop (r .used) (held ++ x)) xs (r .state) up₁ down₁ t up' down' → InTurn P held (x ∷ xs) s up down t up' down'
 
-fewer-near : (xs ys : List ℕ) (s : State) → inReach (xs ++ ys) s ≡ true → inReach xs s ≡ true
-fewer-near xs ys s near = let h = reached (xs ++ ys) s near in in-reach xs s (omega (arith, h, length-append xs ys))
+fewer-near : (xs ys : List ℕ) (s : State) → offsetsFit (xs ++ ys) s ≡ true → offsetsFit xs s ≡ true
+fewer-near xs ys s near = let h = bounded (xs ++ ys) s near in offsets-fit xs s (omega (arith, h, length-append xs ys))
 
 -- what is left of both pieces together
 left-of-both : (xs ys : List ℕ) (i j : ℕ) → i ≤ length xs → drop j (drop i xs ++ ys) ≡ drop (i + j) (xs ++ ys)
@@ -34,18 +34,18 @@ left-of-both xs ys i j h = ap (drop j) (sym (drop-append-le i xs ys h)) ∙ drop
 
 module _ {P : Params} {s : State} {up down : Sketch} where
   -- the bytes ws were fed, `held` is what they left, and the pieces xs are to come
-  in-turn : {ws held : List ℕ} {xs : List (List ℕ)} {r : Fed} {u t : State} {up₁ down₁ up' down' : Sketch} → inReach (ws ++ joined xs) s ≡ true → held ≡ drop (r .used) ws → u ≡ r .state
+  in-turn : {ws held : List ℕ} {xs : List (List ℕ)} {r : Fed} {u t : State} {up₁ down₁ up' down' : Sketch} → offsetsFit (ws ++ joined xs) s ≡ true → held ≡ drop (r .used) ws → u ≡ r .state
       → Feeds P ws up down s r up₁ down₁ → InTurn P held xs u up₁ down₁ t up' down' → Feeds P (ws ++ joined xs) up down s record { state = t; used = t .at - s .at } up' down'
   in-turn {ws} {up₁ = up₁} {down₁ = down₁} near left now fed (all-fed {s = u}) =
       rw (append-nil ws) (record { state = now ∙ fed .state; used = refl; upstream = fed .upstream; downstream = fed .downstream })
   in-turn {ws} {r = r} {up₁ = up₁} {down₁ = down₁} near left now fed (next-fed {x = x} {xs = xs} {r = r₂} {up₁ = up₂} {down₁ = down₂} one more) =
-      let all : inReach ((ws ++ x) ++ joined xs) s ≡ true = rw (append-assoc ws x (joined xs)) near in
-      let near-both : inReach (ws ++ x) s ≡ true = fewer-near (ws ++ x) (joined xs) s all in
+      let all : offsetsFit ((ws ++ x) ++ joined xs) s ≡ true = rw (append-assoc ws x (joined xs)) near in
+      let near-both : offsetsFit (ws ++ x) s ≡ true = fewer-near (ws ++ x) (joined xs) s all in
       let next : Feeds P (drop (r .used) ws ++ x) up₁ down₁ (r .state) r₂ up₂ down₂ = rw (← left, ← now) one in
       let after = ap (λ bs. drop (r₂ .used) (bs ++ x)) left ∙ left-of-both ws x (r .used) (r₂ .used) (used-within (fewer-near ws x s near-both) fed) in
       rw (← append-assoc ws x (joined xs)) (in-turn all after refl (pieces x near-both fed next) more)
 
   -- a first piece, and the others behind what it leaves
-  pub any-pieces : (x : List ℕ) (xs : List (List ℕ)) {r : Fed} {t : State} {up₁ down₁ up' down' : Sketch} → inReach (x ++ joined xs) s ≡ true → Feeds P x up down s r up₁ down₁
+  pub any-pieces : (x : List ℕ) (xs : List (List ℕ)) {r : Fed} {t : State} {up₁ down₁ up' down' : Sketch} → offsetsFit (x ++ joined xs) s ≡ true → Feeds P x up down s r up₁ down₁
       → InTurn P (drop (r .used) x) xs (r .state) up₁ down₁ t up' down' → Feeds P (x ++ joined xs) up down s record { state = t; used = t .at - s .at } up' down'
   any-pieces x xs near fed more = in-turn near refl refl fed more

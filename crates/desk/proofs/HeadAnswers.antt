@@ -14,8 +14,8 @@ use Rattle.params.specs.Params.{goodParams, sameParams}
 use Rattle.params.proofs.Judging.{Refuses, first-refused, refuse-done}
 use Rattle.files.specs.declared.heads.Headed.{Headed}
 use Rattle.files.specs.Records.{recordAt}
-use Rattle.files.specs.Heads.{paramsIn, isHead, headAnswer, noParams, headOf}
-use Rattle.desk.specs.Desk.{fewEnough, beginAnswer, beginOf, secondAnswer}
+use Rattle.files.specs.Heads.{paramsIn, isHead, headAnswer, noParams, refusedHead, headOf}
+use Rattle.desk.specs.Desk.{fewEnough, beginAnswer, beginOf, downstreamHeadAnswer}
 
 module _ (bs : List ℕ) where
   pub head-good : headAnswer bs ≡ Done → goodParams (paramsIn bs) ≡ true
@@ -38,7 +38,7 @@ module _ (bs : List ℕ) where
       let refused : Refuses (headAnswer bs) = rw (ap (λ (h : Headed). h .answer) e) at q in
       e ∙ ap (λ (a : Answer). record { answer = a; params = kept a noParams (paramsIn bs) }) (first-refused (headAnswer bs) (headAnswer bs) _ refl refused)
 
-  pub first-too-large : headAnswer bs ≡ Done → fewEnough (paramsIn bs) ≡ false → _≡_ {A = Headed} (record { answer = Refused Param 0; params = noParams }) (beginOf bs)
+  pub first-too-large : headAnswer bs ≡ Done → fewEnough (paramsIn bs) ≡ false → refusedHead Param ≡ beginOf bs
   unfolding beginAnswer first kept
   first-too-large e f = rw (e, f)
 
@@ -48,26 +48,26 @@ module _ (bs : List ℕ) where
 
   -- the second head, which is whole
   module _ (P : Params) where
-    second-bad : goodParams (paramsIn bs) ≡ false → Refused Param 0 ≡ secondAnswer P (paramsIn bs)
-    unfolding secondAnswer
+    second-bad : goodParams (paramsIn bs) ≡ false → Refused Param 0 ≡ downstreamHeadAnswer P (paramsIn bs)
+    unfolding downstreamHeadAnswer
     second-bad g = rw g
 
-    pub second-refused : isHead (recordAt bs 0) ≡ true → Refuses (headAnswer bs) → Refused Param 0 ≡ secondAnswer P (paramsIn bs)
+    pub second-refused : isHead (recordAt bs 0) ≡ true → Refuses (headAnswer bs) → Refused Param 0 ≡ downstreamHeadAnswer P (paramsIn bs)
     unfolding headAnswer
     second-refused whole h = at (goodParams (paramsIn bs)) refl
       where
-        at : (b : Bool) → goodParams (paramsIn bs) ≡ b → Refused Param 0 ≡ secondAnswer P (paramsIn bs)
+        at : (b : Bool) → goodParams (paramsIn bs) ≡ b → Refused Param 0 ≡ downstreamHeadAnswer P (paramsIn bs)
         at true e = absurd (miss (1 ∷ []) 0 tt (rw (whole, e) at h))
         at false e = second-bad e
 
-    pub second-too-large : goodParams (paramsIn bs) ≡ true → fewEnough (paramsIn bs) ≡ false → Refused Param 0 ≡ secondAnswer P (paramsIn bs)
-    unfolding secondAnswer
+    pub second-too-large : goodParams (paramsIn bs) ≡ true → fewEnough (paramsIn bs) ≡ false → Refused Param 0 ≡ downstreamHeadAnswer P (paramsIn bs)
+    unfolding downstreamHeadAnswer
     second-too-large g f = rw (g, f)
 
-    pub second-other : goodParams (paramsIn bs) ≡ true → fewEnough (paramsIn bs) ≡ true → sameParams P (paramsIn bs) ≡ false → Refused Mismatch 0 ≡ secondAnswer P (paramsIn bs)
-    unfolding secondAnswer
+    pub second-other : goodParams (paramsIn bs) ≡ true → fewEnough (paramsIn bs) ≡ true → sameParams P (paramsIn bs) ≡ false → Refused Mismatch 0 ≡ downstreamHeadAnswer P (paramsIn bs)
+    unfolding downstreamHeadAnswer
     second-other g f s = rw (g, f, s)
 
-    pub second-accepted : goodParams (paramsIn bs) ≡ true → fewEnough (paramsIn bs) ≡ true → sameParams P (paramsIn bs) ≡ true → Done ≡ secondAnswer P (paramsIn bs)
-    unfolding secondAnswer
+    pub second-accepted : goodParams (paramsIn bs) ≡ true → fewEnough (paramsIn bs) ≡ true → sameParams P (paramsIn bs) ≡ true → Done ≡ downstreamHeadAnswer P (paramsIn bs)
+    unfolding downstreamHeadAnswer
     second-accepted g f s = rw (g, f, s)

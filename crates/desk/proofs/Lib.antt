@@ -3,7 +3,7 @@ pub mod Whole
 pub mod Taking
 pub mod HeadAnswers
 pub mod WhatIsDue
-pub mod Reach
+pub mod OffsetsFit
 pub mod Onward
 pub mod InTheRest
 pub mod SameBytes

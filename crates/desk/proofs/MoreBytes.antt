@@ -10,14 +10,15 @@ use lib.Dec.{eqb, leb}
 use lib.ListN.{length, getD, length-append, List·getD-append}
 use Rattle.params.specs.declared.params.Params.{Params}
 use Rattle.files.specs.Bytes.{word}
-use Rattle.files.specs.Records.{bodyLength, recordAt, isKind}
+use Rattle.files.specs.Records.{bodyLength, recordAt, isKind, headKind, packetsKind, endKind, headLength}
 use Rattle.files.specs.Heads.{paramsIn}
+use Rattle.files.specs.Fields.{recordsField, arraysField, bucketsField, multiplierField, offsetField}
 use Rattle.files.proofs.RecordTrips.{record-whole, not-kind}
 use Rattle.desk.proofs.Whole.{whole-record}
 use Rattle.desk.specs.declared.states.State.{State}
 use Rattle.desk.specs.declared.stages.Due.{Due}
 use Rattle.desk.specs.declared.stages.Due.the-variants.{Here, NotYet, Other}
-use Rattle.desk.specs.Desk.{packetsDue, headDue, dueOf, dueEnd, endState, headState, endStage, headStage, overStage}
+use Rattle.desk.specs.Desk.{packetsDue, headDue, dueOf, dueEnd, endState, headState, endStage, headStage, nothingStage}
 use Rattle.desk.proofs.WhatIsDue.{here-whole, end-whole}
 
 abbrev pub notYet : Due → Bool
@@ -48,21 +49,21 @@ unfolding dueOf
 due-other kind bs l w e = rw (lt-leb (length bs) 0 l, w, e)
 
 -- where packets are due: no packets stand first
-end-known : (bs : List ℕ) → notYet (dueEnd bs) ≡ false → (eqb (getD bs 0 0) 2 ≡ false) × (dueEnd bs ≡ dueOf 4 bs) × (notYet (dueOf 4 bs) ≡ false)
+end-known : (bs : List ℕ) → notYet (dueEnd bs) ≡ false → (eqb (getD bs 0 0) packetsKind ≡ false) × (dueEnd bs ≡ dueOf endKind bs) × (notYet (dueOf endKind bs) ≡ false)
 unfolding dueEnd dueOf
-end-known bs = at (leb (length bs) 0) refl (eqb (getD bs 0 0) 2) refl
+end-known bs = at (leb (length bs) 0) refl (eqb (getD bs 0 0) packetsKind) refl
   where
-    at : (x : Bool) → leb (length bs) 0 ≡ x → (y : Bool) → eqb (getD bs 0 0) 2 ≡ y → notYet (cond (not x && y) NotYet (dueOf 4 bs)) ≡ false
-        → (y ≡ false) × (cond (not x && y) NotYet (dueOf 4 bs) ≡ dueOf 4 bs) × (notYet (dueOf 4 bs) ≡ false)
+    at : (x : Bool) → leb (length bs) 0 ≡ x → (y : Bool) → eqb (getD bs 0 0) packetsKind ≡ y → notYet (cond (not x && y) NotYet (dueOf endKind bs)) ≡ false
+        → (y ≡ false) × (cond (not x && y) NotYet (dueOf endKind bs) ≡ dueOf endKind bs) × (notYet (dueOf endKind bs) ≡ false)
     at true e y f h = absurd (true≢false (sym (rw e) ∙ h))
     at false e true f h = absurd (true≢false h)
     at false e false f h = (refl, refl, h)
 
-end-due : (bs : List ℕ) → eqb (getD bs 0 0) 2 ≡ false → dueEnd bs ≡ dueOf 4 bs
+end-due : (bs : List ℕ) → eqb (getD bs 0 0) packetsKind ≡ false → dueEnd bs ≡ dueOf endKind bs
 unfolding dueEnd
 end-due bs e = rw e (at (not (leb (length bs) 0)))
   where
-    at : (x : Bool) → cond (x && false) NotYet (dueOf 4 bs) ≡ dueOf 4 bs
+    at : (x : Bool) → cond (x && false) NotYet (dueOf endKind bs) ≡ dueOf endKind bs
     at true = refl
     at false = refl
 
@@ -74,20 +75,20 @@ module _ (xs ys : List ℕ) where
   unfolding word
   word-more at h = rw (byte-more at (omega arith), byte-more (at + 1) (omega arith), byte-more (at + 2) (omega arith), byte-more (at + 3) (omega arith))
 
-  pub params-more : 38 ≤ length xs → paramsIn (xs ++ ys) ≡ paramsIn xs
+  pub params-more : headLength ≤ length xs → paramsIn (xs ++ ys) ≡ paramsIn xs
   unfolding paramsIn
   params-more h =
       rw (
-        byte-more 1 (omega arith),
-        word-more 2 (omega arith),
-        word-more 6 (omega arith),
-        word-more 14 (omega arith),
-        word-more 22 (omega arith),
-        word-more 30 (omega arith),
-        word-more 10 (omega arith),
-        word-more 18 (omega arith),
-        word-more 26 (omega arith),
-        word-more 34 (omega arith),
+        byte-more arraysField (omega arith),
+        word-more bucketsField (omega arith),
+        word-more (multiplierField 0) (omega arith),
+        word-more (multiplierField 1) (omega arith),
+        word-more (multiplierField 2) (omega arith),
+        word-more (multiplierField 3) (omega arith),
+        word-more (offsetField 0) (omega arith),
+        word-more (offsetField 1) (omega arith),
+        word-more (offsetField 2) (omega arith),
+        word-more (offsetField 3) (omega arith),
       )
 
   longer : length xs ≤ length (xs ++ ys)
@@ -119,11 +120,11 @@ module _ (xs ys : List ℕ) where
 
   -- so the stages that find something find the same
   pub end-more : (s : State) → notYet (dueEnd xs) ≡ false
-      → (isKind 2 (recordAt (xs ++ ys) 0) ≡ false) × (dueEnd (xs ++ ys) ≡ dueEnd xs) × (endStage (xs ++ ys) s ≡ endStage xs s)
-  unfolding endStage bodyLength
+      → (isKind packetsKind (recordAt (xs ++ ys) 0) ≡ false) × (dueEnd (xs ++ ys) ≡ dueEnd xs) × (endStage (xs ++ ys) s ≡ endStage xs s)
+  unfolding endStage
   end-more s h =
       let k = end-known xs h in
-      let m = due-more 4 (omega arith) (k .2) in
+      let m = due-more endKind (omega arith) (k .2) in
       let o = other-more 2 (m .0) (k .0) in
       let due : dueEnd (xs ++ ys) ≡ dueEnd xs = end-due (xs ++ ys) (o .0) ∙ m .1 ∙ sym (k .1) in
       (o .1, due, rw due (ap (λ t. cond (packetsDue (s .stage)) t s) (at (dueEnd xs) refl)))
@@ -131,21 +132,21 @@ module _ (xs ys : List ℕ) where
       at : (d : Due) → dueEnd xs ≡ d → endState d (xs ++ ys) s ≡ endState d xs s
       at NotYet e = refl
       at Other e = refl
-      at Here e = rw (word-more 1 (omega (arith, whole-record xs 0 4 (end-whole xs e) .1)))
+      at Here e = rw (word-more recordsField (omega (arith, whole-record xs 0 endKind (end-whole xs e) .1)))
 
-  pub head-more : (P : Params) (s : State) → notYet (dueOf 1 xs) ≡ false → (dueOf 1 (xs ++ ys) ≡ dueOf 1 xs) × (headStage P (xs ++ ys) s ≡ headStage P xs s)
-  unfolding headStage bodyLength
+  pub head-more : (P : Params) (s : State) → notYet (dueOf headKind xs) ≡ false → (dueOf headKind (xs ++ ys) ≡ dueOf headKind xs) × (headStage P (xs ++ ys) s ≡ headStage P xs s)
+  unfolding headStage
   head-more P s h =
-      let due = due-more 1 (omega arith) h .1 in
-      (due, rw due (ap (λ t. cond (headDue (s .stage)) t s) (at (dueOf 1 xs) refl)))
+      let due = due-more headKind (omega arith) h .1 in
+      (due, rw due (ap (λ t. cond (headDue (s .stage)) t s) (at (dueOf headKind xs) refl)))
     where
-      at : (d : Due) → dueOf 1 xs ≡ d → headState d P (xs ++ ys) s ≡ headState d P xs s
+      at : (d : Due) → dueOf headKind xs ≡ d → headState d P (xs ++ ys) s ≡ headState d P xs s
       at NotYet e = refl
       at Other e = refl
-      at Here e = rw (params-more (omega (arith, whole-record xs 0 1 (here-whole 1 xs e) .1)))
+      at Here e = rw (params-more (omega (arith, whole-record xs 0 headKind (here-whole headKind xs e) .1)))
 
-  pub over-more : (s : State) → 0 < length xs → (leb (length (xs ++ ys)) 0 ≡ false) × (overStage (xs ++ ys) s ≡ overStage xs s)
-  unfolding overStage
-  over-more s l =
+  pub nothing-more : (s : State) → 0 < length xs → (leb (length (xs ++ ys)) 0 ≡ false) × (nothingStage (xs ++ ys) s ≡ nothingStage xs s)
+  unfolding nothingStage
+  nothing-more s l =
       let e = lt-leb (length (xs ++ ys)) 0 (omega (arith, longer)) in
       (e, rw (e, lt-leb (length xs) 0 l))

@@ -13,16 +13,17 @@ use Rattle.params.specs.declared.answers.Answer.{Answer}
 use Rattle.params.specs.declared.answers.Answer.the-variants.{Done, Refused}
 use Rattle.sketch.specs.Sketch.{Sketch}
 use Rattle.files.specs.Bytes.{word}
-use Rattle.files.specs.Records.{recordAt, isKind, bodyLength}
+use Rattle.files.specs.Records.{recordAt, isKind, headKind, endKind}
 use Rattle.files.specs.Heads.{paramsIn}
+use Rattle.files.specs.Fields.{recordsField}
 use Rattle.files.proofs.Standing.{kind-ends}
 use Rattle.desk.specs.declared.states.State.{State}
 use Rattle.desk.specs.declared.stages.Due.{Due}
 use Rattle.desk.specs.declared.stages.Due.the-variants.{Here, NotYet, Other}
-use Rattle.desk.specs.Desk.{packetsDue, headDue, overDue, isDue, packetsState, dueOf, dueEnd, endState, endedState, stopped, secondAnswer, answered, headState, headedState, packetsStage, packetsSketch, endStage, headStage, overStage, rest, inReach}
+use Rattle.desk.specs.Desk.{packetsDue, headDue, nothingDue, isDue, packetsState, dueOf, dueEnd, endState, endedState, stopped, downstreamHeadAnswer, answered, headState, headedState, packetsStage, packetsSketch, endStage, headStage, nothingStage, rest, offsetsFit}
 use Rattle.desk.proofs.Taking.{taken-bytes}
 use Rattle.desk.proofs.WhatIsDue.{here-whole, end-whole}
-use Rattle.desk.proofs.Reach.{reached, in-reach}
+use Rattle.desk.proofs.OffsetsFit.{bounded, offsets-fit}
 
 -- t comes after s by some of these bytes, and no more records than bytes stood in between
 pub record Onward (bs : List ℕ) (s t : State) : Type 0 where
@@ -38,52 +39,52 @@ onward-then bs s t u h k =
     let long : length (rest s t bs) ≡ length bs - (t .at - s .at) = length-drop (t .at - s .at) bs in
     omega arith
 
-onward-reach : (bs : List ℕ) (s t : State) → inReach bs s ≡ true → Onward bs s t → inReach (rest s t bs) t ≡ true
-onward-reach bs s t e h =
-    let r = reached bs s e in
+onward-fits : (bs : List ℕ) (s t : State) → offsetsFit bs s ≡ true → Onward bs s t → offsetsFit (rest s t bs) t ≡ true
+onward-fits bs s t e h =
+    let r = bounded bs s e in
     let long : length (rest s t bs) ≡ length bs - (t .at - s .at) = length-drop (t .at - s .at) bs in
-    in-reach (rest s t bs) t (omega arith)
+    offsets-fit (rest s t bs) t (omega arith)
 
 -- each stage
-pub packets-onward : (second : Bool) (P : Params) (bs : List ℕ) (S : Sketch) (s : State) → Onward bs s (packetsStage second P bs S s)
+pub packets-onward : (downstream : Bool) (P : Params) (bs : List ℕ) (S : Sketch) (s : State) → Onward bs s (packetsStage downstream P bs S s)
 unfolding packetsStage packetsState
-packets-onward second P bs S s = at (isDue second s)
+packets-onward downstream P bs S s = at (isDue downstream (s .stage))
   where
     at : (b : Bool) → Onward bs s (cond b (packetsState P bs S s) s)
     at true = omega (arith, taken-bytes P bs S)
     at false = onward-here bs s
 
 pub end-onward : (bs : List ℕ) (s : State) → Onward bs s (endStage bs s)
-unfolding endStage bodyLength
+unfolding endStage
 end-onward bs s = at (packetsDue (s .stage)) (dueEnd bs) refl
   where
-    ended : (b : Bool) → isKind 4 (recordAt bs 0) ≡ true → Onward bs s (cond b (endedState s) (stopped Form s))
-    ended true w = omega (arith, kind-ends 4 bs 0 w)
+    ended : (b : Bool) → isKind endKind (recordAt bs 0) ≡ true → Onward bs s (cond b (endedState s) (stopped Form s))
+    ended true w = omega (arith, kind-ends endKind bs 0 w)
     ended false w = omega arith
 
     at : (b : Bool) (d : Due) → dueEnd bs ≡ d → Onward bs s (cond b (endState d bs s) s)
     at false d e = onward-here bs s
     at true NotYet e = onward-here bs s
     at true Other e = omega arith
-    at true Here e = ended (eqb (word bs 1) (s .records)) (end-whole bs e)
+    at true Here e = ended (eqb (word bs recordsField) (s .records)) (end-whole bs e)
 
 pub head-onward : (P : Params) (bs : List ℕ) (s : State) → Onward bs s (headStage P bs s)
-unfolding headStage bodyLength
-head-onward P bs s = at (headDue (s .stage)) (dueOf 1 bs) refl
+unfolding headStage
+head-onward P bs s = at (headDue (s .stage)) (dueOf headKind bs) refl
   where
-    told : (r : Answer) → isKind 1 (recordAt bs 0) ≡ true → Onward bs s (answered r s (headedState s))
-    told Done w = omega (arith, kind-ends 1 bs 0 w)
-    told (Refused w k) h = omega arith
+    judged : (r : Answer) → isKind headKind (recordAt bs 0) ≡ true → Onward bs s (answered r s (headedState s))
+    judged Done w = omega (arith, kind-ends headKind bs 0 w)
+    judged (Refused w k) h = omega arith
 
-    at : (b : Bool) (d : Due) → dueOf 1 bs ≡ d → Onward bs s (cond b (headState d P bs s) s)
+    at : (b : Bool) (d : Due) → dueOf headKind bs ≡ d → Onward bs s (cond b (headState d P bs s) s)
     at false d e = onward-here bs s
     at true NotYet e = onward-here bs s
     at true Other e = omega arith
-    at true Here e = told (secondAnswer P (paramsIn bs)) (here-whole 1 bs e)
+    at true Here e = judged (downstreamHeadAnswer P (paramsIn bs)) (here-whole headKind bs e)
 
-pub over-onward : (bs : List ℕ) (s : State) → Onward bs s (overStage bs s)
-unfolding overStage
-over-onward bs s = at (overDue (s .stage) && not (leb (length bs) 0))
+pub nothing-onward : (bs : List ℕ) (s : State) → Onward bs s (nothingStage bs s)
+unfolding nothingStage
+nothing-onward bs s = at (nothingDue (s .stage) && not (leb (length bs) 0))
   where
     at : (b : Bool) → Onward bs s (cond b (stopped Form s) s)
     at true = omega arith
@@ -102,8 +103,8 @@ pub record Came (bs : List ℕ) (s t x : State) : Type 0 where
   pub same : t ≡ x
 
 module _ {bs : List ℕ} {s t x : State} (h : Came bs s t x) where
-  pub part-reach : inReach bs s ≡ true → inReach (part bs s t) t ≡ true
-  part-reach e = rw (part-rest bs s t) (onward-reach bs s t e (h .onward))
+  pub part-fits : offsetsFit bs s ≡ true → offsetsFit (part bs s t) t ≡ true
+  part-fits e = rw (part-rest bs s t) (onward-fits bs s t e (h .onward))
 
   -- one stage more
   further : (f : List ℕ → State → State) → ((xs : List ℕ) (v : State) → Onward xs v (f xs v)) → (u : State) → u ≡ f (part bs s t) t → Came bs s u (f (rest s x bs) x)
@@ -123,10 +124,10 @@ module _ {bs : List ℕ} {s t x : State} (h : Came bs s t x) where
   pub then-packets : (P : Params) (S : Sketch) (u : State) → u ≡ packetsStage true P (part bs s t) S t → Came bs s u (packetsStage true P (rest s x bs) S x)
   then-packets P S u e = further (λ xs v. packetsStage true P xs S v) (λ xs v. packets-onward true P xs S v) u e
 
-  pub then-over : (u : State) → u ≡ overStage (part bs s t) t → Came bs s u (overStage (rest s x bs) x)
-  then-over u e = further overStage over-onward u e
+  pub then-nothing : (u : State) → u ≡ nothingStage (part bs s t) t → Came bs s u (nothingStage (rest s x bs) x)
+  then-nothing u e = further nothingStage nothing-onward u e
 
-  -- and the sketch that the second stream's packets leave
+  -- and the sketch that the downstream packets leave
   pub then-sketch : (P : Params) (S S' : Sketch) → S' ≡ packetsSketch true P (part bs s t) S t → S' ≡ packetsSketch true P (rest s x bs) S x
   then-sketch P S S' e = e ∙ ap (λ xs. packetsSketch true P xs S t) (part-rest bs s t) ∙ ap (λ v. packetsSketch true P (rest s v bs) S v) (h .same)
 

@@ -9,12 +9,12 @@ use Rattle.params.specs.declared.params.Params.{Params}
 use Rattle.sketch.specs.Sketch.{Sketch}
 use Rattle.desk.specs.declared.states.State.{State}
 use Rattle.desk.specs.declared.states.Fed.{Fed}
-use Rattle.desk.specs.Desk.{packetsSketch, rest, inReach, firstPackets, firstEnd, secondHead, secondPackets, secondEnd, fedState, Feeds}
-use Rattle.desk.proofs.Reach.{reached, in-reach}
-use Rattle.desk.proofs.Onward.{Onward, packets-onward, end-onward, head-onward, over-onward, onward-then}
+use Rattle.desk.specs.Desk.{packetsSketch, rest, offsetsFit, upstreamTaken, upstreamEnded, downstreamHeaded, downstreamTaken, downstreamEnded, fedState, Feeds}
+use Rattle.desk.proofs.OffsetsFit.{bounded, offsets-fit}
+use Rattle.desk.proofs.Onward.{Onward, packets-onward, end-onward, head-onward, nothing-onward, onward-then}
 use Rattle.desk.proofs.OneRecord.{Moment, waits}
 use Rattle.desk.proofs.Reaching.{Reaches, then, one-end, with-more, rest-rest}
-use Rattle.desk.proofs.StagesReach.{end-reach, head-reach, over-reach}
+use Rattle.desk.proofs.StagesReach.{end-reach, head-reach, nothing-reach}
 use Rattle.desk.proofs.PacketsReach.{packets-reach}
 use Rattle.desk.proofs.AtRest.{fed-waits}
 
@@ -24,19 +24,19 @@ moment s up down = record { state = s; up = up; down = down }
 -- feeding comes to its state and its sketches record by record; the states after each stage
 module _ (P : Params) (bs : List ℕ) (up down : Sketch) (s : State) where
   abbrev first-packets : State
-  first-packets = firstPackets P bs up down s
+  first-packets = upstreamTaken P bs up down s
 
   abbrev first-end : State
-  first-end = firstEnd P bs up down s
+  first-end = upstreamEnded P bs up down s
 
   abbrev headed : State
-  headed = secondHead P bs up down s
+  headed = downstreamHeaded P bs up down s
 
   abbrev second-packets : State
-  second-packets = secondPackets P bs up down s
+  second-packets = downstreamTaken P bs up down s
 
   abbrev second-end : State
-  second-end = secondEnd P bs up down s
+  second-end = downstreamEnded P bs up down s
 
   abbrev last : State
   last = fedState P bs up down s
@@ -59,7 +59,7 @@ module _ (P : Params) (bs : List ℕ) (up down : Sketch) (s : State) where
       let after-headed = further first-end headed _ _ (after-first-end .0) (head-onward P (rest s first-end bs) first-end) (after-first-end .1) (head-reach P (rest s first-end bs) (moment first-end up-left down)) in
       let after-second-packets = further headed second-packets _ _ (after-headed .0) (packets-onward true P (rest s headed bs) down headed) (after-headed .1) (packets-reach P true (rest s headed bs) (moment headed up-left down)) in
       let after-second-end = further second-packets second-end _ _ (after-second-packets .0) (end-onward (rest s second-packets bs) second-packets) (after-second-packets .1) (end-reach P (rest s second-packets bs) (moment second-packets up-left down-left)) in
-      further second-end last _ _ (after-second-end .0) (over-onward (rest s second-end bs) second-end) (after-second-end .1) (over-reach P (rest s second-end bs) (moment second-end up-left down-left))
+      further second-end last _ _ (after-second-end .0) (nothing-onward (rest s second-end bs) second-end) (after-second-end .1) (nothing-reach P (rest s second-end bs) (moment second-end up-left down-left))
 
 -- what feeding comes to: from s to t, where more bytes are waited for
 record Fully (P : Params) (bs : List ℕ) (up down : Sketch) (s t : State) (up' down' : Sketch) : Type 0 where
@@ -70,34 +70,34 @@ record Fully (P : Params) (bs : List ℕ) (up down : Sketch) (s t : State) (up' 
 all-fed : (P : Params) (bs : List ℕ) (up down : Sketch) (s : State) → Fully P bs up down s (last P bs up down s) (up-left P bs up down s) (down-left P bs up down s)
 all-fed P bs up down s = let h = fed-reach P bs up down s in record { onward = h .0; come = h .1; waited = fed-waits P bs up down s }
 
-fully : {P : Params} {bs : List ℕ} {up down : Sketch} {s : State} {r : Fed} {up' down' : Sketch} → inReach bs s ≡ true → Feeds P bs up down s r up' down'
+fully : {P : Params} {bs : List ℕ} {up down : Sketch} {s : State} {r : Fed} {up' down' : Sketch} → offsetsFit bs s ≡ true → Feeds P bs up down s r up' down'
     → Fully P bs up down s (r .state) up' down'
 fully {P} {bs} {up} {down} {s} near fed =
     rw (rw near at (fed .state), rw near at (fed .upstream), rw near at (fed .downstream)) (all-fed P bs up down s)
 
 -- no more bytes are used than are at hand
-pub used-within : {P : Params} {bs : List ℕ} {up down : Sketch} {s : State} {r : Fed} {up' down' : Sketch} → inReach bs s ≡ true → Feeds P bs up down s r up' down'
+pub used-within : {P : Params} {bs : List ℕ} {up down : Sketch} {s : State} {r : Fed} {up' down' : Sketch} → offsetsFit bs s ≡ true → Feeds P bs up down s r up' down'
     → r .used ≤ length bs
 used-within near fed = omega (arith, fully near fed .onward, fed .used)
 
 -- and of those that are left more are waited for, if the input is not refused
-pub fed-waiting : {P : Params} {bs : List ℕ} {up down : Sketch} {s : State} {r : Fed} {up' down' : Sketch} → inReach bs s ≡ true → Feeds P bs up down s r up' down'
+pub fed-waiting : {P : Params} {bs : List ℕ} {up down : Sketch} {s : State} {r : Fed} {up' down' : Sketch} → offsetsFit bs s ≡ true → Feeds P bs up down s r up' down'
     → waits (drop (r .used) bs) (r .state) ≡ true
 fed-waiting {bs = bs} {r = r} near fed = rw (fed .used) (fully near fed .waited)
 
 -- xs are fed, and then what they leave, with ys behind
-module _ {P : Params} {xs : List ℕ} {up down : Sketch} {s : State} {r : Fed} {up₁ down₁ : Sketch} (ys : List ℕ) (near : inReach (xs ++ ys) s ≡ true)
+module _ {P : Params} {xs : List ℕ} {up down : Sketch} {s : State} {r : Fed} {up₁ down₁ : Sketch} (ys : List ℕ) (near : offsetsFit (xs ++ ys) s ≡ true)
     (one : Feeds P xs up down s r up₁ down₁) where
   abbrev behind : List ℕ
   behind = drop (r .used) xs ++ ys
 
   first-fully : Fully P xs up down s (r .state) up₁ down₁
-  first-fully = let h = reached (xs ++ ys) s near in fully (in-reach xs s (omega (arith, length-append xs ys))) one
+  first-fully = let h = bounded (xs ++ ys) s near in fully (offsets-fit xs s (omega (arith, length-append xs ys))) one
 
-  second-near : inReach behind (r .state) ≡ true
+  second-near : offsetsFit behind (r .state) ≡ true
   second-near =
-      let h = reached (xs ++ ys) s near in
-      in-reach behind (r .state)
+      let h = bounded (xs ++ ys) s near in
+      offsets-fit behind (r .state)
       (omega (arith, first-fully .onward, one .used, length-append xs ys, length-append (drop (r .used) xs) ys, length-drop (r .used) xs))
 
   -- that is feeding xs ++ ys: the state and the sketches are the same, and so many bytes were used in all

@@ -21,9 +21,10 @@ use Rattle.sketch.proofs.Tables.{from-same}
 use Rattle.params.proofs.Judging.{first-passed, refuse-none, refuse-done}
 use Rattle.sketch.proofs.ManyPackets.{after-end}
 use Rattle.files.specs.Bytes.{word}
-use Rattle.files.specs.Records.{bodyLength, recordAt, isKind, placeOf}
-use Rattle.files.specs.Heads.{paramsIn, isHead, openingAnswer}
+use Rattle.files.specs.Records.{bodyLength, recordAt, isKind, placeOf, packetsKind, endKind, headLength, packetsLength, endLength}
+use Rattle.files.specs.Heads.{paramsIn, isHead, parametersAnswer}
 use Rattle.files.specs.Turns.{atOffset, packetFrom, packetPlace, endAnswer}
+use Rattle.files.specs.Fields.{flowField, numberField, recordsField}
 use Rattle.files.proofs.EndStages.{ended}
 use Rattle.files.proofs.RecordTrips.{record-whole, not-kind}
 use Rattle.files.proofs.Turning.{records-are}
@@ -32,7 +33,7 @@ use Rattle.files.proofs.Turning.{whole-within, in-turn-done}
 use Rattle.streamfile.specs.Streams.{packetsFrom, flowFrom, numberFrom, flowsFrom, numbersFrom, packetsIn, flowsIn, numbersIn, packetJudged, packetsJudged, streamAnswer, StreamRead}
 use Rattle.streamfile.proofs.Accepting.{StreamDone, stream-done}
 use Rattle.streamfile.proofs.Found.{length-flows, length-numbers, flow-is, number-is}
-use Rattle.desk.specs.Desk.{packetTold, taken, takenAnswer, afterTaken}
+use Rattle.desk.specs.Desk.{packetAnswer, taken, takenAnswer, afterTaken}
 use Rattle.desk.proofs.Taking.{AllTaken, all-taken, none-refused}
 
 -- a fresh sketch has the right lengths and no damage
@@ -47,68 +48,66 @@ module _ (P : Params) where
 
 -- an end that is accepted
 pub record EndSaid (bs : List ℕ) (at n : ℕ) : Type 0 where
-  pub kind : isKind 4 (recordAt bs at) ≡ true
-  pub said : word bs (at + 1) ≡ n
-  pub last : length bs ≤ at + 5
+  pub kind : isKind endKind (recordAt bs at) ≡ true
+  pub said : word bs (at + recordsField) ≡ n
+  pub last : length bs ≤ at + endLength
 
 pub end-said-done : (bs : List ℕ) (at n : ℕ) → endAnswer bs at n ≡ Done → EndSaid bs at n
 unfolding endAnswer
 end-said-done bs at n e =
-    let h = refuse-done (not (isKind 4 (recordAt bs at))) Form (placeOf bs at) _ e in
-    let k = refuse-done (not (eqb (word bs (at + 1)) n)) Form at _ (h .1) in
-    let l = refuse-done (ltb (at + 5) (length bs)) Form (at + 5) Done (k .1) in
+    let h = refuse-done (not (isKind endKind (recordAt bs at))) Form (placeOf bs at) _ e in
+    let k = refuse-done (not (eqb (word bs (at + recordsField)) n)) Form at _ (h .1) in
+    let l = refuse-done (ltb (at + endLength) (length bs)) Form (at + endLength) Done (k .1) in
     record { kind = not-false _ (h .0); said = eqb-true _ _ (not-false _ (k .0)); last = ltb-false _ _ (l .0) }
 
 -- the file fs is a head, n packets and an end, and what stands after the head is what stands in xs
-module _ (P : Params) (fs xs : List ℕ) (n : ℕ) (long : length fs ≡ 38 + (9 * n + 5)) (room : 9 * n + 5 ≤ length xs)
-    (same : (j : ℕ) → j < 9 * n + 5 → getD fs (38 + j) 0 ≡ getD xs j 0) where
-  word-same : (at j : ℕ) → at ≡ 38 + j → j + 4 ≤ 9 * n + 5 → word fs at ≡ word xs j
+module _ (P : Params) (fs xs : List ℕ) (n : ℕ) (long : length fs ≡ headLength + (packetsLength * n + endLength)) (room : packetsLength * n + endLength ≤ length xs)
+    (same : (j : ℕ) → j < packetsLength * n + endLength → getD fs (headLength + j) 0 ≡ getD xs j 0) where
+  word-same : (at j : ℕ) → at ≡ headLength + j → j + 4 ≤ packetsLength * n + endLength → word fs at ≡ word xs j
   unfolding word
   word-same at j e h =
       let byte : (i : ℕ) → i < 4 → getD fs (at + i) 0 ≡ getD xs (j + i) 0 = λ i l. ap (λ (k : ℕ). getD fs k 0) (omega arith) ∙ same (j + i) (omega arith) in
       let first : getD fs at 0 ≡ getD xs j 0 = ap (λ (k : ℕ). getD fs k 0) e ∙ same j (omega arith) in
       rw (first, byte 1 (omega arith), byte 2 (omega arith), byte 3 (omega arith))
 
-  whole-same : (kind at j : ℕ) → at ≡ 38 + j → 0 < bodyLength kind → j + 1 + bodyLength kind ≤ 9 * n + 5 → isKind kind (recordAt xs j) ≡ true → isKind kind (recordAt fs at) ≡ true
+  whole-same : (kind at j : ℕ) → at ≡ headLength + j → 0 < bodyLength kind → j + 1 + bodyLength kind ≤ packetsLength * n + endLength → isKind kind (recordAt xs j) ≡ true → isKind kind (recordAt fs at) ≡ true
   whole-same kind at j e p h w =
       record-whole fs at kind (ap (λ (k : ℕ). getD fs k 0) e ∙ same j (omega arith) ∙ whole-record xs j kind w .0) p (omega (arith, long))
 
   -- xs has n packets at hand and then an end
-  module _ (number : packetsFrom 0 xs ≡ n) (end : isKind 4 (recordAt xs (9 * n)) ≡ true) (said : word xs (9 * n + 1) ≡ n) where
-    end-same : isKind 4 (recordAt fs (packetPlace n)) ≡ true
-    unfolding bodyLength
-    end-same = whole-same 4 (packetPlace n) (9 * n) refl (omega arith) (omega arith) end
+  module _ (number : packetsFrom 0 xs ≡ n) (end : isKind endKind (recordAt xs (packetsLength * n)) ≡ true) (said : word xs (packetsLength * n + recordsField) ≡ n) where
+    end-same : isKind endKind (recordAt fs (packetPlace n)) ≡ true
+    end-same = whole-same endKind (packetPlace n) (packetsLength * n) refl (omega arith) (omega arith) end
 
     number-same : packetsIn fs ≡ n
-    unfolding bodyLength
     number-same =
-        records-are 2 packetPlace fs n (omega arith)
-        (λ k l. whole-same 2 (packetPlace k) (packetFrom 0 k) (omega arith) (omega arith) (omega arith) (whole-within 2 (packetFrom 0) xs k (omega arith)))
-        (not-kind fs (packetPlace n) 2 (λ e. omega (arith, whole-record fs (packetPlace n) 4 end-same .0)))
+        records-are packetsKind packetPlace fs n (omega arith)
+        (λ k l. whole-same packetsKind (packetPlace k) (packetFrom 0 k) (omega arith) (omega arith) (omega arith) (whole-within packetsKind (packetFrom 0) xs k (omega arith)))
+        (not-kind fs (packetPlace n) packetsKind (λ e. omega (arith, whole-record fs (packetPlace n) endKind end-same .0)))
 
-    flow-same : (k : ℕ) → k < n → flowFrom 38 fs k ≡ flowFrom 0 xs k
-    flow-same k l = word-same (packetPlace k + 1) (packetFrom 0 k + 1) (omega arith) (omega arith)
+    flow-same : (k : ℕ) → k < n → flowFrom headLength fs k ≡ flowFrom 0 xs k
+    flow-same k l = word-same (packetPlace k + flowField) (packetFrom 0 k + flowField) (omega arith) (omega arith)
 
-    packets-same : (k : ℕ) → k < n → numberFrom 38 fs k ≡ numberFrom 0 xs k
-    packets-same k l = word-same (packetPlace k + 5) (packetFrom 0 k + 5) (omega arith) (omega arith)
+    packets-same : (k : ℕ) → k < n → numberFrom headLength fs k ≡ numberFrom 0 xs k
+    packets-same k l = word-same (packetPlace k + numberField) (packetFrom 0 k + numberField) (omega arith) (omega arith)
 
     flows-same : flowsIn fs ≡ flowsFrom 0 xs
     unfolding flowsFrom
     flows-same =
-        ap (λ (m : ℕ). from 0 m (flowFrom 38 fs)) number-same
-        ∙ from-same 0 n (flowFrom 38 fs) (flowFrom 0 xs) (λ j a b. flow-same j (omega arith))
+        ap (λ (m : ℕ). from 0 m (flowFrom headLength fs)) number-same
+        ∙ from-same 0 n (flowFrom headLength fs) (flowFrom 0 xs) (λ j a b. flow-same j (omega arith))
         ∙ ap (λ (m : ℕ). from 0 m (flowFrom 0 xs)) (sym number)
 
     numbers-same : numbersIn fs ≡ numbersFrom 0 xs
     unfolding numbersFrom
     numbers-same =
-        ap (λ (m : ℕ). from 0 m (numberFrom 38 fs)) number-same
-        ∙ from-same 0 n (numberFrom 38 fs) (numberFrom 0 xs) (λ j a b. packets-same j (omega arith))
+        ap (λ (m : ℕ). from 0 m (numberFrom headLength fs)) number-same
+        ∙ from-same 0 n (numberFrom headLength fs) (numberFrom 0 xs) (λ j a b. packets-same j (omega arith))
         ∙ ap (λ (m : ℕ). from 0 m (numberFrom 0 xs)) (sym number)
 
     module _ (S : Sketch) (done : AllTaken P xs S) where
       judged-done : (k : ℕ) → k < n → packetJudged P fs S k ≡ Done
-      unfolding packetJudged atOffset packetTold
+      unfolding packetJudged atOffset packetAnswer
       judged-done k l = rw (flow-same k l, packets-same k l, flows-same, numbers-same, done .each k (omega arith))
 
       records-done : packetsJudged P fs S ≡ Done
@@ -116,7 +115,7 @@ module _ (P : Params) (fs xs : List ℕ) (n : ℕ) (long : length fs ≡ 38 + (9
       records-done =
           first-passed _ _ (in-turn-done (packetsIn fs) (packetJudged P fs S) (λ j l. judged-done j (omega (arith, number-same))))
           ∙ ap (λ (m : ℕ). endAnswer fs (packetPlace m) m) number-same
-          ∙ sym (ended fs (packetPlace n) n end-same (word-same (packetPlace n + 1) (9 * n + 1) (omega arith) (omega arith) ∙ said) (omega arith))
+          ∙ sym (ended fs (packetPlace n) n end-same (word-same (packetPlace n + recordsField) (packetsLength * n + recordsField) (omega arith) (omega arith) ∙ said) (omega arith))
 
       all-same : afterTaken P xs S ≡ after P (flowsIn fs) (numbersIn fs) S
       unfolding afterTaken
@@ -127,17 +126,17 @@ module _ (P : Params) (fs xs : List ℕ) (n : ℕ) (long : length fs ≡ 38 + (9
     -- so a head with the given parameters makes fs a stream that is read into a fresh sketch
     pub fed-is-read : isHead (recordAt fs 0) ≡ true → goodParams P ≡ true → goodParams (paramsIn fs) ≡ true → sameParams P (paramsIn fs) ≡ true
         → takenAnswer P xs (zeros P) ≡ Done → StreamRead P fs (zeros P) Done (afterTaken P xs (zeros P))
-    unfolding streamAnswer openingAnswer kept
+    unfolding streamAnswer parametersAnswer kept
     fed-is-read head good goods alike done =
         let all = all-taken P xs (zeros P) done in
-        let opened : openingAnswer P fs (length (zeros P .counts)) (length (zeros P .idsums)) ≡ Done = rw (head, goods, good, alike) (fresh-lengths P) in
+        let right : parametersAnswer P fs ≡ Done = rw (head, goods, good, alike) in
         record {
-          answer = sym (first-passed _ _ opened ∙ refuse-none (size P) (damagedAt (zeros P)) Damage _ (fresh-sound P) ∙ records-done (zeros P) all);
+          answer = sym (first-passed _ _ right ∙ first-passed _ _ (fresh-lengths P) ∙ refuse-none (size P) (damagedAt (zeros P)) Damage _ (fresh-sound P) ∙ records-done (zeros P) all);
           after-all = all-same (zeros P) all;
         }
 
   -- the other way: the stream's reader accepts fs
-  whole-back : (kind at j : ℕ) → at ≡ 38 + j → 0 < bodyLength kind → j + 1 + bodyLength kind ≤ 9 * n + 5 → isKind kind (recordAt fs at) ≡ true → isKind kind (recordAt xs j) ≡ true
+  whole-back : (kind at j : ℕ) → at ≡ headLength + j → 0 < bodyLength kind → j + 1 + bodyLength kind ≤ packetsLength * n + endLength → isKind kind (recordAt fs at) ≡ true → isKind kind (recordAt xs j) ≡ true
   whole-back kind at j e p h w =
       record-whole xs j kind (sym (same j (omega arith)) ∙ ap (λ (k : ℕ). getD fs k 0) (sym e) ∙ whole-record fs at kind w .0) p (omega arith)
 
@@ -148,28 +147,26 @@ module _ (P : Params) (fs xs : List ℕ) (n : ℕ) (long : length fs ≡ 38 + (9
     said-so : EndSaid fs (packetPlace n) n
     said-so = end-said-done fs (packetPlace n) n (ap (λ (k : ℕ). endAnswer fs (packetPlace k) k) (sym are) ∙ done .ended)
 
-    pub end-back : isKind 4 (recordAt xs (9 * n)) ≡ true
-    unfolding bodyLength
-    end-back = whole-back 4 (packetPlace n) (9 * n) refl (omega arith) (omega arith) (said-so .kind)
+    pub end-back : isKind endKind (recordAt xs (packetsLength * n)) ≡ true
+    end-back = whole-back endKind (packetPlace n) (packetsLength * n) refl (omega arith) (omega arith) (said-so .kind)
 
-    pub said-back : word xs (9 * n + 1) ≡ n
-    said-back = sym (word-same (packetPlace n + 1) (9 * n + 1) (omega arith) (omega arith)) ∙ said-so .said
+    pub said-back : word xs (packetsLength * n + recordsField) ≡ n
+    said-back = sym (word-same (packetPlace n + recordsField) (packetsLength * n + recordsField) (omega arith) (omega arith)) ∙ said-so .said
 
     number-back : packetsFrom 0 xs ≡ n
-    unfolding bodyLength
     number-back =
-        records-are 2 (packetFrom 0) xs n (omega arith)
-        (λ k l. whole-back 2 (packetPlace k) (packetFrom 0 k) (omega arith) (omega arith) (omega arith) (whole-within 2 packetPlace fs k (omega (arith, are))))
-        (not-kind xs (packetFrom 0 n) 2 (λ e. let two : getD xs (9 * n) 0 ≡ 2 = ap (λ (k : ℕ). getD xs k 0) (omega arith) ∙ e in omega (arith, two, whole-record xs (9 * n) 4 end-back .0)))
+        records-are packetsKind (packetFrom 0) xs n (omega arith)
+        (λ k l. whole-back packetsKind (packetPlace k) (packetFrom 0 k) (omega arith) (omega arith) (omega arith) (whole-within packetsKind packetPlace fs k (omega (arith, are))))
+        (not-kind xs (packetFrom 0 n) packetsKind (λ e. let two : getD xs (packetsLength * n) 0 ≡ packetsKind = ap (λ (k : ℕ). getD xs k 0) (omega arith) ∙ e in omega (arith, two, whole-record xs (packetsLength * n) endKind end-back .0)))
 
-    each-told : (k : ℕ) → k < packetsFrom 0 xs → packetTold P xs (zeros P) k ≡ Done
-    unfolding packetTold
-    each-told k l =
+    each-accepted : (k : ℕ) → k < packetsFrom 0 xs → packetAnswer P xs (zeros P) k ≡ Done
+    unfolding packetAnswer
+    each-accepted k l =
         rw (flow-is 0 xs k l, number-is 0 xs k l, ← flows-same number-back end-back said-back, ← numbers-same number-back end-back said-back)
         (done .accepted k (omega (arith, are, number-back)))
 
     pub all-back : (taken P xs (zeros P) ≡ n) × (takenAnswer P xs (zeros P) ≡ Done)
-    all-back = let h = none-refused P xs (zeros P) each-told in (h .0 ∙ number-back, h .1)
+    all-back = let h = none-refused P xs (zeros P) each-accepted in (h .0 ∙ number-back, h .1)
 
     pub sketch-back : afterTaken P xs (zeros P) ≡ S
     unfolding kept

@@ -12,35 +12,32 @@ use Rattle.params.specs.declared.params.Params.{Params}
 use Rattle.files.specs.declared.fields.End.{End}
 use Rattle.files.specs.declared.fields.End.the-variants.{Of as EndOf}
 use Rattle.files.specs.Bytes.{word}
-use Rattle.files.specs.Records.{recordAt, isKind}
+use Rattle.files.specs.Records.{recordAt, isKind, headKind, packetsKind, endKind}
 use Rattle.files.specs.Layout.{endAt}
+use Rattle.files.specs.Fields.{recordsField}
 use Rattle.files.proofs.fields.End.{the-type as end-type}
 use Rattle.desk.specs.declared.states.Stage.{Stage}
-use Rattle.desk.specs.declared.states.Stage.the-variants.{Packets, Head, Over, Refused as Stopped}
+use Rattle.desk.specs.declared.states.Stage.the-variants.{UpstreamPackets, DownstreamHead, DownstreamPackets, Nothing, Refused as Stopped}
 use Rattle.desk.specs.declared.states.State.{State}
 use Rattle.desk.specs.declared.stages.Due.{Due}
 use Rattle.desk.specs.declared.stages.Due.the-variants.{Here, NotYet, Other}
-use Rattle.desk.specs.Desk.{packetsDue, headDue, overDue, dueOf, dueEnd, endState, endStage, headState, headStage}
+use Rattle.desk.specs.Desk.{packetsDue, headDue, nothingDue, dueOf, dueEnd, endState, endStage, headState, headStage}
 use Rattle.desk.proofs.states.Stage.{the-type}
 
 -- another stage than the one that a `let .. else` asks for
-pub not-packets : (g : Stage) → OneOf (1 ∷ 2 ∷ 3 ∷ []) (tagOf the-type g) → packetsDue g ≡ false
-not-packets Packets h = absurd (miss (1 ∷ 2 ∷ 3 ∷ []) 0 tt h)
-not-packets Head h = refl
-not-packets Over h = refl
-not-packets (Stopped w) h = refl
-
-pub not-head : (g : Stage) → OneOf (0 ∷ 2 ∷ 3 ∷ []) (tagOf the-type g) → headDue g ≡ false
-not-head Packets h = refl
-not-head Head h = absurd (miss (0 ∷ 2 ∷ 3 ∷ []) 1 tt h)
-not-head Over h = refl
+pub not-head : (g : Stage) → OneOf (0 ∷ 2 ∷ 3 ∷ 4 ∷ []) (tagOf the-type g) → headDue g ≡ false
+not-head UpstreamPackets h = refl
+not-head DownstreamHead h = absurd (miss (0 ∷ 2 ∷ 3 ∷ 4 ∷ []) 1 tt h)
+not-head DownstreamPackets h = refl
+not-head Nothing h = refl
 not-head (Stopped w) h = refl
 
-pub not-over : (g : Stage) → OneOf (0 ∷ 1 ∷ 3 ∷ []) (tagOf the-type g) → overDue g ≡ false
-not-over Packets h = refl
-not-over Head h = refl
-not-over Over h = absurd (miss (0 ∷ 1 ∷ 3 ∷ []) 2 tt h)
-not-over (Stopped w) h = refl
+pub not-nothing : (g : Stage) → OneOf (0 ∷ 1 ∷ 2 ∷ 4 ∷ []) (tagOf the-type g) → nothingDue g ≡ false
+not-nothing UpstreamPackets h = refl
+not-nothing DownstreamHead h = refl
+not-nothing DownstreamPackets h = refl
+not-nothing Nothing h = absurd (miss (0 ∷ 1 ∷ 2 ∷ 4 ∷ []) 3 tt h)
+not-nothing (Stopped w) h = refl
 
 -- a record that was found to be there is whole
 pub here-whole : (kind : ℕ) (bs : List ℕ) → dueOf kind bs ≡ Here → isKind kind (recordAt bs 0) ≡ true
@@ -53,28 +50,28 @@ here-whole kind bs e = at (leb (length bs) 0) (isKind kind (recordAt bs 0)) (eqb
     at false false true q h = absurd (let w : _≡_ {A = ℕ} 0 1 = cc in omega arith)
     at false false false q h = absurd (let w : _≡_ {A = ℕ} 0 1 = cc in omega arith)
 
-pub end-whole : (bs : List ℕ) → dueEnd bs ≡ Here → isKind 4 (recordAt bs 0) ≡ true
+pub end-whole : (bs : List ℕ) → dueEnd bs ≡ Here → isKind endKind (recordAt bs 0) ≡ true
 unfolding dueEnd
-end-whole bs e = at (not (leb (length bs) 0) && eqb (getD bs 0 0) 2) e
+end-whole bs e = at (not (leb (length bs) 0) && eqb (getD bs 0 0) packetsKind) e
   where
-    at : (b : Bool) → cond b NotYet (dueOf 4 bs) ≡ Here → isKind 4 (recordAt bs 0) ≡ true
+    at : (b : Bool) → cond b NotYet (dueOf endKind bs) ≡ Here → isKind endKind (recordAt bs 0) ≡ true
     at true h = absurd (let w : _≡_ {A = ℕ} 0 1 = cc in omega arith)
-    at false h = here-whole 4 bs h
+    at false h = here-whole endKind bs h
 
 -- what a reader finds of an end that is whole
-pub end-said : (bs : List ℕ) (n : ℕ) → isKind 4 (recordAt bs 0) ≡ true → endAt bs 0 ≡ EndOf n → n ≡ word bs 1
+pub end-said : (bs : List ℕ) (n : ℕ) → isKind endKind (recordAt bs 0) ≡ true → endAt bs 0 ≡ EndOf n → n ≡ word bs recordsField
 unfolding endAt
-end-said bs n w e = let said : EndOf (word bs 1) ≡ EndOf n = rw w at e in cc
+end-said bs n w e = let said : EndOf (word bs recordsField) ≡ EndOf n = rw w at e in cc
 
-pub end-not-said : (bs : List ℕ) {r : End} → isKind 4 (recordAt bs 0) ≡ true → r ≡ endAt bs 0 → OneOf (1 ∷ []) (tagOf end-type r) → ⊥
+pub end-not-said : (bs : List ℕ) {r : End} → isKind endKind (recordAt bs 0) ≡ true → r ≡ endAt bs 0 → OneOf (1 ∷ []) (tagOf end-type r) → ⊥
 unfolding endAt
-end-not-said bs {r} w e h = let said : r ≡ EndOf (word bs 1) = rw w at e in miss (1 ∷ []) 0 tt (rw said at h)
+end-not-said bs {r} w e h = let said : r ≡ EndOf (word bs recordsField) = rw w at e in miss (1 ∷ []) 0 tt (rw said at h)
 
 -- where packets, or a head, are due, what stands there decides
-pub end-decides : (bs : List ℕ) (s t : State) (d : Due) → s .stage ≡ Packets → d ≡ dueEnd bs → t ≡ endState d bs s → t ≡ endStage bs s
+pub end-decides : (bs : List ℕ) (s t : State) (d : Due) → packetsDue (s .stage) ≡ true → d ≡ dueEnd bs → t ≡ endState d bs s → t ≡ endStage bs s
 unfolding endStage
 end-decides bs s t d e q h = h ∙ rw (e, q)
 
-pub head-decides : (P : Params) (bs : List ℕ) (s t : State) (d : Due) → s .stage ≡ Head → d ≡ dueOf 1 bs → t ≡ headState d P bs s → t ≡ headStage P bs s
+pub head-decides : (P : Params) (bs : List ℕ) (s t : State) (d : Due) → s .stage ≡ DownstreamHead → d ≡ dueOf headKind bs → t ≡ headState d P bs s → t ≡ headStage P bs s
 unfolding headStage
 head-decides P bs s t d e q h = h ∙ rw (e, q)

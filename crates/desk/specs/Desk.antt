@@ -1,6 +1,6 @@
 -- Records of an upstream stream and, directly after it, of a downstream one, as they come.
 use mathlib.Core.Path.{_≡_}
-use mathlib.Core.Bool.{Bool, true, false, not, cond, _&&_, Bool·beq}
+use mathlib.Core.Bool.{Bool, true, false, not, cond, _&&_}
 use mathlib.Core.List.{List}
 use Prim.Native.Nat.{ℕ, _+_, _-_, _*_}
 use lib.Dec.{eqb, ltb, leb}
@@ -17,19 +17,24 @@ use Rattle.sketch.specs.Sketch.{Sketch}
 use Rattle.sketch.specs.Packets.{stepAnswer, after}
 use Rattle.files.specs.declared.heads.Headed.{Headed}
 use Rattle.files.specs.Bytes.{word}
-use Rattle.files.specs.Records.{recordAt, isKind}
+use Rattle.files.specs.Records.{recordAt, isKind, headKind, packetsKind, endKind, headLength, packetsLength, endLength}
 use Rattle.files.specs.Heads.{paramsIn, headAnswer, noParams}
+use Rattle.files.specs.Fields.{recordsField}
 use Rattle.streamfile.specs.Streams.{packetsFrom, flowFrom, numberFrom, flowsFrom, numbersFrom}
 use Rattle.desk.specs.declared.states.Stage.{Stage}
-use Rattle.desk.specs.declared.states.Stage.the-variants.{Packets, Head, Over, Refused as Stopped}
+use Rattle.desk.specs.declared.states.Stage.the-variants.{UpstreamPackets, DownstreamHead, DownstreamPackets, Nothing, Refused as Stopped}
 use Rattle.desk.specs.declared.states.State.{State}
 use Rattle.desk.specs.declared.stages.Due.{Due}
 use Rattle.desk.specs.declared.stages.Due.the-variants.{Here, NotYet, Other}
 use Rattle.desk.specs.declared.states.Fed.{Fed}
 
--- the first head of the input: as that of any file, and of at most 1536 buckets
+-- a desk takes sketches of at most so many buckets
+abbrev pub mostBuckets : ℕ
+mostBuckets = 1536
+
+-- the first head of the input: as that of any file, and of few enough buckets
 unfoldable pub fewEnough : Params → Bool
-fewEnough P = leb (size P) 1536
+fewEnough P = leb (size P) mostBuckets
 
 unfoldable pub beginAnswer : List ℕ → Answer
 beginAnswer bs = first (headAnswer bs) (refuseIf (not (fewEnough (paramsIn bs))) Param 0 Done)
@@ -37,70 +42,84 @@ beginAnswer bs = first (headAnswer bs) (refuseIf (not (fewEnough (paramsIn bs)))
 abbrev pub beginOf : List ℕ → Headed
 beginOf bs = record { answer = beginAnswer bs; params = kept (beginAnswer bs) noParams (paramsIn bs) }
 
--- A state says what is due next, in which stream, at which offset of the whole input, and how many records stood since the head.
+-- A state says what is due next, at which offset of the whole input, and how many records stood since the head.
 -- Below, bs are the bytes at hand: the first of them is the one at that offset.
 
 -- after the first head
 abbrev pub started : State
-started = record { stage = Packets; second = false; at = 38; records = 0 }
+started = record { stage = UpstreamPackets; at = headLength; records = 0 }
 
 -- refused for what stands next
 abbrev pub stopped : Refusal → State → State
-stopped w s = record { stage = Stopped w; second = s .second; at = s .at; records = s .records }
+stopped w s = record { stage = Stopped w; at = s .at; records = s .records }
 
--- packets of this stream, a head, or nothing more are due
+-- packets of the downstream stream, or of the upstream one, are due; packets of either; a head; nothing more
+abbrev pub isDue : Bool → Stage → Bool
+isDue downstream UpstreamPackets = not downstream
+isDue downstream DownstreamHead = false
+isDue downstream DownstreamPackets = downstream
+isDue downstream Nothing = false
+isDue downstream (Stopped w) = false
+
 abbrev pub packetsDue : Stage → Bool
-packetsDue Packets = true
-packetsDue Head = false
-packetsDue Over = false
+packetsDue UpstreamPackets = true
+packetsDue DownstreamHead = false
+packetsDue DownstreamPackets = true
+packetsDue Nothing = false
 packetsDue (Stopped w) = false
 
 abbrev pub headDue : Stage → Bool
-headDue Packets = false
-headDue Head = true
-headDue Over = false
+headDue UpstreamPackets = false
+headDue DownstreamHead = true
+headDue DownstreamPackets = false
+headDue Nothing = false
 headDue (Stopped w) = false
 
-abbrev pub overDue : Stage → Bool
-overDue Packets = false
-overDue Head = false
-overDue Over = true
-overDue (Stopped w) = false
+abbrev pub nothingDue : Stage → Bool
+nothingDue UpstreamPackets = false
+nothingDue DownstreamHead = false
+nothingDue DownstreamPackets = false
+nothingDue Nothing = true
+nothingDue (Stopped w) = false
 
--- what is due after packets with this answer
-unfoldable pub stageAfter : Answer → Stage
-stageAfter Done = Packets
-stageAfter (Refused w k) = Stopped w
+-- what is due after packets with this answer: still packets or an end, unless one was refused
+unfoldable pub stageAfter : Stage → Answer → Stage
+stageAfter g Done = g
+stageAfter g (Refused w k) = Stopped w
+
+-- what is due after the end of a stream
+abbrev pub afterEnd : Stage → Stage
+afterEnd UpstreamPackets = DownstreamHead
+afterEnd DownstreamHead = DownstreamHead
+afterEnd DownstreamPackets = Nothing
+afterEnd Nothing = Nothing
+afterEnd (Stopped w) = Stopped w
 
 abbrev pub refuses : Answer → Bool
 refuses Done = false
 refuses (Refused w k) = true
 
 -- the answer for the k-th of the packet records at hand, which goes into the sketch that those before it left
-unfoldable pub packetTold : Params → List ℕ → Sketch → ℕ → Answer
-packetTold P bs S k =
+unfoldable pub packetAnswer : Params → List ℕ → Sketch → ℕ → Answer
+packetAnswer P bs S k =
     stepAnswer P false (flowFrom 0 bs k) (numberFrom 0 bs k) (after P (take k (flowsFrom 0 bs)) (take k (numbersFrom 0 bs)) S)
 
 -- how many of them are accepted, up to the first that is refused; and that one's answer
 unfoldable pub taken : Params → List ℕ → Sketch → ℕ
-taken P bs S = least 0 (packetsFrom 0 bs) (λ k. refuses (packetTold P bs S k))
+taken P bs S = least 0 (packetsFrom 0 bs) (λ k. refuses (packetAnswer P bs S k))
 
 unfoldable pub takenAnswer : Params → List ℕ → Sketch → Answer
-takenAnswer P bs S = cond (ltb (taken P bs S) (packetsFrom 0 bs)) (packetTold P bs S (taken P bs S)) Done
+takenAnswer P bs S = cond (ltb (taken P bs S) (packetsFrom 0 bs)) (packetAnswer P bs S (taken P bs S)) Done
 
 unfoldable pub afterTaken : Params → List ℕ → Sketch → Sketch
 afterTaken P bs S = after P (take (taken P bs S) (flowsFrom 0 bs)) (take (taken P bs S) (numbersFrom 0 bs)) S
 
--- the packet records at hand, where this stream's packets are due
-abbrev pub isDue : Bool → State → Bool
-isDue second s = packetsDue (s .stage) && Bool·beq (s .second) second
-
+-- the packet records at hand, where packets are due
 unfoldable pub packetsState : Params → List ℕ → Sketch → State → State
 packetsState P bs S s =
     record {
-      stage = stageAfter (takenAnswer P bs S);
-      second = s .second;
-      at = s .at + 9 * taken P bs S;
+      stage = stageAfter (s .stage) (takenAnswer P bs S);
+      at = s .at + packetsLength * taken P bs S;
       records = s .records + taken P bs S;
     }
 
@@ -113,26 +132,26 @@ dueOf kind bs =
 
 -- where packets are due, an end may stand, and packets that are not whole yet may
 unfoldable pub dueEnd : List ℕ → Due
-dueEnd bs = cond (not (leb (length bs) 0) && eqb (getD bs 0 0) 2) NotYet (dueOf 4 bs)
+dueEnd bs = cond (not (leb (length bs) 0) && eqb (getD bs 0 0) packetsKind) NotYet (dueOf endKind bs)
 
--- the end of a stream, which says how many records there were: then a head is due, or nothing more
+-- the end of a stream, which says how many records there were
 abbrev pub endedState : State → State
-endedState s = record { stage = cond (s .second) Over Head; second = true; at = s .at + 5; records = 0 }
+endedState s = record { stage = afterEnd (s .stage); at = s .at + endLength; records = 0 }
 
 abbrev pub endState : Due → List ℕ → State → State
 endState NotYet bs s = s
 endState Other bs s = stopped Form s
-endState Here bs s = cond (eqb (word bs 1) (s .records)) (endedState s) (stopped Form s)
+endState Here bs s = cond (eqb (word bs recordsField) (s .records)) (endedState s) (stopped Form s)
 
--- the second head
-unfoldable pub secondAnswer : Params → Params → Answer
-secondAnswer P Q =
+-- the downstream head
+unfoldable pub downstreamHeadAnswer : Params → Params → Answer
+downstreamHeadAnswer P Q =
     refuseIf (not (goodParams Q && fewEnough Q)) Param 0
     (refuseIf (not (sameParams P Q)) Mismatch 0
     Done)
 
 abbrev pub headedState : State → State
-headedState s = record { stage = Packets; second = true; at = s .at + 38; records = 0 }
+headedState s = record { stage = DownstreamPackets; at = s .at + headLength; records = 0 }
 
 abbrev pub answered : Answer → State → State → State
 answered Done s next = next
@@ -141,62 +160,63 @@ answered (Refused w k) s next = stopped w s
 abbrev pub headState : Due → Params → List ℕ → State → State
 headState NotYet P bs s = s
 headState Other P bs s = stopped Form s
-headState Here P bs s = answered (secondAnswer P (paramsIn bs)) s (headedState s)
+headState Here P bs s = answered (downstreamHeadAnswer P (paramsIn bs)) s (headedState s)
 
 -- The stages, each where it is due.
 unfoldable pub packetsStage : Bool → Params → List ℕ → Sketch → State → State
-packetsStage second P bs S s = cond (isDue second s) (packetsState P bs S s) s
+packetsStage downstream P bs S s = cond (isDue downstream (s .stage)) (packetsState P bs S s) s
 
 unfoldable pub packetsSketch : Bool → Params → List ℕ → Sketch → State → Sketch
-packetsSketch second P bs S s = cond (isDue second s) (afterTaken P bs S) S
+packetsSketch downstream P bs S s = cond (isDue downstream (s .stage)) (afterTaken P bs S) S
 
 unfoldable pub endStage : List ℕ → State → State
 endStage bs s = cond (packetsDue (s .stage)) (endState (dueEnd bs) bs s) s
 
 unfoldable pub headStage : Params → List ℕ → State → State
-headStage P bs s = cond (headDue (s .stage)) (headState (dueOf 1 bs) P bs s) s
+headStage P bs s = cond (headDue (s .stage)) (headState (dueOf headKind bs) P bs s) s
 
-unfoldable pub overStage : List ℕ → State → State
-overStage bs s = cond (overDue (s .stage) && not (leb (length bs) 0)) (stopped Form s) s
+unfoldable pub nothingStage : List ℕ → State → State
+nothingStage bs s = cond (nothingDue (s .stage) && not (leb (length bs) 0)) (stopped Form s) s
 
 -- the bytes at hand from a later state on
 abbrev pub rest : State → State → List ℕ → List ℕ
 rest s t bs = drop (t .at - s .at) bs
 
 -- 64 bits hold the offsets and the numbers of records that these bytes can lead to
-unfoldable pub inReach : List ℕ → State → Bool
-inReach bs s = ltb (s .at + length bs) 18446744073709551616 && ltb (s .records + length bs) 18446744073709551616
+unfoldable pub offsetsFit : List ℕ → State → Bool
+offsetsFit bs s = ltb (s .at + length bs) 18446744073709551616 && ltb (s .records + length bs) 18446744073709551616
 
--- the upstream's records and its end, the second head, the downstream's records and its end, and nothing more
+-- the upstream's records and its end, the downstream head, the downstream's records and its end, and nothing more
 module _ (P : Params) (bs : List ℕ) (up down : Sketch) (s : State) where
-  abbrev pub firstPackets : State
-  firstPackets = packetsStage false P bs up s
+  abbrev pub upstreamTaken : State
+  upstreamTaken = packetsStage false P bs up s
 
-  abbrev pub firstEnd : State
-  firstEnd = endStage (rest s firstPackets bs) firstPackets
+  abbrev pub upstreamEnded : State
+  upstreamEnded = endStage (rest s upstreamTaken bs) upstreamTaken
 
-  abbrev pub secondHead : State
-  secondHead = headStage P (rest s firstEnd bs) firstEnd
+  abbrev pub downstreamHeaded : State
+  downstreamHeaded = headStage P (rest s upstreamEnded bs) upstreamEnded
 
-  abbrev pub secondPackets : State
-  secondPackets = packetsStage true P (rest s secondHead bs) down secondHead
+  abbrev pub downstreamTaken : State
+  downstreamTaken = packetsStage true P (rest s downstreamHeaded bs) down downstreamHeaded
 
-  abbrev pub secondEnd : State
-  secondEnd = endStage (rest s secondPackets bs) secondPackets
+  abbrev pub downstreamEnded : State
+  downstreamEnded = endStage (rest s downstreamTaken bs) downstreamTaken
 
   abbrev pub fedState : State
-  fedState = overStage (rest s secondEnd bs) secondEnd
+  fedState = nothingStage (rest s downstreamEnded bs) downstreamEnded
 
   -- what feeding answers and leaves; a state out of reach takes nothing
   pub record Feeds (r : Fed) (up' down' : Sketch) : Type 0 where
-    pub state : r .state ≡ cond (inReach bs s) fedState s
+    pub state : r .state ≡ cond (offsetsFit bs s) fedState s
     pub used : r .used ≡ r .state .at - s .at
-    pub upstream : up' ≡ cond (inReach bs s) (packetsSketch false P bs up s) up
-    pub downstream : down' ≡ cond (inReach bs s) (packetsSketch true P (rest s secondHead bs) down secondHead) down
+    pub upstream : up' ≡ cond (offsetsFit bs s) (packetsSketch false P bs up s) up
+    pub downstream : down' ≡ cond (offsetsFit bs s) (packetsSketch true P (rest s downstreamHeaded bs) down downstreamHeaded) down
 
 -- the end of the input: nothing more was due, or a record is cut or missing
 abbrev pub finishAnswer : Stage → ℕ → Answer
-finishAnswer Over at = Done
+finishAnswer Nothing at = Done
 finishAnswer (Stopped w) at = Refused w at
-finishAnswer Packets at = Refused Form at
-finishAnswer Head at = Refused Form at
+finishAnswer UpstreamPackets at = Refused Form at
+finishAnswer DownstreamHead at = Refused Form at
+finishAnswer DownstreamPackets at = Refused Form at

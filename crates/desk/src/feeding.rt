@@ -1,13 +1,13 @@
 // Records taken as they come: those of the upstream stream go into one sketch, those of the downstream one into another.
 ghost use Rattle.sketch.specs.Sketch.{sketch};
 ghost use Rattle.desk.specs.Desk.{Feeds};
-use crate::stages::end;
-use crate::stages::over;
-use crate::stages::packets;
-use crate::stages::second_head;
+use crate::stages::end_stage;
+use crate::stages::head_stage;
+use crate::stages::nothing_stage;
+use crate::stages::packets_stage;
 use crate::states::Fed;
 use crate::states::State;
-use crate::states::in_reach;
+use crate::states::offsets_fit;
 use params::Params;
 
 // Takes all whole records of the bytes at hand, up to one at fault; their first byte is the next of the input. Says how many bytes that used. The
@@ -23,21 +23,21 @@ pub fn feed(
 ) -> Fed
     ensures { λ r. ⌜ Feeds p (now (bytes .entry)) (sketch (now («up_counts» .entry)) (now («up_idsums» .entry))) (sketch (now («down_counts» .entry)) (now («down_idsums» .entry))) s r (sketch (now («up_counts» .exit)) (now («up_idsums» .exit))) (sketch (now («down_counts» .exit)) (now («down_idsums» .exit))) ⌝ }
 {
-    if !in_reach(s, bytes.len()) {
+    if !offsets_fit(s, bytes.len()) {
         return Fed { state: s, used: 0 };
     }
     let from = s.at;
-    let first_packets = packets(false, p, s, up_counts, up_idsums, bytes);
-    let i = first_packets.at - from;
-    let first_end = end(first_packets, &bytes[i..]);
-    let j = first_end.at - from;
-    let headed = second_head(p, first_end, &bytes[j..]);
+    let upstream_taken = packets_stage(false, p, s, up_counts, up_idsums, bytes);
+    let i = upstream_taken.at - from;
+    let upstream_ended = end_stage(upstream_taken, &bytes[i..]);
+    let j = upstream_ended.at - from;
+    let headed = head_stage(p, upstream_ended, &bytes[j..]);
     let k = headed.at - from;
-    let second_packets = packets(true, p, headed, down_counts, down_idsums, &bytes[k..]);
-    let l = second_packets.at - from;
-    let second_end = end(second_packets, &bytes[l..]);
-    let m = second_end.at - from;
-    let fed = over(second_end, &bytes[m..]);
+    let downstream_taken = packets_stage(true, p, headed, down_counts, down_idsums, &bytes[k..]);
+    let l = downstream_taken.at - from;
+    let downstream_ended = end_stage(downstream_taken, &bytes[l..]);
+    let m = downstream_ended.at - from;
+    let fed = nothing_stage(downstream_ended, &bytes[m..]);
     Fed {
         state: fed,
         used: fed.at - from,

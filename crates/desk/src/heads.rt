@@ -1,41 +1,28 @@
-// The two heads of the input: the first gives the parameters, and the second must say the same.
+// The two heads of the input: the first gives the parameters, and the downstream one must say the same.
 ghost use mathlib.Core.Path.{_≡_};
 ghost use mathlib.Core.Bool.{true};
 ghost use Rattle.params.specs.Params.{goodParams};
-ghost use Rattle.files.specs.Records.{recordAt, isKind};
-ghost use Rattle.files.specs.Heads.{paramsIn, noParams};
-ghost use Rattle.desk.specs.Desk.{fewEnough, beginOf, secondAnswer};
+ghost use Rattle.files.specs.Records.{recordAt, isKind, headKind};
+ghost use Rattle.files.specs.Heads.{paramsIn};
+ghost use Rattle.desk.specs.Desk.{fewEnough, beginOf, downstreamHeadAnswer};
 use files::heads::Headed;
 use files::heads::head;
 use params::Answer;
 use params::Params;
 use params::Refusal;
 
+// A desk takes sketches of at most so many buckets.
+pub const MOST_BUCKETS: usize = 1536;
+
 // Whether parameters that keep the rules have few enough buckets for a desk.
 fn few_enough(p: Params) -> bool
     requires { ⌜ goodParams p ≡ true ⌝ }
     ensures { λ r. ⌜ r ≡ fewEnough p ⌝ }
 {
-    p.size() <= 1536
+    p.size() <= MOST_BUCKETS
 }
 
-// What a head that is refused says: no parameters.
-fn refused(refusal: Refusal) -> Headed
-    ensures { λ r. ⌜ r ≡ record { answer = Answer.Refused refusal 0; params = noParams } ⌝ }
-{
-    let none = [0u32; 4];
-    Headed {
-        answer: Answer::Refused(refusal, 0),
-        params: Params {
-            d: 0,
-            m: 0,
-            a: none,
-            b: none,
-        },
-    }
-}
-
-// Judges the first head of the input, once 38 bytes are at hand or the input has ended.
+// Judges the first head of the input, once as many bytes as a head has are at hand or the input has ended.
 pub fn begin(bytes: &[u8]) -> Headed
     ensures { λ r. ⌜ r ≡ beginOf (now (bytes .entry)) ⌝ }
 {
@@ -46,15 +33,15 @@ pub fn begin(bytes: &[u8]) -> Headed
     };
     let p = h.params;
     if !few_enough(p) {
-        return refused(Refusal::Param);
+        return Headed::refused(Refusal::Param);
     }
     h
 }
 
-// Judges a second head that stands first, against the first one's parameters.
-pub(crate) fn judge_second(p: Params, bytes: &[u8]) -> Answer
-    requires { ⌜ isKind 1 (recordAt (now bytes) 0) ≡ true ⌝ }
-    ensures { λ r. ⌜ r ≡ secondAnswer p (paramsIn (now (bytes .entry))) ⌝ }
+// Judges a downstream head that stands first, against the first one's parameters.
+pub(crate) fn judge_downstream_head(p: Params, bytes: &[u8]) -> Answer
+    requires { ⌜ isKind headKind (recordAt (now bytes) 0) ≡ true ⌝ }
+    ensures { λ r. ⌜ r ≡ downstreamHeadAnswer p (paramsIn (now (bytes .entry))) ⌝ }
 {
     let h = head(bytes);
     let judged = h.answer;

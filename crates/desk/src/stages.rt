@@ -1,10 +1,10 @@
-// The stages of the reading, each where it is due: the packets of a stream and its end, the second head, and nothing more.
+// The stages of the reading, each where it is due: the packets of a stream and its end, the downstream head, and nothing more.
 ghost use mathlib.Core.Path.{_≡_};
 ghost use mathlib.Core.Bool.{true};
 ghost use Rattle.sketch.specs.Sketch.{sketch};
-ghost use Rattle.files.specs.Records.{recordAt, isKind};
-ghost use Rattle.desk.specs.Desk.{stageAfter, taken as «taken-of», takenAnswer, afterTaken, dueOf, dueEnd, endState, endStage, headState, headStage, overStage, packetsStage, packetsSketch, inReach};
-use crate::heads::judge_second;
+ghost use Rattle.files.specs.Records.{recordAt, isKind, headKind, endKind};
+ghost use Rattle.desk.specs.Desk.{isDue, packetsDue, stageAfter, afterEnd, taken as «taken-of», takenAnswer, afterTaken, dueOf, dueEnd, endState, endStage, headState, headStage, nothingStage, packetsStage, packetsSketch, offsetsFit};
+use crate::heads::judge_downstream_head;
 use crate::states::Stage;
 use crate::states::State;
 use crate::states::stop;
@@ -12,6 +12,12 @@ use files::fields::End;
 use files::fields::Packets;
 use files::fields::end_at;
 use files::fields::packets_at;
+use files::records::END;
+use files::records::END_LENGTH;
+use files::records::HEAD;
+use files::records::HEAD_LENGTH;
+use files::records::PACKETS;
+use files::records::PACKETS_LENGTH;
 use files::records::is_kind;
 use params::Answer;
 use params::Params;
@@ -25,15 +31,15 @@ pub(crate) enum Due {
     Other,
 }
 
-// How many packets were taken, and why the next was not.
+// How many packets were taken, and the answer for the next.
 pub(crate) struct Run {
     pub taken: usize,
-    pub told: Answer,
+    pub answer: Answer,
 }
 
 // Takes the packet records that stand first, up to one that is refused.
 fn take_packets(p: Params, counts: &mut [i32], idsums: &mut [u32], bytes: &[u8]) -> Run
-    ensures { λ r. ⌜ r ≡ record { taken = «taken-of» p (now (bytes .entry)) (sketch (now (counts .entry)) (now (idsums .entry))); told = takenAnswer p (now (bytes .entry)) (sketch (now (counts .entry)) (now (idsums .entry))) } ⌝ }
+    ensures { λ r. ⌜ r ≡ record { taken = «taken-of» p (now (bytes .entry)) (sketch (now (counts .entry)) (now (idsums .entry))); answer = takenAnswer p (now (bytes .entry)) (sketch (now (counts .entry)) (now (idsums .entry))) } ⌝ }
     ensures { λ r. ⌜ sketch (now (counts .exit)) (now (idsums .exit)) ≡ afterTaken p (now (bytes .entry)) (sketch (now (counts .entry)) (now (idsums .entry))) ⌝ }
 {
     let mut at = 0;
@@ -43,55 +49,90 @@ fn take_packets(p: Params, counts: &mut [i32], idsums: &mut [u32], bytes: &[u8])
         let Packets::Of(flow, number) = found else {
             break;
         };
-        let told = put_in(p, counts, idsums, flow, number);
-        let Answer::Done = told else {
-            return Run { taken, told };
+        let answer = put_in(p, counts, idsums, flow, number);
+        let Answer::Done = answer else {
+            return Run { taken, answer };
         };
-        at += 9;
+        at += PACKETS_LENGTH;
         taken += 1;
     }
     Run {
         taken,
-        told: Answer::Done,
+        answer: Answer::Done,
+    }
+}
+
+// Packets of the downstream stream, or of the upstream one, are due.
+fn is_due(downstream: bool, stage: Stage) -> bool
+    ensures { λ r. ⌜ r ≡ isDue downstream stage ⌝ }
+{
+    match stage {
+        Stage::UpstreamPackets => !downstream,
+        Stage::DownstreamPackets => downstream,
+        Stage::DownstreamHead => false,
+        Stage::Nothing => false,
+        Stage::Refused(_) => false,
+    }
+}
+
+// Packets of either are due.
+fn packets_due(stage: Stage) -> bool
+    ensures { λ r. ⌜ r ≡ packetsDue stage ⌝ }
+{
+    match stage {
+        Stage::UpstreamPackets => true,
+        Stage::DownstreamPackets => true,
+        Stage::DownstreamHead => false,
+        Stage::Nothing => false,
+        Stage::Refused(_) => false,
     }
 }
 
 // What is due after packets with this answer.
-fn stage_after(told: Answer) -> Stage
-    ensures { λ r. ⌜ r ≡ stageAfter told ⌝ }
+fn stage_after(stage: Stage, answer: Answer) -> Stage
+    ensures { λ r. ⌜ r ≡ stageAfter stage answer ⌝ }
 {
-    match told {
-        Answer::Done => Stage::Packets,
+    match answer {
+        Answer::Done => stage,
         Answer::Refused(refusal, _) => Stage::Refused(refusal),
     }
 }
 
-// The packets of a stream, the second or the first, where they are due.
-pub(crate) fn packets(
-    second: bool,
+// What is due after the end of a stream.
+fn after_end(stage: Stage) -> Stage
+    ensures { λ r. ⌜ r ≡ afterEnd stage ⌝ }
+{
+    match stage {
+        Stage::UpstreamPackets => Stage::DownstreamHead,
+        Stage::DownstreamPackets => Stage::Nothing,
+        Stage::DownstreamHead => stage,
+        Stage::Nothing => stage,
+        Stage::Refused(_) => stage,
+    }
+}
+
+// The packets of the downstream stream, or of the upstream one, where they are due.
+pub(crate) fn packets_stage(
+    downstream: bool,
     p: Params,
     s: State,
     counts: &mut [i32],
     idsums: &mut [u32],
     bytes: &[u8],
 ) -> State
-    requires { ⌜ inReach (now bytes) s ≡ true ⌝ }
-    ensures { λ r. ⌜ r ≡ packetsStage second p (now (bytes .entry)) (sketch (now (counts .entry)) (now (idsums .entry))) s ⌝ }
-    ensures { λ r. ⌜ sketch (now (counts .exit)) (now (idsums .exit)) ≡ packetsSketch second p (now (bytes .entry)) (sketch (now (counts .entry)) (now (idsums .entry))) s ⌝ }
+    requires { ⌜ offsetsFit (now bytes) s ≡ true ⌝ }
+    ensures { λ r. ⌜ r ≡ packetsStage downstream p (now (bytes .entry)) (sketch (now (counts .entry)) (now (idsums .entry))) s ⌝ }
+    ensures { λ r. ⌜ sketch (now (counts .exit)) (now (idsums .exit)) ≡ packetsSketch downstream p (now (bytes .entry)) (sketch (now (counts .entry)) (now (idsums .entry))) s ⌝ }
 {
     let stage = s.stage;
-    let Stage::Packets = stage else {
-        return s;
-    };
-    if s.second != second {
+    if !is_due(downstream, stage) {
         return s;
     }
     let run = take_packets(p, counts, idsums, bytes);
-    let told = run.told;
+    let answer = run.answer;
     State {
-        stage: stage_after(told),
-        second: s.second,
-        at: s.at + 9 * run.taken,
+        stage: stage_after(stage, answer),
+        at: s.at + PACKETS_LENGTH * run.taken,
         records: s.records + run.taken,
     }
 }
@@ -119,15 +160,15 @@ fn due_end(bytes: &[u8]) -> Due
     if bytes.len() == 0 {
         return Due::NotYet;
     }
-    if bytes[0] == 2 {
+    if bytes[0] == PACKETS {
         return Due::NotYet;
     }
-    due_of(4, bytes)
+    due_of(END, bytes)
 }
 
 // A whole end stands first.
 fn take_end(s: State, bytes: &[u8]) -> State
-    requires { ⌜ (isKind 4 (recordAt (now bytes) 0) ≡ true) × (inReach (now bytes) s ≡ true) ⌝ }
+    requires { ⌜ (isKind endKind (recordAt (now bytes) 0) ≡ true) × (offsetsFit (now bytes) s ≡ true) ⌝ }
     ensures { λ r. ⌜ r ≡ endState Due.Here (now (bytes .entry)) s ⌝ }
 {
     let found = end_at(bytes, 0);
@@ -137,23 +178,23 @@ fn take_end(s: State, bytes: &[u8]) -> State
     if number as usize != s.records {
         return stop(Refusal::Form, s);
     }
+    let stage = s.stage;
     State {
-        stage: if s.second { Stage::Over } else { Stage::Head },
-        second: true,
-        at: s.at + 5,
+        stage: after_end(stage),
+        at: s.at + END_LENGTH,
         records: 0,
     }
 }
 
 // The end of a stream, where packets are due.
-pub(crate) fn end(s: State, bytes: &[u8]) -> State
-    requires { ⌜ inReach (now bytes) s ≡ true ⌝ }
+pub(crate) fn end_stage(s: State, bytes: &[u8]) -> State
+    requires { ⌜ offsetsFit (now bytes) s ≡ true ⌝ }
     ensures { λ r. ⌜ r ≡ endStage (now (bytes .entry)) s ⌝ }
 {
     let stage = s.stage;
-    let Stage::Packets = stage else {
+    if !packets_due(stage) {
         return s;
-    };
+    }
     let d = due_end(bytes);
     match d {
         Due::NotYet => s,
@@ -164,31 +205,30 @@ pub(crate) fn end(s: State, bytes: &[u8]) -> State
 
 // A whole head stands first.
 fn take_head(p: Params, s: State, bytes: &[u8]) -> State
-    requires { ⌜ (isKind 1 (recordAt (now bytes) 0) ≡ true) × (inReach (now bytes) s ≡ true) ⌝ }
+    requires { ⌜ (isKind headKind (recordAt (now bytes) 0) ≡ true) × (offsetsFit (now bytes) s ≡ true) ⌝ }
     ensures { λ r. ⌜ r ≡ headState Due.Here p (now (bytes .entry)) s ⌝ }
 {
-    let r = judge_second(p, bytes);
+    let r = judge_downstream_head(p, bytes);
     match r {
         Answer::Done => State {
-            stage: Stage::Packets,
-            second: true,
-            at: s.at + 38,
+            stage: Stage::DownstreamPackets,
+            at: s.at + HEAD_LENGTH,
             records: 0,
         },
         Answer::Refused(refusal, _) => stop(refusal, s),
     }
 }
 
-// The second head, where it is due.
-pub(crate) fn second_head(p: Params, s: State, bytes: &[u8]) -> State
-    requires { ⌜ inReach (now bytes) s ≡ true ⌝ }
+// The downstream head, where it is due.
+pub(crate) fn head_stage(p: Params, s: State, bytes: &[u8]) -> State
+    requires { ⌜ offsetsFit (now bytes) s ≡ true ⌝ }
     ensures { λ r. ⌜ r ≡ headStage p (now (bytes .entry)) s ⌝ }
 {
     let stage = s.stage;
-    let Stage::Head = stage else {
+    let Stage::DownstreamHead = stage else {
         return s;
     };
-    let d = due_of(1, bytes);
+    let d = due_of(HEAD, bytes);
     match d {
         Due::NotYet => s,
         Due::Other => stop(Refusal::Form, s),
@@ -197,11 +237,11 @@ pub(crate) fn second_head(p: Params, s: State, bytes: &[u8]) -> State
 }
 
 // Nothing more is due.
-pub(crate) fn over(s: State, bytes: &[u8]) -> State
-    ensures { λ r. ⌜ r ≡ overStage (now (bytes .entry)) s ⌝ }
+pub(crate) fn nothing_stage(s: State, bytes: &[u8]) -> State
+    ensures { λ r. ⌜ r ≡ nothingStage (now (bytes .entry)) s ⌝ }
 {
     let stage = s.stage;
-    let Stage::Over = stage else {
+    let Stage::Nothing = stage else {
         return s;
     };
     if 0 < bytes.len() {

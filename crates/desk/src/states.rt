@@ -4,22 +4,24 @@ ghost use mathlib.Core.Bool.{_&&_};
 ghost use Prim.Native.Nat.{_+_};
 ghost use lib.Dec.{ltb};
 ghost use Rattle.desk.specs.Desk.{started, stopped, finishAnswer};
+use files::records::HEAD_LENGTH;
 use params::Answer;
 use params::Refusal;
 
-// What is due next: packets or the end of a stream, the second head, or nothing more; or why the input is refused.
+// What is due next: packets or the end of the upstream stream, the downstream one's head, its packets or end, or nothing more; or
+// the refusal of the input.
 pub enum Stage {
-    Packets,
-    Head,
-    Over,
+    UpstreamPackets,
+    DownstreamHead,
+    DownstreamPackets,
+    Nothing,
     Refused(Refusal),
 }
 
-// What is due, whether that is in the second stream, the offset of the next byte in the whole input, and how many records stood
-// since the head. The offset is that of the record at fault where the input is refused.
+// What is due, the offset of the next byte in the whole input, and how many records stood since the head. The offset is that of
+// the record at fault where the input is refused.
 pub struct State {
     pub stage: Stage,
-    pub second: bool,
     pub at: usize,
     pub records: usize,
 }
@@ -35,9 +37,8 @@ pub fn start() -> State
     ensures { λ r. ⌜ r ≡ started ⌝ }
 {
     State {
-        stage: Stage::Packets,
-        second: false,
-        at: 38,
+        stage: Stage::UpstreamPackets,
+        at: HEAD_LENGTH,
         records: 0,
     }
 }
@@ -48,14 +49,13 @@ pub(crate) fn stop(refusal: Refusal, s: State) -> State
 {
     State {
         stage: Stage::Refused(refusal),
-        second: s.second,
         at: s.at,
         records: s.records,
     }
 }
 
 // Whether 64 bits hold the offsets and the numbers of records that so many bytes can lead to.
-pub(crate) fn in_reach(s: State, len: usize) -> bool
+pub(crate) fn offsets_fit(s: State, len: usize) -> bool
     ensures { λ r. ⌜ r ≡ (ltb (s .at + len) 18446744073709551616 && ltb (s .records + len) 18446744073709551616) ⌝ }
 {
     if 18446744073709551615 - s.at < len {
@@ -70,9 +70,10 @@ pub fn finish(s: State) -> Answer
 {
     let stage = s.stage;
     match stage {
-        Stage::Over => Answer::Done,
+        Stage::Nothing => Answer::Done,
         Stage::Refused(refusal) => Answer::Refused(refusal, s.at),
-        Stage::Packets => Answer::Refused(Refusal::Form, s.at),
-        Stage::Head => Answer::Refused(Refusal::Form, s.at),
+        Stage::UpstreamPackets => Answer::Refused(Refusal::Form, s.at),
+        Stage::DownstreamHead => Answer::Refused(Refusal::Form, s.at),
+        Stage::DownstreamPackets => Answer::Refused(Refusal::Form, s.at),
     }
 }

@@ -18,7 +18,7 @@ use Rattle.files.specs.Heads.{headOf}
 use Rattle.files.specs.Writing.{writtenOf}
 use Rattle.streamfile.specs.Streams.{streamAnswer, StreamRead}
 use Rattle.streamfile.specs.Writing as streams
-use Rattle.sketchfile.specs.Stored.{sketchAnswer, SketchRead}
+use Rattle.sketchfile.specs.Reading.{sketchAnswer, SketchRead}
 use Rattle.sketchfile.specs.Writing as sketches
 use Rattle.face.specs.Told.{Told, ToldLength, ToldFigures, SpotReturned, HeadReturned}
 
@@ -58,11 +58,11 @@ SketchReadFor P bs S r k S' = Told (sketchAnswer P bs (length (S .counts)) (leng
 -- n is the length that the caller is told; out is the output before, out' after
 abbrev pub StreamWrittenFor : Params → List ℕ → List ℕ → List ℕ → ℕ → ℕ → ℕ → List ℕ → Type 0
 StreamWrittenFor P fs ns out r k n out' =
-    ToldLength (writtenOf (streams.streamWriting P fs ns (length out)) (length (streams.streamBytes P fs ns))) (λ x. streams.StreamWritten P fs ns out x out') r k n
+    ToldLength (writtenOf (streams.streamWriteAnswer P fs ns (length out)) (length (streams.streamBytes P fs ns))) (λ x. streams.StreamWritten P fs ns out x out') r k n
 
 abbrev pub SketchWrittenFor : Params → Sketch → List ℕ → ℕ → ℕ → ℕ → List ℕ → Type 0
 SketchWrittenFor P S out r k n out' =
-    ToldLength (writtenOf (sketches.sketchWriting P S (length out)) (length (sketches.sketchBytes P S))) (λ x. sketches.SketchWritten P S out x out') r k n
+    ToldLength (writtenOf (sketches.sketchWriteAnswer P S (length out)) (length (sketches.sketchBytes P S))) (λ x. sketches.SketchWritten P S out x out') r k n
 
 -- gs are the figures that the caller is told; L is what the walk is lent, L' what it holds after
 abbrev pub PeelsFor : Params → ℕ → Slices → ℕ → ℕ → List ℤ → Slices → Type 0

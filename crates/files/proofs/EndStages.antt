@@ -8,8 +8,9 @@ use lib.ListN.{length}
 use Rattle.params.specs.declared.answers.Refusal.the-variants.{Form}
 use Rattle.params.specs.declared.answers.Answer.the-variants.{Done, Refused}
 use Rattle.files.specs.Bytes.{word}
-use Rattle.files.specs.Records.{recordAt, isKind}
+use Rattle.files.specs.Records.{recordAt, isKind, endKind, endLength}
 use Rattle.files.specs.Turns.{endAnswer}
+use Rattle.files.specs.Fields.{recordsField}
 use Rattle.files.proofs.Standing.{nothing-stands}
 
 module _ (bs : List ℕ) (at n : ℕ) where
@@ -17,18 +18,18 @@ module _ (bs : List ℕ) (at n : ℕ) where
   unfolding endAnswer
   end-missing h = rw (nothing-stands bs at h, le-leb (length bs) at h)
 
-  pub not-an-end : at < length bs → isKind 4 (recordAt bs at) ≡ false → Refused Form at ≡ endAnswer bs at n
+  pub not-an-end : at < length bs → isKind endKind (recordAt bs at) ≡ false → Refused Form at ≡ endAnswer bs at n
   unfolding endAnswer
   not-an-end h e = rw (e, lt-leb (length bs) at h)
 
-  pub wrong-number : isKind 4 (recordAt bs at) ≡ true → (word bs (at + 1) ≡ n → ⊥) → Refused Form at ≡ endAnswer bs at n
+  pub wrong-number : isKind endKind (recordAt bs at) ≡ true → (word bs (at + recordsField) ≡ n → ⊥) → Refused Form at ≡ endAnswer bs at n
   unfolding endAnswer
-  wrong-number e q = rw (e, ne-eqb (word bs (at + 1)) n q)
+  wrong-number e q = rw (e, ne-eqb (word bs (at + recordsField)) n q)
 
-  pub byte-after : isKind 4 (recordAt bs at) ≡ true → word bs (at + 1) ≡ n → at + 5 < length bs → Refused Form (at + 5) ≡ endAnswer bs at n
+  pub byte-after : isKind endKind (recordAt bs at) ≡ true → word bs (at + recordsField) ≡ n → at + endLength < length bs → Refused Form (at + endLength) ≡ endAnswer bs at n
   unfolding endAnswer
-  byte-after e q l = rw (e, eq-eqb (word bs (at + 1)) n q, lt-ltb (at + 5) (length bs) l)
+  byte-after e q l = rw (e, eq-eqb (word bs (at + recordsField)) n q, lt-ltb (at + endLength) (length bs) l)
 
-  pub ended : isKind 4 (recordAt bs at) ≡ true → word bs (at + 1) ≡ n → length bs ≤ at + 5 → Done ≡ endAnswer bs at n
+  pub ended : isKind endKind (recordAt bs at) ≡ true → word bs (at + recordsField) ≡ n → length bs ≤ at + endLength → Done ≡ endAnswer bs at n
   unfolding endAnswer
-  ended e q l = rw (e, eq-eqb (word bs (at + 1)) n q, le-ltb (at + 5) (length bs) l)
+  ended e q l = rw (e, eq-eqb (word bs (at + recordsField)) n q, le-ltb (at + endLength) (length bs) l)

@@ -9,7 +9,7 @@ use Rattle.params.specs.Answers.{kept}
 use Rattle.params.specs.Params.{pairAt, twins, goodDimensions, goodParams}
 use Rattle.files.specs.declared.records.Record.the-variants.{Whole, Unknown, Cut, Missing}
 use Rattle.files.specs.Bytes.{word}
-use Rattle.files.specs.Records.{bodyLength, recordAt, bodyOf}
+use Rattle.files.specs.Records.{recordAt, bodyOf}
 use Rattle.files.specs.Heads.{paramsIn, headAnswer, headOf}
 
 -- the head of both streams, and packets or an end
@@ -35,14 +35,14 @@ K = record { d = 2; m = 5; a = 1 ∷ 1073741824 ∷ 0 ∷ 0 ∷ []; b = 0 ∷ 0 
 pub e11-records :
     map (recordAt e11) (0 ∷ 38 ∷ 47 ∷ 56 ∷ 65 ∷ 70 ∷ 108 ∷ 117 ∷ 126 ∷ 131 ∷ 39 ∷ 130 ∷ [])
     ≡ (Whole 1 38 ∷ Whole 2 47 ∷ Whole 2 56 ∷ Whole 2 65 ∷ Whole 4 70 ∷ Whole 1 108 ∷ Whole 2 117 ∷ Whole 2 126 ∷ Whole 4 131 ∷ Missing ∷ Unknown ∷ Cut ∷ [])
-unfolding recordAt bodyLength
+unfolding recordAt
 e11-records = refl
 
 pub e11-head : headOf e11 ≡ record { answer = Done; params = K }
-unfolding recordAt bodyLength word paramsIn headAnswer kept below pairAt twins goodDimensions goodParams
+unfolding recordAt word paramsIn headAnswer kept below pairAt twins goodDimensions goodParams
 e11-head = refl
 
 -- the body at offset 47: flow 12 by 2
 pub e11-body : bodyOf (recordAt e11 47) 47 e11 ≡ (0 ∷ 0 ∷ 0 ∷ 12 ∷ 0 ∷ 0 ∷ 0 ∷ 2 ∷ [])
-unfolding recordAt bodyLength bodyOf
+unfolding recordAt bodyOf
 e11-body = refl

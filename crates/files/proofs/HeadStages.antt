@@ -14,16 +14,16 @@ use Rattle.params.specs.Params.{goodParams, sameParams, lengthsAnswer}
 use Rattle.params.proofs.Judging.{Refuses, first-refused, first-passed}
 use Rattle.files.specs.declared.heads.Headed.{Headed}
 use Rattle.files.specs.declared.records.Record.the-variants.{Whole}
-use Rattle.files.specs.Records.{bodyLength, recordAt}
-use Rattle.files.specs.Heads.{paramsIn, isHead, headAnswer, noParams, headOf, openingAnswer}
+use Rattle.files.specs.Records.{recordAt, headKind, headLength}
+use Rattle.files.specs.Heads.{paramsIn, isHead, headAnswer, refusedHead, headOf, parametersAnswer}
 use Rattle.files.proofs.Standing.{stands-whole}
 
 module _ (bs : List ℕ) where
-  pub not-a-head : isHead (recordAt bs 0) ≡ false → _≡_ {A = Headed} (record { answer = Refused Form 0; params = noParams }) (headOf bs)
+  pub not-a-head : isHead (recordAt bs 0) ≡ false → refusedHead Form ≡ headOf bs
   unfolding headAnswer kept
   not-a-head e = rw e
 
-  pub bad-params : isHead (recordAt bs 0) ≡ true → goodParams (paramsIn bs) ≡ false → _≡_ {A = Headed} (record { answer = Refused Param 0; params = noParams }) (headOf bs)
+  pub bad-params : isHead (recordAt bs 0) ≡ true → goodParams (paramsIn bs) ≡ false → refusedHead Param ≡ headOf bs
   unfolding headAnswer kept
   bad-params e g = rw (e, g)
 
@@ -31,42 +31,53 @@ module _ (bs : List ℕ) where
   unfolding headAnswer kept
   good-head e g = rw (e, g)
 
-  -- a whole head has its 38 bytes
-  pub head-long : (next : ℕ) → recordAt bs 0 ≡ Whole 1 next → 38 ≤ length bs
-  unfolding bodyLength
-  head-long next e = let s = stands-whole bs 0 1 next e in omega (arith, s .ends, s .within)
+  -- a whole head has all its bytes
+  pub head-long : (next : ℕ) → recordAt bs 0 ≡ Whole headKind next → headLength ≤ length bs
+  head-long next e = let s = stands-whole bs 0 headKind next e in omega (arith, s .ends, s .within)
 
--- what is judged before the records is the head, then what is given
-module _ (P : Params) (bs : List ℕ) (c s : ℕ) where
-  abbrev pub givenAnswer : Answer
+-- what is judged first is the head, then what is given
+module _ (P : Params) (bs : List ℕ) where
+  abbrev givenAnswer : Answer
   givenAnswer =
       refuseIf (not (goodParams P)) Param 0
       (refuseIf (not (sameParams P (paramsIn bs))) Mismatch 0
-      (lengthsAnswer P c s))
+      Done)
 
-  pub head-then-given : openingAnswer P bs c s ≡ first (headAnswer bs) givenAnswer
-  unfolding openingAnswer headAnswer first
+  head-then-given : parametersAnswer P bs ≡ first (headAnswer bs) givenAnswer
+  unfolding parametersAnswer headAnswer first
   head-then-given = go (isHead (recordAt bs 0)) (goodParams (paramsIn bs))
     where
       go : (h g : Bool)
-          → refuseIf (not h) Form 0 (refuseIf (not (g && goodParams P)) Param 0 (refuseIf (not (sameParams P (paramsIn bs))) Mismatch 0 (lengthsAnswer P c s)))
+          → refuseIf (not h) Form 0 (refuseIf (not (g && goodParams P)) Param 0 (refuseIf (not (sameParams P (paramsIn bs))) Mismatch 0 Done))
           ≡ first (refuseIf (not h) Form 0 (refuseIf (not g) Param 0 Done)) givenAnswer
       go true true = refl
       go true false = refl
       go false g = refl
 
-  pub opening-headless : (r : Answer) → r ≡ headAnswer bs → Refuses r → r ≡ openingAnswer P bs c s
-  opening-headless r e h = first-refused r (headAnswer bs) givenAnswer e h ∙ sym head-then-given
+  pub head-refused : (r : Answer) → r ≡ headAnswer bs → Refuses r → r ≡ parametersAnswer P bs
+  head-refused r e h = first-refused r (headAnswer bs) givenAnswer e h ∙ sym head-then-given
 
   module _ (headed : headAnswer bs ≡ Done) where
-    past : givenAnswer ≡ openingAnswer P bs c s
+    past : givenAnswer ≡ parametersAnswer P bs
     past = sym (head-then-given ∙ first-passed _ _ headed)
 
-    pub opening-bad : goodParams P ≡ false → Refused Param 0 ≡ openingAnswer P bs c s
-    opening-bad g = rw (← past, g)
+    pub given-bad : goodParams P ≡ false → Refused Param 0 ≡ parametersAnswer P bs
+    given-bad g = rw (← past, g)
 
-    pub opening-other : goodParams P ≡ true → sameParams P (paramsIn bs) ≡ false → Refused Mismatch 0 ≡ openingAnswer P bs c s
-    opening-other g e = rw (← past, g, e)
+    pub given-other : goodParams P ≡ true → sameParams P (paramsIn bs) ≡ false → Refused Mismatch 0 ≡ parametersAnswer P bs
+    given-other g e = rw (← past, g, e)
 
-    pub opening-lengths : goodParams P ≡ true → sameParams P (paramsIn bs) ≡ true → lengthsAnswer P c s ≡ openingAnswer P bs c s
-    opening-lengths g e = rw (← past, g, e)
+    pub given-same : goodParams P ≡ true → sameParams P (paramsIn bs) ≡ true → Done ≡ parametersAnswer P bs
+    given-same g e = rw (← past, g, e)
+
+-- then the lengths of the lent counts and idsums
+abbrev pub openingAnswer : Params → List ℕ → ℕ → ℕ → Answer
+openingAnswer P bs c s = first (parametersAnswer P bs) (lengthsAnswer P c s)
+
+first-of-three : (a b next : Answer) → first a (first b next) ≡ first (first a b) next
+unfolding first
+first-of-three Done b next = refl
+first-of-three (Refused w k) b next = refl
+
+pub opening-first : (P : Params) (bs : List ℕ) (c s : ℕ) (next : Answer) → first (parametersAnswer P bs) (first (lengthsAnswer P c s) next) ≡ first (openingAnswer P bs c s) next
+opening-first P bs c s next = first-of-three (parametersAnswer P bs) (lengthsAnswer P c s) next

@@ -11,15 +11,18 @@ use Rattle.params.specs.declared.params.Params.{Params}
 use Rattle.params.specs.declared.answers.Refusal.the-variants.{Param, Mismatch, Form}
 use Rattle.params.specs.declared.answers.Answer.the-variants.{Done}
 use Rattle.params.specs.Lists.{below}
-use Rattle.params.specs.Params.{prime, pairOk, pairAt, twins, goodDimensions, goodParams, samePair, sameParams, lengthsAnswer}
+use Rattle.params.specs.Answers.{first}
+use Rattle.params.specs.Params.{prime, pairOk, pairAt, twins, goodDimensions, goodParams, samePair, sameParams, lengthsAnswer, lentAnswer}
 use Rattle.params.proofs.Searches.{and-true, below-at}
-use Rattle.params.proofs.Judging.{refuse-done}
+use Rattle.params.proofs.Judging.{refuse-done, first-passed, first-done}
 use Rattle.params.proofs.Rules.{good-dimensions}
 use Rattle.params.proofs.SameParams.{dimensions-same, pair-same}
 use Rattle.files.specs.Bytes.{word, wordBytes}
-use Rattle.files.specs.Records.{bodyLength, recordAt}
-use Rattle.files.specs.Heads.{paramsIn, isHead, openingAnswer}
+use Rattle.files.specs.Records.{recordAt, headKind, headLength}
+use Rattle.files.specs.Heads.{paramsIn, isHead, parametersAnswer}
 use Rattle.files.specs.Layout.{pairBytes, headBytes}
+use Rattle.files.specs.Fields.{arraysField, bucketsField, multiplierField}
+use Rattle.files.proofs.HeadStages.{openingAnswer}
 use Rattle.files.proofs.Standing.{kind-ends}
 use Rattle.files.proofs.RoundTrips.{digits-make, byte-then, word-then}
 use Rattle.files.proofs.RecordTrips.{record-whole, record-read}
@@ -72,24 +75,24 @@ four-same P =
     )
 
 module _ (P : Params) (ys : List ℕ) where
-  pub headed-long : length (headBytes P ++ ys) ≡ 38 + length ys
+  pub headed-long : length (headBytes P ++ ys) ≡ headLength + length ys
   unfolding headBytes wordBytes
   headed-long = length-append (headBytes P) ys
 
   head-kind : isHead (recordAt (headBytes P ++ ys) 0) ≡ true
-  unfolding headBytes bodyLength
-  head-kind = record-whole (headBytes P ++ ys) 0 1 refl (omega arith) (omega (arith, headed-long))
+  unfolding headBytes
+  head-kind = record-whole (headBytes P ++ ys) 0 headKind refl (omega arith) (omega (arith, headed-long))
 
   params-written : goodParams P ≡ true → paramsIn (headBytes P ++ ys) ≡ fourPairs P
   unfolding paramsIn headBytes word wordBytes
   params-written g =
-      let sizes = good-dimensions P g in
+      let dimensions = good-dimensions P g in
       let p = good-pair P 0 g (omega arith) in
       let q = good-pair P 1 g (omega arith) in
       let r = good-pair P 2 g (omega arith) in
       let s = good-pair P 3 g (omega arith) in
       rw (
-        digits-make (P .m) (omega (arith, sizes .m-high)),
+        digits-make (P .m) (omega (arith, dimensions .m-high)),
         digits-make (getD (P .a) 0 0) (p .0),
         digits-make (getD (P .b) 0 0) (p .1),
         digits-make (getD (P .a) 1 0) (q .0),
@@ -101,27 +104,41 @@ module _ (P : Params) (ys : List ℕ) where
       )
 
   pub opening-written : (c s : ℕ) → goodParams P ≡ true → openingAnswer P (headBytes P ++ ys) c s ≡ lengthsAnswer P c s
-  unfolding openingAnswer
+  unfolding parametersAnswer first
   opening-written c s g = rw (head-kind, params-written g, four-good P, g, four-same P)
 
 -- where the opening is not refused
 pub record Opened (P : Params) (bs : List ℕ) (c s : ℕ) : Type 0 where
   pub head : isHead (recordAt bs 0) ≡ true
   pub good : goodParams P ≡ true
+  pub file-good : goodParams (paramsIn bs) ≡ true
   pub same : sameParams P (paramsIn bs) ≡ true
   pub lengths : lengthsAnswer P c s ≡ Done
 
-pub opening-done : (P : Params) (bs : List ℕ) (c s : ℕ) → openingAnswer P bs c s ≡ Done → Opened P bs c s
-unfolding openingAnswer
-opening-done P bs c s e =
+-- parameters that are not refused are good, and the lengths decide then
+parameters-good : (P : Params) (bs : List ℕ) → parametersAnswer P bs ≡ Done → goodParams P ≡ true
+unfolding parametersAnswer
+parameters-good P bs e =
     let h = refuse-done (not (isHead (recordAt bs 0))) Form 0 _ e in
+    and-true (goodParams (paramsIn bs)) (goodParams P) (not-false _ (refuse-done (not (goodParams (paramsIn bs) && goodParams P)) Param 0 _ (h .1) .0)) .1
+
+pub opening-lent : (P : Params) (bs : List ℕ) (c s : ℕ) → parametersAnswer P bs ≡ Done → lentAnswer P c s ≡ openingAnswer P bs c s
+unfolding lentAnswer
+opening-lent P bs c s e = rw (parameters-good P bs e) (sym (first-passed _ _ e))
+
+pub opening-done : (P : Params) (bs : List ℕ) (c s : ℕ) → openingAnswer P bs c s ≡ Done → Opened P bs c s
+unfolding parametersAnswer
+opening-done P bs c s e =
+    let both = first-done (parametersAnswer P bs) (lengthsAnswer P c s) e in
+    let h = refuse-done (not (isHead (recordAt bs 0))) Form 0 _ (both .0) in
     let k = refuse-done (not (goodParams (paramsIn bs) && goodParams P)) Param 0 _ (h .1) in
-    let l = refuse-done (not (sameParams P (paramsIn bs))) Mismatch 0 (lengthsAnswer P c s) (k .1) in
+    let l = refuse-done (not (sameParams P (paramsIn bs))) Mismatch 0 Done (k .1) in
     record {
       head = not-false _ (h .0);
       good = and-true (goodParams (paramsIn bs)) (goodParams P) (not-false _ (k .0)) .1;
+      file-good = and-true (goodParams (paramsIn bs)) (goodParams P) (not-false _ (k .0)) .0;
       same = not-false _ (l .0);
-      lengths = l .1;
+      lengths = both .1;
     }
 
 -- the head that was read is the one that is written
@@ -135,19 +152,19 @@ module _ (bs : List ℕ) (small : (k : ℕ) → getD bs k 0 < 256) where
       (ap₂ {C = List ℕ} (λ b ys. wordBytes b ++ ys) q r ∙ word-then bs small (at + 4) (at + 8) n (omega arith) (omega arith))
       ∙ word-then bs small at (at + 4) (4 + n) (omega arith) refl ∙ ap (λ (k : ℕ). take k (drop at bs)) bytes
 
-  pub head-read : (P : Params) → isHead (recordAt bs 0) ≡ true → sameParams P (paramsIn bs) ≡ true → headBytes P ≡ take 38 bs
-  unfolding paramsIn headBytes bodyLength
+  pub head-read : (P : Params) → isHead (recordAt bs 0) ≡ true → sameParams P (paramsIn bs) ≡ true → headBytes P ≡ take headLength bs
+  unfolding paramsIn headBytes
   head-read P h e =
-      let long : 38 ≤ length bs = kind-ends 1 bs 0 h in
-      let sizes = dimensions-same P (paramsIn bs) e in
+      let long : headLength ≤ length bs = kind-ends headKind bs 0 h in
+      let dimensions = dimensions-same P (paramsIn bs) e in
       let p = pair-same P (paramsIn bs) e 0 (omega arith) in
       let q = pair-same P (paramsIn bs) e 1 (omega arith) in
       let r = pair-same P (paramsIn bs) e 2 (omega arith) in
       let t = pair-same P (paramsIn bs) e 3 (omega arith) in
-      let fourth : pairBytes P 3 ≡ take 8 (drop 30 bs) = sym (append-nil (pairBytes P 3)) ∙ pair-then 30 0 (omega arith) (t .0) (t .1) refl in
-      let third : pairBytes P 2 ++ pairBytes P 3 ≡ take 16 (drop 22 bs) = pair-then 22 8 (omega arith) (r .0) (r .1) fourth in
-      let second : pairBytes P 1 ++ (pairBytes P 2 ++ pairBytes P 3) ≡ take 24 (drop 14 bs) = pair-then 14 16 (omega arith) (q .0) (q .1) third in
-      let pairs = pair-then 6 24 (omega arith) (p .0) (p .1) second in
-      record-read bs 0 1 _ h
-      (ap₂ {C = List ℕ} _∷_ (sizes .0) (ap₂ {C = List ℕ} (λ m xs. wordBytes m ++ xs) (sizes .1) pairs ∙ word-then bs small 2 6 32 (omega arith) refl)
-      ∙ byte-then bs 1 2 36 (omega arith) refl)
+      let fourth : pairBytes P 3 ≡ take 8 (drop (multiplierField 3) bs) = sym (append-nil (pairBytes P 3)) ∙ pair-then (multiplierField 3) 0 (omega arith) (t .0) (t .1) refl in
+      let third : pairBytes P 2 ++ pairBytes P 3 ≡ take 16 (drop (multiplierField 2) bs) = pair-then (multiplierField 2) 8 (omega arith) (r .0) (r .1) fourth in
+      let second : pairBytes P 1 ++ (pairBytes P 2 ++ pairBytes P 3) ≡ take 24 (drop (multiplierField 1) bs) = pair-then (multiplierField 1) 16 (omega arith) (q .0) (q .1) third in
+      let pairs = pair-then (multiplierField 0) 24 (omega arith) (p .0) (p .1) second in
+      record-read bs 0 headKind _ h
+      (ap₂ {C = List ℕ} _∷_ (dimensions .0) (ap₂ {C = List ℕ} (λ m xs. wordBytes m ++ xs) (dimensions .1) pairs ∙ word-then bs small bucketsField (multiplierField 0) 32 (omega arith) refl)
+      ∙ byte-then bs arraysField bucketsField 36 (omega arith) refl)

@@ -1,4 +1,4 @@
--- Refusals of a file's opening, of a record and of a file's end, in the order in which they are judged, and what is told with them; and what a writer tells.
+-- Refusals of a file's opening, of a record and of a file's end, in the order in which they are judged, and what goes with them; and what a writer returns.
 use mathlib.Core.Path.{_≡_, refl, sym, ap, _∙_}
 use mathlib.Core.Bool.{Bool, true, false, not, cond, _&&_}
 use mathlib.Core.List.{List, [], _∷_}
@@ -12,19 +12,21 @@ use Rattle.params.specs.declared.answers.Refusal.{Refusal}
 use Rattle.params.specs.declared.answers.Refusal.the-variants.{Param, Length, Flow, Count, Damage, Range, Mismatch, Form}
 use Rattle.params.specs.declared.answers.Answer.{Answer}
 use Rattle.params.specs.declared.answers.Answer.the-variants.{Done, Refused}
-use Rattle.params.specs.Answers.{numberIn, indexIn, refuseIf, kept}
+use Rattle.params.specs.Answers.{numberIn, indexIn, refuseIf, first, kept}
 use Rattle.params.specs.Params.{size, goodParams, sameParams, lengthsAnswer}
 use Rattle.params.proofs.Judging.{number-done}
-use Rattle.params.proofs.InOrder.{firstOf, refuse-number}
+use Rattle.params.proofs.InOrder.{firstOf, refuse-number, first-refuse}
 use Rattle.files.specs.declared.records.Record.{Record}
 use Rattle.files.specs.declared.records.Record.the-variants.{Whole, Cut, Unknown, Missing}
 use Rattle.files.specs.declared.writing.Written.{Written}
 use Rattle.files.specs.declared.writing.Written.the-variants.{Refused as NotWritten}
 use Rattle.files.specs.Bytes.{word}
-use Rattle.files.specs.Records.{bodyLength, recordAt, isKind, placeOf, recordNumber, recordPlace}
-use Rattle.files.specs.Heads.{paramsIn, isHead, openingAnswer}
+use Rattle.files.specs.Records.{bodyLength, recordAt, isKind, placeOf, recordNumber, recordPlace, endKind, endLength}
+use Rattle.files.specs.Heads.{paramsIn, isHead, parametersAnswer}
 use Rattle.files.specs.Turns.{endAnswer}
 use Rattle.files.specs.Writing.{writtenOf, writtenNumber, writtenIndex, writtenLength}
+use Rattle.files.proofs.HeadStages.{openingAnswer}
+use Rattle.files.specs.Fields.{recordsField}
 
 -- what is judged before the records, in this order: the head, the parameters in it and those that are given, whether they differ, and the lent lengths
 abbrev pub openingOrder : List Refusal
@@ -40,22 +42,35 @@ openingFault P bs c s Count = false
 openingFault P bs c s Damage = false
 openingFault P bs c s Range = false
 
--- a refusal that tells 0
+-- a refusal with which 0 goes
 pub refuse-start : (b : Bool) (w : Refusal) (next : Answer) → indexIn next ≡ 0 → indexIn (refuseIf b w 0 next) ≡ 0
 refuse-start true w next e = refl
 refuse-start false w next e = e
 
 module _ (P : Params) (bs : List ℕ) (c s : ℕ) where
+  -- one after the other
+  abbrev inOrder : Answer
+  inOrder =
+      refuseIf (not (isHead (recordAt bs 0))) Form 0
+      (refuseIf (not (goodParams (paramsIn bs) && goodParams P)) Param 0
+      (refuseIf (not (sameParams P (paramsIn bs))) Mismatch 0
+      (lengthsAnswer P c s)))
+
+  opening-is : openingAnswer P bs c s ≡ inOrder
+  unfolding parametersAnswer first
+  opening-is = simp first-refuse
+
   -- the first that applies decides the number
   pub opening-number : numberIn (openingAnswer P bs c s) ≡ firstOf openingOrder (openingFault P bs c s)
-  unfolding openingAnswer lengthsAnswer
-  opening-number = simp refuse-number
+  unfolding lengthsAnswer
+  opening-number = ap numberIn opening-is ∙ simp refuse-number
 
-  -- and 0 is told with it
+  -- and 0 goes with it
   pub opening-index : indexIn (openingAnswer P bs c s) ≡ 0
-  unfolding openingAnswer lengthsAnswer
+  unfolding lengthsAnswer
   opening-index =
-      refuse-start (not (isHead (recordAt bs 0))) Form _
+      ap indexIn opening-is
+      ∙ refuse-start (not (isHead (recordAt bs 0))) Form _
       (refuse-start (not (goodParams (paramsIn bs) && goodParams P)) Param _
       (refuse-start (not (sameParams P (paramsIn bs))) Mismatch _
       (refuse-start (not (eqb c (size P) && eqb s (size P))) Length Done refl)))
@@ -66,15 +81,15 @@ pub record IsWhole (r : Record) : Type 0 where
   pub next : ℕ
   pub whole : r ≡ Whole kind next
 
--- 0 is told exactly where a record is whole
+-- the number is 0 exactly where a record is whole
 pub whole-exactly : (r : Record) → (recordNumber r ≡ 0 → IsWhole r) × (IsWhole r → recordNumber r ≡ 0)
-whole-exactly r = (told r, λ s. ap recordNumber (s .whole))
+whole-exactly r = (returned r, λ s. ap recordNumber (s .whole))
   where
-    told : (r : Record) → recordNumber r ≡ 0 → IsWhole r
-    told (Whole k next) e = record { kind = k; next = next; whole = refl }
-    told Cut e = absurd (omega arith)
-    told Unknown e = absurd (omega arith)
-    told Missing e = absurd (omega arith)
+    returned : (r : Record) → recordNumber r ≡ 0 → IsWhole r
+    returned (Whole k next) e = record { kind = k; next = next; whole = refl }
+    returned Cut e = absurd (omega arith)
+    returned Unknown e = absurd (omega arith)
+    returned Missing e = absurd (omega arith)
 
 -- and Form's number where it is not
 pub form-else : (r : Record) → (IsWhole r → ⊥) → recordNumber r ≡ 8
@@ -95,47 +110,47 @@ record-place bs at = go (leb (length bs) at) (eqb (bodyLength (getD bs at 0)) 0)
     go false false true k next n = refl
     go false false false k next n = absurd (n (record { kind = k; next = next; whole = refl }))
 
--- what is at fault where an end is due after n records, and the place told with it
+-- what is at fault where an end is due after n records, and the offset that goes with it
 pub data EndFault (bs : List ℕ) (at n k : ℕ) : Type 0 where
-  no-end : isKind 4 (recordAt bs at) ≡ false → k ≡ placeOf bs at → EndFault bs at n k
-  wrong-count : isKind 4 (recordAt bs at) ≡ true → (word bs (at + 1) ≡ n → ⊥) → k ≡ at → EndFault bs at n k
-  byte-after : isKind 4 (recordAt bs at) ≡ true → word bs (at + 1) ≡ n → at + 5 < length bs → k ≡ at + 5 → EndFault bs at n k
+  no-end : isKind endKind (recordAt bs at) ≡ false → k ≡ placeOf bs at → EndFault bs at n k
+  wrong-count : isKind endKind (recordAt bs at) ≡ true → (word bs (at + recordsField) ≡ n → ⊥) → k ≡ at → EndFault bs at n k
+  byte-after : isKind endKind (recordAt bs at) ≡ true → word bs (at + recordsField) ≡ n → at + endLength < length bs → k ≡ at + endLength → EndFault bs at n k
 
 pub end-fault : (bs : List ℕ) (at n : ℕ) (w : Refusal) (k : ℕ) → endAnswer bs at n ≡ Refused w k → (w ≡ Form) × EndFault bs at n k
 unfolding endAnswer
-end-fault bs at n w k = go (isKind 4 (recordAt bs at)) (eqb (word bs (at + 1)) n) (ltb (at + 5) (length bs)) refl refl refl
+end-fault bs at n w k = go (isKind endKind (recordAt bs at)) (eqb (word bs (at + recordsField)) n) (ltb (at + endLength) (length bs)) refl refl refl
   where
-    go : (x y z : Bool) → isKind 4 (recordAt bs at) ≡ x → eqb (word bs (at + 1)) n ≡ y → ltb (at + 5) (length bs) ≡ z
-        → refuseIf (not x) Form (placeOf bs at) (refuseIf (not y) Form at (refuseIf z Form (at + 5) Done)) ≡ Refused w k → (w ≡ Form) × EndFault bs at n k
+    go : (x y z : Bool) → isKind endKind (recordAt bs at) ≡ x → eqb (word bs (at + recordsField)) n ≡ y → ltb (at + endLength) (length bs) ≡ z
+        → refuseIf (not x) Form (placeOf bs at) (refuseIf (not y) Form at (refuseIf z Form (at + endLength) Done)) ≡ Refused w k → (w ≡ Form) × EndFault bs at n k
     go false y z kind said after e = (cc, no-end kind cc)
     go true false z kind said after e = (cc, wrong-count kind (eqb-false _ _ said) cc)
     go true true true kind said after e = (cc, byte-after kind (eqb-true _ _ said) (ltb-true _ _ after) cc)
     go true true false kind said after e = absurd (let z : _≡_ {A = ℕ} 0 1 = cc in omega arith)
 
--- what a writer tells is what was judged, and the length of its file, n, where nothing is refused
+-- what a writer returns is what was judged, and the length of its file, n, where nothing is refused
 module _ (a : Answer) (n : ℕ) {r : Written} (e : r ≡ writtenOf a n) where
   pub written-number : writtenNumber r ≡ numberIn a
-  written-number = ap writtenNumber e ∙ told a
+  written-number = ap writtenNumber e ∙ returned a
     where
-      told : (x : Answer) → writtenNumber (writtenOf x n) ≡ numberIn x
-      told Done = refl
-      told (Refused w k) = refl
+      returned : (x : Answer) → writtenNumber (writtenOf x n) ≡ numberIn x
+      returned Done = refl
+      returned (Refused w k) = refl
 
   pub written-index : writtenIndex r ≡ indexIn a
-  written-index = ap writtenIndex e ∙ told a
+  written-index = ap writtenIndex e ∙ returned a
     where
-      told : (x : Answer) → writtenIndex (writtenOf x n) ≡ indexIn x
-      told Done = refl
-      told (Refused w k) = refl
+      returned : (x : Answer) → writtenIndex (writtenOf x n) ≡ indexIn x
+      returned Done = refl
+      returned (Refused w k) = refl
 
   pub written-length : writtenNumber r ≡ 0 → writtenLength r ≡ n
   written-length z = ap writtenLength (e ∙ ap (λ (x : Answer). writtenOf x n) (number-done a (sym written-number ∙ z)))
 
-  -- where it tells a refusal, the output is as it was
+  -- where it returns a refusal, the output is as it was
   pub refused-as-it-was : {w : Refusal} {k : ℕ} (old new : List ℕ) → r ≡ NotWritten w k → kept a old new ≡ old
   unfolding kept
-  refused-as-it-was {w} {k} old new refused = told a e
+  refused-as-it-was {w} {k} old new refused = returned a e
     where
-      told : (x : Answer) → r ≡ writtenOf x n → kept x old new ≡ old
-      told Done q = absurd (let z : _≡_ {A = ℕ} 0 1 = cc in omega arith)
-      told (Refused v j) q = refl
+      returned : (x : Answer) → r ≡ writtenOf x n → kept x old new ≡ old
+      returned Done q = absurd (let z : _≡_ {A = ℕ} 0 1 = cc in omega arith)
+      returned (Refused v j) q = refl

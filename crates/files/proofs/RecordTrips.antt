@@ -12,9 +12,10 @@ use Rattle.params.specs.declared.answers.Refusal.the-variants.{Form}
 use Rattle.params.specs.declared.answers.Answer.the-variants.{Done}
 use Rattle.params.proofs.Judging.{refuse-done}
 use Rattle.files.specs.Bytes.{word, wordBytes}
-use Rattle.files.specs.Records.{bodyLength, recordAt, isKind, placeOf}
+use Rattle.files.specs.Records.{bodyLength, recordAt, isKind, placeOf, endKind, endLength}
 use Rattle.files.specs.Layout.{endBytes}
 use Rattle.files.specs.Turns.{endAnswer}
+use Rattle.files.specs.Fields.{recordsField}
 use Rattle.files.proofs.Standing.{kind-stands, kind-ends}
 use Rattle.files.proofs.RoundTrips.{digits-make, word-after, byte-then, word-bytes}
 
@@ -48,23 +49,23 @@ record-read bs at k body h e = let s = kind-stands k bs at h in ap₂ {C = List 
 
 -- the end
 pub end-written : (xs : List ℕ) (at n : ℕ) → length xs ≡ at → n < 4294967296 → endAnswer (xs ++ endBytes n) at n ≡ Done
-unfolding endAnswer endBytes bodyLength wordBytes word
+unfolding endAnswer endBytes wordBytes word
 end-written xs at n e h =
     let bs = xs ++ endBytes n in
-    let long : length bs ≡ at + 5 = length-append xs (endBytes n) ∙ ap (λ (k : ℕ). k + 5) e in
-    let kind : isKind 4 (recordAt bs at) ≡ true = record-whole bs at 4 (getD-at xs 4 (wordBytes n) 0 at e) (omega arith) (omega arith) in
-    let said : word bs (at + 1) ≡ n = word-after xs (endBytes n) at 1 e ∙ digits-make n h in
-    rw (kind, eq-eqb (word bs (at + 1)) n said, le-ltb (at + 5) (length bs) (omega arith))
+    let long : length bs ≡ at + endLength = length-append xs (endBytes n) ∙ ap (λ (k : ℕ). k + endLength) e in
+    let kind : isKind endKind (recordAt bs at) ≡ true = record-whole bs at endKind (getD-at xs endKind (wordBytes n) 0 at e) (omega arith) (omega arith) in
+    let said : word bs (at + recordsField) ≡ n = word-after xs (endBytes n) at recordsField e ∙ digits-make n h in
+    rw (kind, eq-eqb (word bs (at + recordsField)) n said, le-ltb (at + endLength) (length bs) (omega arith))
 
-pub end-read : (bs : List ℕ) (at n : ℕ) → ((k : ℕ) → getD bs k 0 < 256) → endAnswer bs at n ≡ Done → (at + 5 ≤ length bs) × (endBytes n ≡ drop at bs)
-unfolding endAnswer endBytes bodyLength
+pub end-read : (bs : List ℕ) (at n : ℕ) → ((k : ℕ) → getD bs k 0 < 256) → endAnswer bs at n ≡ Done → (at + endLength ≤ length bs) × (endBytes n ≡ drop at bs)
+unfolding endAnswer endBytes
 end-read bs at n small e =
-    let h = refuse-done (not (isKind 4 (recordAt bs at))) Form (placeOf bs at) _ e in
-    let k = refuse-done (not (eqb (word bs (at + 1)) n)) Form at _ (h .1) in
-    let l = refuse-done (ltb (at + 5) (length bs)) Form (at + 5) Done (k .1) in
-    let kind : isKind 4 (recordAt bs at) ≡ true = not-false _ (h .0) in
-    let long = kind-ends 4 bs at kind in
-    let said : word bs (at + 1) ≡ n = eqb-true _ _ (not-false _ (k .0)) in
-    let last : length bs ≤ at + 5 = ltb-false (at + 5) (length bs) (l .0) in
-    let short : length (drop at bs) ≤ 5 = rw length-drop (omega arith) in
-    (omega arith, ap (λ (n : ℕ). 4 ∷ wordBytes n) (sym said) ∙ record-read bs at 4 _ kind (word-bytes bs small (at + 1) (omega arith)) ∙ take-all 5 (drop at bs) short)
+    let h = refuse-done (not (isKind endKind (recordAt bs at))) Form (placeOf bs at) _ e in
+    let k = refuse-done (not (eqb (word bs (at + recordsField)) n)) Form at _ (h .1) in
+    let l = refuse-done (ltb (at + endLength) (length bs)) Form (at + endLength) Done (k .1) in
+    let kind : isKind endKind (recordAt bs at) ≡ true = not-false _ (h .0) in
+    let long = kind-ends endKind bs at kind in
+    let said : word bs (at + recordsField) ≡ n = eqb-true _ _ (not-false _ (k .0)) in
+    let last : length bs ≤ at + endLength = ltb-false (at + endLength) (length bs) (l .0) in
+    let short : length (drop at bs) ≤ endLength = rw length-drop (omega arith) in
+    (omega arith, ap (λ (n : ℕ). endKind ∷ wordBytes n) (sym said) ∙ record-read bs at endKind _ kind (word-bytes bs small (at + recordsField) (omega arith)) ∙ take-all endLength (drop at bs) short)

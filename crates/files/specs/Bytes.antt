@@ -22,5 +22,5 @@ abbrev pub countOf : ℕ → ℤ
 countOf n = toZ w32 n
 
 -- xs with ys written over what stands from an offset on
-unfoldable pub over : List ℕ → ℕ → List ℕ → List ℕ
-over xs at ys = take at xs ++ (ys ++ drop (at + length ys) xs)
+unfoldable pub overwritten : List ℕ → ℕ → List ℕ → List ℕ
+overwritten xs at ys = take at xs ++ (ys ++ drop (at + length ys) xs)

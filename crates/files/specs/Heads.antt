@@ -4,28 +4,30 @@ use mathlib.Core.List.{List, [], _∷_}
 use Prim.Native.Nat.{ℕ}
 use lib.ListN.{getD}
 use Rattle.params.specs.declared.params.Params.{Params}
+use Rattle.params.specs.declared.answers.Refusal.{Refusal}
 use Rattle.params.specs.declared.answers.Refusal.the-variants.{Param, Mismatch, Form}
 use Rattle.params.specs.declared.answers.Answer.{Answer}
-use Rattle.params.specs.declared.answers.Answer.the-variants.{Done}
+use Rattle.params.specs.declared.answers.Answer.the-variants.{Done, Refused}
 use Rattle.params.specs.Answers.{refuseIf, kept}
-use Rattle.params.specs.Params.{goodParams, sameParams, lengthsAnswer}
+use Rattle.params.specs.Params.{goodParams, sameParams}
 use Rattle.files.specs.declared.records.Record.{Record}
 use Rattle.files.specs.declared.heads.Headed.{Headed}
 use Rattle.files.specs.Bytes.{word}
-use Rattle.files.specs.Records.{recordAt, isKind}
+use Rattle.files.specs.Records.{recordAt, isKind, headKind}
+use Rattle.files.specs.Fields.{arraysField, bucketsField, multiplierField, offsetField}
 
 -- the parameters in a head that stands at the start of the file
 unfoldable pub paramsIn : List ℕ → Params
 paramsIn bs =
     record {
-      d = getD bs 1 0;
-      m = word bs 2;
-      a = word bs 6 ∷ word bs 14 ∷ word bs 22 ∷ word bs 30 ∷ [];
-      b = word bs 10 ∷ word bs 18 ∷ word bs 26 ∷ word bs 34 ∷ [];
+      d = getD bs arraysField 0;
+      m = word bs bucketsField;
+      a = word bs (multiplierField 0) ∷ word bs (multiplierField 1) ∷ word bs (multiplierField 2) ∷ word bs (multiplierField 3) ∷ [];
+      b = word bs (offsetField 0) ∷ word bs (offsetField 1) ∷ word bs (offsetField 2) ∷ word bs (offsetField 3) ∷ [];
     }
 
 abbrev pub isHead : Record → Bool
-isHead r = isKind 1 r
+isHead r = isKind headKind r
 
 -- a whole head stands there, and its parameters keep the rules
 unfoldable pub headAnswer : List ℕ → Answer
@@ -34,17 +36,21 @@ headAnswer bs =
     (refuseIf (not (goodParams (paramsIn bs))) Param 0
     Done)
 
+-- what stands for the parameters where a head is refused
 abbrev pub noParams : Params
 noParams = record { d = 0; m = 0; a = 0 ∷ 0 ∷ 0 ∷ 0 ∷ []; b = 0 ∷ 0 ∷ 0 ∷ 0 ∷ [] }
+
+abbrev pub refusedHead : Refusal → Headed
+refusedHead w = record { answer = Refused w 0; params = noParams }
 
 abbrev pub headOf : List ℕ → Headed
 headOf bs = record { answer = headAnswer bs; params = kept (headAnswer bs) noParams (paramsIn bs) }
 
--- what is judged before the records: the head, the parameters in it and those that are given, whether they are the same, and the
--- lengths of the lent counts and idsums
-unfoldable pub openingAnswer : Params → List ℕ → ℕ → ℕ → Answer
-openingAnswer P bs c s =
+-- what is judged first of a file: the head, the parameters in it and those that are given, and whether they are the same. The
+-- lengths of the lent counts and idsums come after them.
+unfoldable pub parametersAnswer : Params → List ℕ → Answer
+parametersAnswer P bs =
     refuseIf (not (isHead (recordAt bs 0))) Form 0
     (refuseIf (not (goodParams (paramsIn bs) && goodParams P)) Param 0
     (refuseIf (not (sameParams P (paramsIn bs))) Mismatch 0
-    (lengthsAnswer P c s)))
+    Done))

@@ -10,9 +10,42 @@ use Rattle.params.specs.Answers.{numberOf}
 use Rattle.files.specs.declared.records.Record.{Record}
 use Rattle.files.specs.declared.records.Record.the-variants.{Whole, Cut, Unknown, Missing}
 
--- head, packets, bucket and end; 0 for a kind that is not known
-unfoldable pub bodyLength : ℕ → ℕ
-bodyLength k = cond (eqb k 1) 37 (cond (eqb k 2) 8 (cond (eqb k 3) 12 (cond (eqb k 4) 4 0)))
+-- the kinds
+abbrev pub headKind : ℕ
+headKind = 1
+
+abbrev pub packetsKind : ℕ
+packetsKind = 2
+
+abbrev pub bucketKind : ℕ
+bucketKind = 3
+
+abbrev pub endKind : ℕ
+endKind = 4
+
+-- how many bytes a body of a kind has; 0 for a kind that is not known
+abbrev pub bodyLength : ℕ → ℕ
+bodyLength k =
+    cond (eqb k headKind) 37
+    (cond (eqb k packetsKind) 8
+    (cond (eqb k bucketKind) 12
+    (cond (eqb k endKind) 4 0)))
+
+-- and a whole record
+abbrev pub recordLength : ℕ → ℕ
+recordLength k = 1 + bodyLength k
+
+abbrev pub headLength : ℕ
+headLength = recordLength headKind
+
+abbrev pub packetsLength : ℕ
+packetsLength = recordLength packetsKind
+
+abbrev pub bucketLength : ℕ
+bucketLength = recordLength bucketKind
+
+abbrev pub endLength : ℕ
+endLength = recordLength endKind
 
 -- what stands at an offset of the file
 unfoldable pub recordAt : List ℕ → ℕ → Record
@@ -29,11 +62,11 @@ isKind k Cut = false
 isKind k Unknown = false
 isKind k Missing = false
 
--- the place that is told with a fault of a record: its kind byte, or the file's length where it is due and missing
+-- the offset that goes with a fault of a record: its kind byte, or the file's length where it is due and missing
 abbrev pub placeOf : List ℕ → ℕ → ℕ
 placeOf bs at = cond (leb (length bs) at) (length bs) at
 
--- the caller's number: FORM for all but a whole record; and the place told with it: its kind byte, or the file's length where nothing stands
+-- the caller's number: FORM for all but a whole record; and the offset that goes with it: that of its kind byte, or the file's length where nothing stands
 abbrev pub recordNumber : Record → ℕ
 recordNumber (Whole k next) = 0
 recordNumber Cut = numberOf Form

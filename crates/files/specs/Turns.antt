@@ -10,7 +10,8 @@ use Rattle.params.specs.declared.answers.Answer.the-variants.{Done, Refused}
 use Rattle.params.specs.Lists.{least}
 use Rattle.params.specs.Answers.{refuseIf, first}
 use Rattle.files.specs.Bytes.{word}
-use Rattle.files.specs.Records.{recordAt, isKind, placeOf}
+use Rattle.files.specs.Records.{recordAt, isKind, placeOf, endKind, headLength, packetsLength, bucketLength, endLength}
+use Rattle.files.specs.Fields.{recordsField}
 
 -- a refusal with an offset in place of its index
 unfoldable pub atOffset : ℕ → Answer → Answer
@@ -24,14 +25,14 @@ inTurn k (suc n) judge = first (judge k) (inTurn (suc k) n judge)
 
 -- where the k-th of packet records that begin at an offset stands, counted from 0
 abbrev pub packetFrom : ℕ → ℕ → ℕ
-packetFrom o k = o + 9 * k
+packetFrom o k = o + packetsLength * k
 
 -- where the k-th record after the head stands, in a stream and in a sketch file
 abbrev pub packetPlace : ℕ → ℕ
-packetPlace k = packetFrom 38 k
+packetPlace k = packetFrom headLength k
 
 abbrev pub bucketPlace : ℕ → ℕ
-bucketPlace k = 38 + 13 * k
+bucketPlace k = headLength + bucketLength * k
 
 -- how many whole records of a kind stand one after the other at these places
 unfoldable pub recordsOf : ℕ → (ℕ → ℕ) → List ℕ → ℕ
@@ -40,7 +41,7 @@ recordsOf kind place bs = least 0 (length bs) (λ k. not (isKind kind (recordAt 
 -- what is due after n records: a whole end that says their number, and no byte after it
 unfoldable pub endAnswer : List ℕ → ℕ → ℕ → Answer
 endAnswer bs at n =
-    refuseIf (not (isKind 4 (recordAt bs at))) Form (placeOf bs at)
-    (refuseIf (not (eqb (word bs (at + 1)) n)) Form at
-    (refuseIf (ltb (at + 5) (length bs)) Form (at + 5)
+    refuseIf (not (isKind endKind (recordAt bs at))) Form (placeOf bs at)
+    (refuseIf (not (eqb (word bs (at + recordsField)) n)) Form at
+    (refuseIf (ltb (at + endLength) (length bs)) Form (at + endLength)
     Done))

@@ -9,18 +9,18 @@ use Rattle.params.specs.declared.answers.Answer.the-variants.{Done, Refused}
 use Rattle.params.specs.Answers.{numberOf}
 use Rattle.files.specs.declared.writing.Written.{Written}
 use Rattle.files.specs.declared.writing.Written.the-variants.{Bytes, Refused as NotWritten}
-use Rattle.files.specs.Bytes.{over}
+use Rattle.files.specs.Bytes.{overwritten}
 
 -- ys over xs from an offset on, or xs where there is no room for all of them
 unfoldable pub written : List ℕ → ℕ → List ℕ → List ℕ
-written xs at ys = cond (leb (at + length ys) (length xs)) (over xs at ys) xs
+written xs at ys = cond (leb (at + length ys) (length xs)) (overwritten xs at ys) xs
 
--- how many bytes were written, or why none were
+-- how many bytes were written, or the refusal
 abbrev pub writtenOf : Answer → ℕ → Written
 writtenOf Done n = Bytes n
 writtenOf (Refused w k) n = NotWritten w k
 
--- the number, the index and the length that a caller is told, each 0 where there is none
+-- the number, the index and the length that a caller gets, each 0 where there is none
 abbrev pub writtenNumber : Written → ℕ
 writtenNumber (Bytes n) = 0
 writtenNumber (NotWritten w k) = numberOf w

@@ -1,9 +1,48 @@
-// What a whole record says: packets of a flow, a bucket, or an end.
+// What a whole record says: packets of a flow, a bucket, or an end; and where its fields stand, counted from its kind byte.
 ghost use mathlib.Core.Path.{_≡_};
 ghost use Rattle.files.specs.Bytes.{countOf};
 ghost use Rattle.files.specs.Layout.{packetsAt, bucketAt, endAt};
+use crate::records::BUCKET;
+use crate::records::END;
+use crate::records::PACKETS;
 use crate::records::is_kind;
 use crate::records::word;
+
+// Packets: the flow and the number.
+pub(crate) const FLOW_AT: usize = 1;
+
+pub(crate) const NUMBER_AT: usize = FLOW_AT + 4;
+
+// A bucket: its index, its count and its idsum.
+pub(crate) const INDEX_AT: usize = 1;
+
+pub(crate) const COUNT_AT: usize = INDEX_AT + 4;
+
+pub(crate) const IDSUM_AT: usize = COUNT_AT + 4;
+
+// An end: how many records stood since the head.
+pub(crate) const RECORDS_AT: usize = 1;
+
+// A head: d, m, and the multiplier and the offset of each pair.
+pub(crate) const ARRAYS_AT: usize = 1;
+
+pub(crate) const BUCKETS_AT: usize = ARRAYS_AT + 1;
+
+pub(crate) const MULTIPLIER_1_AT: usize = BUCKETS_AT + 4;
+
+pub(crate) const OFFSET_1_AT: usize = MULTIPLIER_1_AT + 4;
+
+pub(crate) const MULTIPLIER_2_AT: usize = OFFSET_1_AT + 4;
+
+pub(crate) const OFFSET_2_AT: usize = MULTIPLIER_2_AT + 4;
+
+pub(crate) const MULTIPLIER_3_AT: usize = OFFSET_2_AT + 4;
+
+pub(crate) const OFFSET_3_AT: usize = MULTIPLIER_3_AT + 4;
+
+pub(crate) const MULTIPLIER_4_AT: usize = OFFSET_3_AT + 4;
+
+pub(crate) const OFFSET_4_AT: usize = MULTIPLIER_4_AT + 4;
 
 // A flow and a number of its packets, or no whole record of packets.
 pub enum Packets {
@@ -36,27 +75,31 @@ fn count_of(n: u32) -> i32
 pub fn packets_at(bytes: &[u8], at: usize) -> Packets
     ensures { λ r. ⌜ r ≡ packetsAt (now (bytes .entry)) at ⌝ }
 {
-    if !is_kind(bytes, at, 2) {
+    if !is_kind(bytes, at, PACKETS) {
         return Packets::No;
     }
-    Packets::Of(word(bytes, at + 1), word(bytes, at + 5))
+    Packets::Of(word(bytes, at + FLOW_AT), word(bytes, at + NUMBER_AT))
 }
 
 pub fn bucket_at(bytes: &[u8], at: usize) -> Bucket
     ensures { λ r. ⌜ r ≡ bucketAt (now (bytes .entry)) at ⌝ }
 {
-    if !is_kind(bytes, at, 3) {
+    if !is_kind(bytes, at, BUCKET) {
         return Bucket::No;
     }
-    let count = count_of(word(bytes, at + 5));
-    Bucket::Of(word(bytes, at + 1), count, word(bytes, at + 9))
+    let count = count_of(word(bytes, at + COUNT_AT));
+    Bucket::Of(
+        word(bytes, at + INDEX_AT),
+        count,
+        word(bytes, at + IDSUM_AT),
+    )
 }
 
 pub fn end_at(bytes: &[u8], at: usize) -> End
     ensures { λ r. ⌜ r ≡ endAt (now (bytes .entry)) at ⌝ }
 {
-    if !is_kind(bytes, at, 4) {
+    if !is_kind(bytes, at, END) {
         return End::No;
     }
-    End::Of(word(bytes, at + 1))
+    End::Of(word(bytes, at + RECORDS_AT))
 }

@@ -2,7 +2,19 @@
 ghost use mathlib.Core.Path.{_≡_};
 ghost use Prim.Native.Nat.{_≤_};
 ghost use lib.ListN.{length};
-ghost use Rattle.files.specs.Heads.{paramsIn, noParams, headOf, openingAnswer};
+ghost use Rattle.files.specs.Heads.{paramsIn, refusedHead, headOf, parametersAnswer};
+ghost use Rattle.files.specs.Records.{headLength};
+use crate::fields::ARRAYS_AT;
+use crate::fields::BUCKETS_AT;
+use crate::fields::MULTIPLIER_1_AT;
+use crate::fields::MULTIPLIER_2_AT;
+use crate::fields::MULTIPLIER_3_AT;
+use crate::fields::MULTIPLIER_4_AT;
+use crate::fields::OFFSET_1_AT;
+use crate::fields::OFFSET_2_AT;
+use crate::fields::OFFSET_3_AT;
+use crate::fields::OFFSET_4_AT;
+use crate::records::HEAD;
 use crate::records::Record;
 use crate::records::record_at;
 use crate::records::word;
@@ -10,7 +22,7 @@ use params::Answer;
 use params::Params;
 use params::Refusal;
 
-// What a head says, or why it says nothing: the parameters are all 0 then.
+// What a head says, or the refusal: the parameters are all 0 then.
 pub struct Headed {
     pub answer: Answer,
     pub params: Params,
@@ -18,42 +30,45 @@ pub struct Headed {
 
 // The parameters in the body that starts at byte 1.
 fn params(bytes: &[u8]) -> Params
-    requires { ⌜ 38 ≤ length (now bytes) ⌝ }
+    requires { ⌜ headLength ≤ length (now bytes) ⌝ }
     ensures { λ r. ⌜ r ≡ paramsIn (now (bytes .entry)) ⌝ }
 {
-    let m = word(bytes, 2) as usize;
+    let m = word(bytes, BUCKETS_AT) as usize;
     let a = [
-        word(bytes, 6),
-        word(bytes, 14),
-        word(bytes, 22),
-        word(bytes, 30),
+        word(bytes, MULTIPLIER_1_AT),
+        word(bytes, MULTIPLIER_2_AT),
+        word(bytes, MULTIPLIER_3_AT),
+        word(bytes, MULTIPLIER_4_AT),
     ];
     let b = [
-        word(bytes, 10),
-        word(bytes, 18),
-        word(bytes, 26),
-        word(bytes, 34),
+        word(bytes, OFFSET_1_AT),
+        word(bytes, OFFSET_2_AT),
+        word(bytes, OFFSET_3_AT),
+        word(bytes, OFFSET_4_AT),
     ];
     Params {
-        d: bytes[1] as usize,
+        d: bytes[ARRAYS_AT] as usize,
         m,
         a,
         b,
     }
 }
 
-fn refused(refusal: Refusal) -> Headed
-    ensures { λ r. ⌜ r ≡ record { answer = Answer.Refused refusal 0; params = noParams } ⌝ }
-{
-    let none = [0u32; 4];
-    Headed {
-        answer: Answer::Refused(refusal, 0),
-        params: Params {
-            d: 0,
-            m: 0,
-            a: none,
-            b: none,
-        },
+impl Headed {
+    // A head that is refused, with no parameters.
+    pub fn refused(refusal: Refusal) -> Headed
+        ensures { λ r. ⌜ r ≡ refusedHead refusal ⌝ }
+    {
+        let none = [0u32; 4];
+        Headed {
+            answer: Answer::Refused(refusal, 0),
+            params: Params {
+                d: 0,
+                m: 0,
+                a: none,
+                b: none,
+            },
+        }
     }
 }
 
@@ -63,14 +78,14 @@ pub fn head(bytes: &[u8]) -> Headed
 {
     let found = record_at(bytes, 0);
     let Record::Whole(kind, _) = found else {
-        return refused(Refusal::Form);
+        return Headed::refused(Refusal::Form);
     };
-    if kind != 1 {
-        return refused(Refusal::Form);
+    if kind != HEAD {
+        return Headed::refused(Refusal::Form);
     }
     let p = params(bytes);
     if !p.check() {
-        return refused(Refusal::Param);
+        return Headed::refused(Refusal::Param);
     }
     Headed {
         answer: Answer::Done,
@@ -78,9 +93,9 @@ pub fn head(bytes: &[u8]) -> Headed
     }
 }
 
-// What is judged before the records: the head, the parameters in it and the given ones, and the lengths of the lent slices.
-pub fn opening(p: Params, bytes: &[u8], counts: usize, idsums: usize) -> Answer
-    ensures { λ r. ⌜ r ≡ openingAnswer p (now (bytes .entry)) counts idsums ⌝ }
+// What is judged first of a file: the head, the parameters in it and the given ones, and whether they are the same.
+pub fn judge_parameters(p: Params, bytes: &[u8]) -> Answer
+    ensures { λ r. ⌜ r ≡ parametersAnswer p (now (bytes .entry)) ⌝ }
 {
     let h = head(bytes);
     let judged = h.answer;
@@ -94,5 +109,5 @@ pub fn opening(p: Params, bytes: &[u8], counts: usize, idsums: usize) -> Answer
     if !p.same(q) {
         return Answer::Refused(Refusal::Mismatch, 0);
     }
-    p.judge_lent(counts, idsums)
+    Answer::Done
 }

@@ -5,6 +5,33 @@ ghost use lib.ListN.{length};
 ghost use Rattle.files.specs.Bytes.{word as «word-of»};
 ghost use Rattle.files.specs.Records.{bodyLength, recordAt, isKind, Body};
 
+// The kinds.
+pub const HEAD: u8 = 1;
+
+pub const PACKETS: u8 = 2;
+
+pub const BUCKET: u8 = 3;
+
+pub const END: u8 = 4;
+
+// How many bytes a body of each kind has.
+const HEAD_BODY: usize = 37;
+
+const PACKETS_BODY: usize = 8;
+
+const BUCKET_BODY: usize = 12;
+
+const END_BODY: usize = 4;
+
+// And a whole record.
+pub const HEAD_LENGTH: usize = 1 + HEAD_BODY;
+
+pub const PACKETS_LENGTH: usize = 1 + PACKETS_BODY;
+
+pub const BUCKET_LENGTH: usize = 1 + BUCKET_BODY;
+
+pub const END_LENGTH: usize = 1 + END_BODY;
+
 // What stands at an offset: a whole record of its kind, and where the next begins; one that is cut; one of no known kind; or
 // nothing.
 pub enum Record {
@@ -18,17 +45,17 @@ pub enum Record {
 fn body_length(kind: u8) -> usize
     ensures { λ r. ⌜ r ≡ bodyLength kind ⌝ }
 {
-    if kind == 1 {
-        return 37;
+    if kind == HEAD {
+        return HEAD_BODY;
     }
-    if kind == 2 {
-        return 8;
+    if kind == PACKETS {
+        return PACKETS_BODY;
     }
-    if kind == 3 {
-        return 12;
+    if kind == BUCKET {
+        return BUCKET_BODY;
     }
-    if kind == 4 {
-        return 4;
+    if kind == END {
+        return END_BODY;
     }
     0
 }

@@ -6,13 +6,33 @@ ghost use lib.Dec.{leb};
 ghost use Prim.Native.Nat.{_+_, _≤_, _<_};
 ghost use lib.ListN.{length};
 ghost use Rattle.params.specs.Params.{goodParams};
-ghost use Rattle.files.specs.Bytes.{wordBytes, countWord, over};
+ghost use Rattle.files.specs.Bytes.{wordBytes, countWord, overwritten};
 ghost use Rattle.files.specs.Layout.{headBytes, packetBytes, bucketBytes, endBytes};
 ghost use Rattle.files.specs.Writing.{written};
+use crate::fields::ARRAYS_AT;
+use crate::fields::BUCKETS_AT;
+use crate::fields::COUNT_AT;
+use crate::fields::FLOW_AT;
+use crate::fields::IDSUM_AT;
+use crate::fields::INDEX_AT;
+use crate::fields::MULTIPLIER_1_AT;
+use crate::fields::MULTIPLIER_2_AT;
+use crate::fields::MULTIPLIER_3_AT;
+use crate::fields::MULTIPLIER_4_AT;
+use crate::fields::NUMBER_AT;
+use crate::fields::RECORDS_AT;
+use crate::records::BUCKET;
+use crate::records::BUCKET_LENGTH;
+use crate::records::END;
+use crate::records::END_LENGTH;
+use crate::records::HEAD;
+use crate::records::HEAD_LENGTH;
+use crate::records::PACKETS;
+use crate::records::PACKETS_LENGTH;
 use params::Params;
 use params::Refusal;
 
-// How many bytes were written, or why none were.
+// How many bytes were written, or the refusal.
 pub enum Written {
     Bytes(usize),
     Refused(Refusal, usize),
@@ -41,7 +61,7 @@ fn fits(long: usize, at: usize, bytes: usize) -> bool
 // Four bytes, the highest first.
 fn put_word(out: &mut [u8], at: usize, n: u32)
     requires { ⌜ at + 4 ≤ length (now out) ⌝ }
-    ensures { λ r. ⌜ now (out .exit) ≡ over (now (out .entry)) at (wordBytes n) ⌝ }
+    ensures { λ r. ⌜ now (out .exit) ≡ overwritten (now (out .entry)) at (wordBytes n) ⌝ }
 {
     out[at] = (n / 16777216) as u8;
     out[at + 1] = (n / 65536 % 256) as u8;
@@ -52,7 +72,7 @@ fn put_word(out: &mut [u8], at: usize, n: u32)
 // A pair of a head.
 fn put_pair(out: &mut [u8], at: usize, a: u32, b: u32)
     requires { ⌜ at + 8 ≤ length (now out) ⌝ }
-    ensures { λ r. ⌜ now (out .exit) ≡ over (now (out .entry)) at (wordBytes a ++ wordBytes b) ⌝ }
+    ensures { λ r. ⌜ now (out .exit) ≡ overwritten (now (out .entry)) at (wordBytes a ++ wordBytes b) ⌝ }
 {
     put_word(out, at, a);
     put_word(out, at + 4, b);
@@ -65,52 +85,52 @@ pub fn put_head(out: &mut [u8], p: Params)
     if !p.check() {
         return;
     }
-    if out.len() < 38 {
+    if out.len() < HEAD_LENGTH {
         return;
     }
     let a = p.a;
     let b = p.b;
-    out[0] = 1;
-    out[1] = p.d as u8;
-    put_word(out, 2, p.m as u32);
-    put_pair(out, 6, a[0], b[0]);
-    put_pair(out, 14, a[1], b[1]);
-    put_pair(out, 22, a[2], b[2]);
-    put_pair(out, 30, a[3], b[3]);
+    out[0] = HEAD;
+    out[ARRAYS_AT] = p.d as u8;
+    put_word(out, BUCKETS_AT, p.m as u32);
+    put_pair(out, MULTIPLIER_1_AT, a[0], b[0]);
+    put_pair(out, MULTIPLIER_2_AT, a[1], b[1]);
+    put_pair(out, MULTIPLIER_3_AT, a[2], b[2]);
+    put_pair(out, MULTIPLIER_4_AT, a[3], b[3]);
 }
 
 // n packets of flow f.
 pub fn put_packets(out: &mut [u8], at: usize, f: u32, n: u32)
     ensures { λ r. ⌜ now (out .exit) ≡ written (now (out .entry)) at (packetBytes f n) ⌝ }
 {
-    if !fits(out.len(), at, 9) {
+    if !fits(out.len(), at, PACKETS_LENGTH) {
         return;
     }
-    out[at] = 2;
-    put_word(out, at + 1, f);
-    put_word(out, at + 5, n);
+    out[at] = PACKETS;
+    put_word(out, at + FLOW_AT, f);
+    put_word(out, at + NUMBER_AT, n);
 }
 
 // Bucket k with its count and its idsum.
 pub fn put_bucket(out: &mut [u8], at: usize, k: u32, c: i32, s: u32)
     ensures { λ r. ⌜ now (out .exit) ≡ written (now (out .entry)) at (bucketBytes k c s) ⌝ }
 {
-    if !fits(out.len(), at, 13) {
+    if !fits(out.len(), at, BUCKET_LENGTH) {
         return;
     }
-    out[at] = 3;
-    put_word(out, at + 1, k);
-    put_word(out, at + 5, count_word(c));
-    put_word(out, at + 9, s);
+    out[at] = BUCKET;
+    put_word(out, at + INDEX_AT, k);
+    put_word(out, at + COUNT_AT, count_word(c));
+    put_word(out, at + IDSUM_AT, s);
 }
 
 // The end, after n records.
 pub fn put_end(out: &mut [u8], at: usize, n: u32)
     ensures { λ r. ⌜ now (out .exit) ≡ written (now (out .entry)) at (endBytes n) ⌝ }
 {
-    if !fits(out.len(), at, 5) {
+    if !fits(out.len(), at, END_LENGTH) {
         return;
     }
-    out[at] = 4;
-    put_word(out, at + 1, n);
+    out[at] = END;
+    put_word(out, at + RECORDS_AT, n);
 }

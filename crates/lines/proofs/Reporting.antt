@@ -16,61 +16,62 @@ use mir.Facts.{sfits-widen}
 use mir.Syntax.{w32, w64}
 use mir.Val.{SFits}
 use Rattle.params.proofs.Searches.{and-true}
-use Rattle.files.specs.Bytes.{over}
-use Rattle.files.proofs.Overwriting.{over-none}
+use Rattle.files.specs.Bytes.{overwritten}
+use Rattle.files.proofs.Overwriting.{overwritten-none}
 use Rattle.buckets.specs.Buckets.{allZero}
 use Rattle.walk.specs.declared.Ending.{Ending}
+use Rattle.walk.specs.Ascii.{ascii}
 use Rattle.walk.specs.Endings.{endingWord}
 use Rattle.lines.specs.Decimal.{decimal, signedDecimal}
-use Rattle.lines.specs.Lines.{space, newline, pops, net, lossLine, leftLine, endLine, lineFits, Lined}
+use Rattle.lines.specs.Lines.{lossLine, leftLine, endLine, lineFits, Lined}
 use Rattle.lines.specs.Reports.{lossLines, leftIfAny, leftLines, reportFits}
-use Rattle.lines.specs.Texts.{Placed}
+use Rattle.lines.specs.Texts.{TextWritten}
 use Rattle.lines.proofs.Digits.{length-decimal, length-short, length-signed}
 use Rattle.lines.proofs.Joining.{then, length-ending}
 
 -- what is written at the start of the rest is written from there on
 pub in-the-rest : (xs line : List ℕ) (at r : ℕ) {last : List ℕ} → at + 64 ≤ length xs → Lined (lineFits (midOf at (length xs - at) xs)) line (midOf at (length xs - at) xs) r last
-    → Placed line xs at (at + r) (putMid at (length xs - at) xs last)
-unfolding over
+    → TextWritten line xs at (at + r) (putMid at (length xs - at) xs last)
+unfolding overwritten
 in-the-rest xs line at r {last} h w =
     let rest : List ℕ = drop at xs in
     let k : ℕ = length xs - at in
     let whole : take k rest ≡ rest = take-all k rest (omega (arith, length-drop at xs)) in
     let room : lineFits (take k rest) ≡ true = le-leb 64 (length (take k rest)) (omega (arith, ap length whole, length-drop at xs)) in
-    let told : r ≡ length line = w .long ∙ ap (λ t. cond t (length line) 0) room in
-    let there : last ≡ over (take k rest) 0 line = w .bytes ∙ ap (λ t. cond t (over (take k rest) 0 line) (take k rest)) room in
+    let returned : r ≡ length line = w .long ∙ ap (λ t. cond t (length line) 0) room in
+    let there : last ≡ overwritten (take k rest) 0 line = w .bytes ∙ ap (λ t. cond t (overwritten (take k rest) 0 line) (take k rest)) room in
     let after : last ≡ line ++ drop (at + length line) xs =
-    there ∙ ap (λ ys. over ys 0 line) whole ∙ ap (λ ys. line ++ ys) (ap (λ n. drop n rest) (zero-add (length line)) ∙ drop-drop (length line) at xs)
+    there ∙ ap (λ ys. overwritten ys 0 line) whole ∙ ap (λ ys. line ++ ys) (ap (λ n. drop n rest) (zero-add (length line)) ∙ drop-drop (length line) at xs)
     in
     let none : postOf at k xs ≡ [] = drop-of-length-le rest {i = k} (omega (arith, length-drop at xs)) in
-    record { next = ap (λ n. at + n) told; bytes = ap (λ ys. take at xs ++ (last ++ ys)) none ∙ ap (λ ys. take at xs ++ ys) (append-nil last ∙ after) }
+    record { next = ap (λ n. at + n) returned; bytes = ap (λ ys. take at xs ++ (last ++ ys)) none ∙ ap (λ ys. take at xs ++ ys) (append-nil last ∙ after) }
 
 -- no line is longer than 64 bytes
 pub length-loss : (f : ℕ) (c : ℤ) → f < 2 ^ 32 → SFits w32 c → length (lossLine f c) ≤ 64
 unfolding lossLine
 length-loss f c h k =
-    omega (arith, length-append (decimal f) (space ++ (signedDecimal c ++ newline)), length-append (signedDecimal c) newline, length-short f h, length-signed c (sfits-widen tt k))
+    omega (arith, length-append (decimal f) (ascii " " ++ (signedDecimal c ++ ascii "\n")), length-append (signedDecimal c) (ascii "\n"), length-short f h, length-signed c (sfits-widen tt k))
 
 pub length-left : (i : ℕ) (c : ℤ) (s : ℕ) → i < 2 ^ 64 → SFits w32 c → s < 2 ^ 32 → length (leftLine i c s) ≤ 64
 unfolding leftLine
 length-left i c s h k l =
-    omega (arith, length-append (decimal i) (space ++ (signedDecimal c ++ (space ++ (decimal s ++ newline)))), length-append (signedDecimal c) (space ++ (decimal s ++ newline)), length-append (decimal s) newline, length-decimal i h, length-signed c (sfits-widen tt k), length-short s l)
+    omega (arith, length-append (decimal i) (ascii " " ++ (signedDecimal c ++ (ascii " " ++ (decimal s ++ ascii "\n")))), length-append (signedDecimal c) (ascii " " ++ (decimal s ++ ascii "\n")), length-append (decimal s) (ascii "\n"), length-decimal i h, length-signed c (sfits-widen tt k), length-short s l)
 
 pub length-end : (e : Ending) (pops : ℕ) (net : ℤ) → pops < 2 ^ 32 → SFits w64 net → length (endLine e pops net) ≤ 64
 unfolding endLine
 length-end e n z h k =
-    omega (arith, length-append (endingWord e) (pops ++ (decimal n ++ (net ++ (signedDecimal z ++ newline)))), length-append (decimal n) (net ++ (signedDecimal z ++ newline)), length-append (signedDecimal z) newline, length-ending e, length-short n h, length-signed z k)
+    omega (arith, length-append (endingWord e) (ascii " pops " ++ (decimal n ++ (ascii " net " ++ (signedDecimal z ++ ascii "\n")))), length-append (decimal n) (ascii " net " ++ (signedDecimal z ++ ascii "\n")), length-append (signedDecimal z) (ascii "\n"), length-ending e, length-short n h, length-signed z k)
 
 -- a line in the rest of the output, and how far it reaches
 pub line-in-the-rest : (xs line : List ℕ) (at r : ℕ) {last : List ℕ} → at + 64 ≤ length xs → length line ≤ 64 → Lined (lineFits (midOf at (length xs - at) xs)) line (midOf at (length xs - at) xs) r last
-    → Placed line xs at (at + r) (putMid at (length xs - at) xs last) × (at + r ≤ at + 64)
+    → TextWritten line xs at (at + r) (putMid at (length xs - at) xs last) × (at + r ≤ at + 64)
 line-in-the-rest xs line at r h short w =
     let p = in-the-rest xs line at r h w in
     (p, omega (arith, p .next))
 
 -- one line more, and how far the lines then reach
-pub one-more : {lines line out now last : List ℕ} {at next r : ℕ} (i : ℕ) → at ≤ length out → Placed lines out at next now × (next ≤ at + 64 * i) → Placed line now next r last × (r ≤ next + 64)
-    → Placed (lines ++ line) out at r last × (r ≤ at + 64 * (i + 1))
+pub one-more : {lines line out now last : List ℕ} {at next r : ℕ} (i : ℕ) → at ≤ length out → TextWritten lines out at next now × (next ≤ at + 64 * i) → TextWritten line now next r last × (r ≤ next + 64)
+    → TextWritten (lines ++ line) out at r last × (r ≤ at + 64 * (i + 1))
 one-more i h p q = (then h (p .0) (q .0), omega (arith, p .1, q .1))
 
 -- room for so many lines, by whole lines or by bytes
@@ -91,12 +92,12 @@ unfolding leftLines
 lefts-next cs ss k = ap (leftLines cs ss) (add-one k)
 
 -- a bucket that is all zero has no line, and any other has one
-pub no-left : (k : ℕ) (c : ℤ) (s : ℕ) (out : List ℕ) (at : ℕ) → allZero c s ≡ true → Placed (leftIfAny k c s) out at at out × (at ≤ at + 64)
-no-left k c s out at e = rw e (record { next = omega arith; bytes = over-none out at }, omega arith)
+pub no-left : (k : ℕ) (c : ℤ) (s : ℕ) (out : List ℕ) (at : ℕ) → allZero c s ≡ true → TextWritten (leftIfAny k c s) out at at out × (at ≤ at + 64)
+no-left k c s out at e = rw e (record { next = omega arith; bytes = overwritten-none out at }, omega arith)
 
 -- no lines yet
-pub nothing-placed : (out : List ℕ) (at : ℕ) → Placed [] out at at out × (at ≤ at + 64 * 0)
-nothing-placed out at = (record { next = omega arith; bytes = over-none out at }, omega arith)
+pub nothing-written : (out : List ℕ) (at : ℕ) → TextWritten [] out at at out × (at ≤ at + 64 * 0)
+nothing-written out at = (record { next = omega arith; bytes = overwritten-none out at }, omega arith)
 
 -- what holds where a report fits
 pub fitting : (out flows numbers entries counts idsums : ℕ) → reportFits out flows numbers entries counts idsums ≡ true

@@ -3,8 +3,8 @@ use mathlib.Core.Path.{_≡_}
 use mathlib.Core.List.{List}
 use Prim.Native.Nat.{ℕ, _+_}
 use lib.ListN.{length}
-use Rattle.files.specs.Bytes.{over}
+use Rattle.files.specs.Bytes.{overwritten}
 
-pub record Placed (text out : List ℕ) (at r : ℕ) (out' : List ℕ) : Type 0 where
+pub record TextWritten (text out : List ℕ) (at r : ℕ) (out' : List ℕ) : Type 0 where
   pub next : r ≡ at + length text
-  pub bytes : out' ≡ over out at text
+  pub bytes : out' ≡ overwritten out at text

@@ -9,7 +9,7 @@ use params::Refusal;
 use walk::Ending;
 
 // loss FLOW COUNT
-pub fn loss(out: &mut [u8], flow: u32, count: i32) -> usize
+pub fn loss_line(out: &mut [u8], flow: u32, count: i32) -> usize
     ensures { λ r. ⌜ Lined (lineFits (now (out .entry))) (lossLine flow count) (now (out .entry)) r (now (out .exit)) ⌝ }
 {
     if out.len() < 64 {
@@ -21,7 +21,7 @@ pub fn loss(out: &mut [u8], flow: u32, count: i32) -> usize
 }
 
 // left INDEX COUNT IDSUM
-pub fn left(out: &mut [u8], index: usize, count: i32, idsum: u32) -> usize
+pub fn left_line(out: &mut [u8], index: usize, count: i32, idsum: u32) -> usize
     ensures { λ r. ⌜ Lined (lineFits (now (out .entry))) (leftLine index count idsum) (now (out .entry)) r (now (out .exit)) ⌝ }
 {
     if out.len() < 64 {
@@ -34,7 +34,7 @@ pub fn left(out: &mut [u8], index: usize, count: i32, idsum: u32) -> usize
 }
 
 // end ENDING pops N net N
-pub fn end(out: &mut [u8], ending: Ending, pops: u32, net: i64) -> usize
+pub fn end_line(out: &mut [u8], ending: Ending, pops: u32, net: i64) -> usize
     ensures { λ r. ⌜ Lined (lineFits (now (out .entry))) (endLine ending pops net) (now (out .entry)) r (now (out .exit)) ⌝ }
 {
     if out.len() < 64 {
@@ -48,14 +48,14 @@ pub fn end(out: &mut [u8], ending: Ending, pops: u32, net: i64) -> usize
 }
 
 // refused NUMBER at BYTE
-pub fn refused(out: &mut [u8], refusal: Refusal, byte: usize) -> usize
+pub fn refused_line(out: &mut [u8], refusal: Refusal, byte: usize) -> usize
     ensures { λ r. ⌜ Lined (lineFits (now (out .entry))) (refusedLine refusal byte) (now (out .entry)) r (now (out .exit)) ⌝ }
 {
     if out.len() < 64 {
         return 0;
     }
-    let told = refusal.number() as u64;
-    let mut at = put_named(out, 0, b"refused ", told);
+    let number = refusal.number() as u64;
+    let mut at = put_named(out, 0, b"refused ", number);
     at = put_named(out, at, b" at ", byte as u64);
     put(out, at, b"\n")
 }

@@ -4,10 +4,10 @@ ghost use Prim.Native.Nat.{_+_, _*_, _≤_};
 ghost use lib.ListN.{length};
 ghost use Rattle.lines.specs.Lines.{lossLine, Lined};
 ghost use Rattle.lines.specs.Reports.{lossLines, leftIfAny, leftLines, reportText, reportFits};
-ghost use Rattle.lines.specs.Texts.{Placed};
-use crate::lines::end;
-use crate::lines::left;
-use crate::lines::loss;
+ghost use Rattle.lines.specs.Texts.{TextWritten};
+use crate::lines::end_line;
+use crate::lines::left_line;
+use crate::lines::loss_line;
 use buckets::all_zero;
 use walk::Ending;
 
@@ -41,22 +41,22 @@ fn fits(
 // A line for an entry, from an offset on; the offset after it is given, as by the functions below.
 fn put_loss(out: &mut [u8], at: usize, flow: u32, count: i32) -> usize
     requires { ⌜ at + 64 ≤ length (now out) ⌝ }
-    ensures { λ r. ⌜ Placed (lossLine flow count) (now (out .entry)) at r (now (out .exit)) ⌝ }
+    ensures { λ r. ⌜ TextWritten (lossLine flow count) (now (out .entry)) at r (now (out .exit)) ⌝ }
     ensures { λ r. ⌜ r ≤ at + 64 ⌝ }
 {
-    at + loss(&mut out[at..], flow, count)
+    at + loss_line(&mut out[at..], flow, count)
 }
 
 // A line for a bucket that is not all zero.
 fn put_left(out: &mut [u8], at: usize, index: usize, count: i32, idsum: u32) -> usize
     requires { ⌜ at + 64 ≤ length (now out) ⌝ }
-    ensures { λ r. ⌜ Placed (leftIfAny index count idsum) (now (out .entry)) at r (now (out .exit)) ⌝ }
+    ensures { λ r. ⌜ TextWritten (leftIfAny index count idsum) (now (out .entry)) at r (now (out .exit)) ⌝ }
     ensures { λ r. ⌜ r ≤ at + 64 ⌝ }
 {
     if all_zero(count, idsum) {
         return at;
     }
-    at + left(&mut out[at..], index, count, idsum)
+    at + left_line(&mut out[at..], index, count, idsum)
 }
 
 // The lines of the table.
@@ -64,7 +64,7 @@ fn put_losses(out: &mut [u8], from: usize, flows: &[u32], numbers: &[i32], entri
     requires { ⌜ from + 64 * entries ≤ length (now out) ⌝ }
     requires { ⌜ entries ≤ length (now flows) ⌝ }
     requires { ⌜ entries ≤ length (now numbers) ⌝ }
-    ensures { λ r. ⌜ Placed (lossLines (now (flows .entry)) (now (numbers .entry)) entries) (now (out .entry)) from r (now (out .exit)) ⌝ }
+    ensures { λ r. ⌜ TextWritten (lossLines (now (flows .entry)) (now (numbers .entry)) entries) (now (out .entry)) from r (now (out .exit)) ⌝ }
     ensures { λ r. ⌜ r ≤ from + 64 * entries ⌝ }
 {
     let mut at = from;
@@ -80,7 +80,7 @@ fn put_losses(out: &mut [u8], from: usize, flows: &[u32], numbers: &[i32], entri
 fn put_lefts(out: &mut [u8], from: usize, counts: &[i32], idsums: &[u32]) -> usize
     requires { ⌜ from + 64 * length (now counts) ≤ length (now out) ⌝ }
     requires { ⌜ length (now idsums) ≡ length (now counts) ⌝ }
-    ensures { λ r. ⌜ Placed (leftLines (now (counts .entry)) (now (idsums .entry)) (length (now (counts .entry)))) (now (out .entry)) from r (now (out .exit)) ⌝ }
+    ensures { λ r. ⌜ TextWritten (leftLines (now (counts .entry)) (now (idsums .entry)) (length (now (counts .entry)))) (now (out .entry)) from r (now (out .exit)) ⌝ }
     ensures { λ r. ⌜ r ≤ from + 64 * length (now (counts .entry)) ⌝ }
 {
     let mut at = from;
@@ -120,5 +120,5 @@ pub fn report(
     }
     let mut at = put_losses(out, 0, flows, numbers, entries);
     at = put_lefts(out, at, counts, idsums);
-    at + end(&mut out[at..], ending, pops, net)
+    at + end_line(&mut out[at..], ending, pops, net)
 }

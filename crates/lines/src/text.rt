@@ -4,13 +4,13 @@ ghost use Prim.Native.Nat.{_+_, _≤_};
 ghost use lib.ListN.{length};
 ghost use Rattle.walk.specs.Endings.{endingWord};
 ghost use Rattle.lines.specs.Decimal.{decimal, signedDecimal};
-ghost use Rattle.lines.specs.Texts.{Placed};
+ghost use Rattle.lines.specs.Texts.{TextWritten};
 use walk::Ending;
 
 // Copies a word.
 pub(crate) fn put(out: &mut [u8], at: usize, word: &[u8]) -> usize
     requires { ⌜ at + length (now word) ≤ length (now out) ⌝ }
-    ensures { λ r. ⌜ Placed (now (word .entry)) (now (out .entry)) at r (now (out .exit)) ⌝ }
+    ensures { λ r. ⌜ TextWritten (now (word .entry)) (now (out .entry)) at r (now (out .exit)) ⌝ }
 {
     let mut i = 0;
     while i < word.len() {
@@ -23,7 +23,7 @@ pub(crate) fn put(out: &mut [u8], at: usize, word: &[u8]) -> usize
 // Writes a number in decimal.
 pub(crate) fn put_decimal(out: &mut [u8], at: usize, n: u64) -> usize
     requires { ⌜ at + length (decimal n) ≤ length (now out) ⌝ }
-    ensures { λ r. ⌜ Placed (decimal n) (now (out .entry)) at r (now (out .exit)) ⌝ }
+    ensures { λ r. ⌜ TextWritten (decimal n) (now (out .entry)) at r (now (out .exit)) ⌝ }
 {
     if n < 10 {
         out[at] = 48 + n as u8;
@@ -37,7 +37,7 @@ pub(crate) fn put_decimal(out: &mut [u8], at: usize, n: u64) -> usize
 // Writes a number in decimal, with a leading - when it is negative.
 pub(crate) fn put_signed(out: &mut [u8], at: usize, z: i64) -> usize
     requires { ⌜ at + 21 ≤ length (now out) ⌝ }
-    ensures { λ r. ⌜ Placed (signedDecimal z) (now (out .entry)) at r (now (out .exit)) ⌝ }
+    ensures { λ r. ⌜ TextWritten (signedDecimal z) (now (out .entry)) at r (now (out .exit)) ⌝ }
 {
     if z < 0 {
         out[at] = 45;
@@ -49,7 +49,7 @@ pub(crate) fn put_signed(out: &mut [u8], at: usize, z: i64) -> usize
 // Writes a word and then a number in decimal.
 pub(crate) fn put_named(out: &mut [u8], at: usize, word: &[u8], n: u64) -> usize
     requires { ⌜ at + length (now word) + length (decimal n) ≤ length (now out) ⌝ }
-    ensures { λ r. ⌜ Placed (now (word .entry) ++ decimal n) (now (out .entry)) at r (now (out .exit)) ⌝ }
+    ensures { λ r. ⌜ TextWritten (now (word .entry) ++ decimal n) (now (out .entry)) at r (now (out .exit)) ⌝ }
 {
     let next = put(out, at, word);
     put_decimal(out, next, n)
@@ -58,7 +58,7 @@ pub(crate) fn put_named(out: &mut [u8], at: usize, word: &[u8], n: u64) -> usize
 // Writes a word and then a number in decimal, with a leading - when it is negative.
 pub(crate) fn put_named_signed(out: &mut [u8], at: usize, word: &[u8], z: i64) -> usize
     requires { ⌜ at + length (now word) + 21 ≤ length (now out) ⌝ }
-    ensures { λ r. ⌜ Placed (now (word .entry) ++ signedDecimal z) (now (out .entry)) at r (now (out .exit)) ⌝ }
+    ensures { λ r. ⌜ TextWritten (now (word .entry) ++ signedDecimal z) (now (out .entry)) at r (now (out .exit)) ⌝ }
 {
     let next = put(out, at, word);
     put_signed(out, next, z)
@@ -67,7 +67,7 @@ pub(crate) fn put_named_signed(out: &mut [u8], at: usize, word: &[u8], z: i64) -
 // Writes the word of an ending.
 pub(crate) fn put_ending(out: &mut [u8], at: usize, ending: Ending) -> usize
     requires { ⌜ at + 10 ≤ length (now out) ⌝ }
-    ensures { λ r. ⌜ Placed (endingWord ending) (now (out .entry)) at r (now (out .exit)) ⌝ }
+    ensures { λ r. ⌜ TextWritten (endingWord ending) (now (out .entry)) at r (now (out .exit)) ⌝ }
 {
     match ending {
         Ending::Clean => put(out, at, b"clean"),

@@ -13,6 +13,8 @@ ghost use Rattle.peel.specs.Rep.{Takes, Took};
 use crate::queue::requeue;
 use crate::table::credit;
 use buckets::idsum_plus_minus;
+use buckets::plus_minus;
+use buckets::within;
 use params::Params;
 
 // After a take: how many buckets wait, how many are not all zero, and how many entries the table has.
@@ -21,9 +23,6 @@ pub(crate) struct Taken {
     pub nonzero: usize,
     pub entries: usize,
 }
-
-use buckets::plus_minus;
-use buckets::within;
 
 // x more c, or x less c, keeps within the limits.
 pub(crate) fn fits(minus: bool, x: i32, c: i32) -> bool

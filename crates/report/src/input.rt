@@ -4,10 +4,8 @@ use desk::states::Fed;
 use desk::states::Stage;
 use desk::states::State;
 use desk::states::start;
+use files::records::HEAD_LENGTH;
 use params::Params;
-
-// The bytes of a head.
-const HEAD: usize = 38;
 
 // Takes the records of both streams. The first head, which is judged already, stands first in buf with more bytes of the input
 // behind it, `got` in all.
@@ -21,7 +19,7 @@ pub(crate) fn read(
     got: usize,
 ) -> State {
     let mut s = start();
-    let mut held = to_front(buf, HEAD, got);
+    let mut held = to_front(buf, HEAD_LENGTH, got);
     let mut ended = got < buf.len();
     // A proved loop has to end, and nothing says that the input does. No run uses so many turns up: each but the last takes a record.
     let mut turns = u64::MAX;

@@ -14,7 +14,7 @@ use peel::peeling::Peeled;
 use settle::settling::settle;
 
 // As many buckets as a report takes; a head with more is refused.
-const MOST: usize = 1536;
+const MOST: usize = desk::heads::MOST_BUCKETS;
 
 fn main() {
     let mut buf = io::large_buffer();

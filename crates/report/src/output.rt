@@ -9,7 +9,7 @@ const ROOM: usize = 64 * (2 * MOST + 1);
 // The one line of a refusal.
 pub(crate) fn refusal(refusal: Refusal, at: usize) {
     let mut out = [0u8; 64];
-    let n = lines::lines::refused(&mut out, refusal, at);
+    let n = lines::lines::refused_line(&mut out, refusal, at);
     write_front(&out, n);
 }
 

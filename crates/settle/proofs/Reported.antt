@@ -29,12 +29,13 @@ use Rattle.params.proofs.Rules.{good-dimensions, dimensions-small}
 use Rattle.streamfile.specs.Streams.{StreamRead}
 use Rattle.streamfile.proofs.FreshStreams.{fresh-grown}
 use Rattle.desk.specs.declared.states.Fed.{Fed}
-use Rattle.desk.specs.Desk.{fewEnough, beginOf, started, Feeds, finishAnswer}
+use Rattle.desk.specs.Desk.{mostBuckets, fewEnough, beginOf, started, Feeds, finishAnswer}
 use Rattle.desk.proofs.Accepted.{TwoStreams, few-begun, near-done, accepted}
 use Rattle.desk.proofs.Accepts.{accepts}
 use Rattle.settle.specs.Settling.{settleJudged, lessDownstream, Settles}
 use Rattle.settle.proofs.Settled.{settled-is-peeled, settled-ends}
 use Rattle.settle.proofs.TwoStreams.{streams-settle, lost, by-net-counts}
+use Rattle.files.specs.Records.{headLength}
 
 -- slices that begin with a table have its lines
 table-lines : (es : List Entry) (fs : List ℕ) (ns : List ℤ) → lossLines (flowsOf es ++ fs) (numbersOf es ++ ns) (length es) ≡ entryLines es
@@ -68,7 +69,7 @@ pub record Reported (P : Params) (input text : List ℕ) : Type 0 where
   pub down : Sketch
   pub fed : Fed
   pub head : beginOf input ≡ record { answer = Done; params = P }
-  pub feeding : Feeds P (drop 38 input) (zeros P) (zeros P) started fed (lentSketch lent) down
+  pub feeding : Feeds P (drop headLength input) (zeros P) (zeros P) started fed (lentSketch lent) down
   pub finished : finishAnswer (fed .state .stage) (fed .state .at) ≡ Done
   pub long : (length (lent .flows) ≡ size P) × (length (lent .numbers) ≡ size P) × (length (lent .queue) ≡ size P) × (length (lent .marks) ≡ size P)
   pub figures : Figures
@@ -85,11 +86,11 @@ module _ {P : Params} {input text : List ℕ} (r : Reported P input text) where
   difference = combined true (lentSketch (r .lent)) (r .down)
 
   small : size P ≤ 65536
-  small = dimensions-small (good-dimensions P (fresh-grown (streams .first-read) .good))
+  small = dimensions-small (good-dimensions P (fresh-grown (streams .upstream-read) .good))
 
   not-refused : settleJudged P (r .down) (r .lent) ≡ Done
   not-refused =
-      streams-settle (streams .first-read) (streams .second-read) _ _ _ _ (r .long .0 ∙ sym (r .long .1)) (omega (arith, r .long .0, small)) (r .long .2) (r .long .3)
+      streams-settle (streams .upstream-read) (streams .downstream-read) _ _ _ _ (r .long .0 ∙ sym (r .long .1)) (omega (arith, r .long .0, small)) (r .long .2) (r .long .3)
 
   -- what the slices and the figures then say: the difference is peeled
   abbrev peeled : Slices
@@ -119,17 +120,17 @@ module _ {P : Params} {input text : List ℕ} (r : Reported P input text) where
       in
       r .written ∙ read ∙ ap (λ n. walkText (walk (ruleOf P) n (8 * size P) difference)) (r .long .0)
 
-  -- it fits in 64 bytes for each of twice 1536 lines and one more, which is what the program lends
-  pub report-fits : reportFits (64 * (2 * 1536 + 1)) (length (r .after .flows)) (length (r .after .numbers)) (r .figures .entries) (length (r .after .counts)) (length (r .after .idsums)) ≡ true
+  -- it fits in 64 bytes for each of twice the most buckets that a desk takes and one more, which is what the program lends
+  pub report-fits : reportFits (64 * (2 * mostBuckets + 1)) (length (r .after .flows)) (length (r .after .numbers)) (r .figures .entries) (length (r .after .counts)) (length (r .after .idsums)) ≡ true
   unfolding fewEnough
   report-fits =
       let whole = remainder-whole peels refl in
-      let few = leb-true (size P) 1536 (few-begun P input (r .head)) in
+      let few = leb-true (size P) mostBuckets (few-begun P input (r .head)) in
       let entries = listed-few peels refl in
       let entries-are : r .figures .entries ≡ length (closedTable outcome) = ap (λ g. g .entries) figures-are in
       let flows = ap (λ (L : Slices). length (L .flows)) after-is ∙ padded-long (length (r .lent .flows)) 0 _ (omega (arith, entries, entries-are, flows-many (closedTable outcome))) in
       let numbers = ap (λ (L : Slices). length (L .numbers)) after-is ∙ padded-long (length (r .lent .numbers)) (pos 0) _ (omega (arith, entries, entries-are, numbers-many (closedTable outcome), r .long .0, r .long .1)) in
-      rw (le-leb (r .figures .entries) (length (r .after .flows)) (omega (arith, flows, entries)), le-leb (r .figures .entries) (length (r .after .numbers)) (omega (arith, numbers, entries, r .long .0, r .long .1)), eq-eqb (length (r .after .idsums)) (length (r .after .counts)) (omega (arith, whole .counts-long, whole .idsums-long)), le-leb (64 * (r .figures .entries + length (r .after .counts) + 1)) (64 * (2 * 1536 + 1)) (omega (arith, entries, few, r .long .0, whole .counts-long)))
+      rw (le-leb (r .figures .entries) (length (r .after .flows)) (omega (arith, flows, entries)), le-leb (r .figures .entries) (length (r .after .numbers)) (omega (arith, numbers, entries, r .long .0, r .long .1)), eq-eqb (length (r .after .idsums)) (length (r .after .counts)) (omega (arith, whole .counts-long, whole .idsums-long)), le-leb (64 * (r .figures .entries + length (r .after .counts) + 1)) (64 * (2 * mostBuckets + 1)) (omega (arith, entries, few, r .long .0, whole .counts-long)))
 
   -- where the input is two streams, one directly after the other, the sketches are what their reader makes of them
   module _ {a b : List ℕ} {S T : Sketch} (is : input ≡ a ++ b) (one : StreamRead P a (zeros P) Done S) (two : StreamRead P b (zeros P) Done T) where

@@ -16,16 +16,18 @@ use Rattle.sketch.specs.Sketch.{Sketch, sketch, damagedAt, zeros}
 use Rattle.params.proofs.Judging.{first-done, first-passed, refuse-none}
 use Rattle.params.proofs.Rules.{good-dimensions, dimensions-small}
 use Rattle.files.specs.Bytes.{wordBytes}
-use Rattle.files.specs.Heads.{openingAnswer}
+use Rattle.files.proofs.HeadStages.{openingAnswer}
 use Rattle.files.specs.Layout.{headBytes, endBytes}
 use Rattle.files.specs.Turns.{inTurn, bucketPlace, endAnswer}
+use Rattle.files.specs.Records.{bucketKind, headLength, endKind}
 use Rattle.files.proofs.HeadTrips.{headed-long, opening-written, opening-done, head-read}
 use Rattle.files.proofs.RecordTrips.{not-kind, end-written}
 use Rattle.files.proofs.Turning.{in-turn-done, done-in-turn, whole-within, records-are}
-use Rattle.sketchfile.specs.Stored.{bucketsIn, lowest, bucketJudged, bucketsJudged, sketchAnswer, stored, sketchIn}
-use Rattle.sketchfile.specs.Writing.{bucketsBytes, usedBuckets, sketchBytes, sketchWriting}
+use Rattle.sketchfile.specs.Reading.{bucketsIn, lowest, bucketJudged, bucketsJudged, sketchAnswer, stored, sketchIn}
+use Rattle.sketchfile.specs.Writing.{bucketsBytes, nonzeroBuckets, sketchBytes, sketchWriteAnswer}
+use Rattle.sketchfile.proofs.BucketRecords.{sketch-opening}
 use Rattle.sketchfile.proofs.Written.{left-few, buckets-long, Writable}
-use Rattle.sketchfile.proofs.Filling.{filled-all, counts-long, idsums-long, Told, told-none, told-all}
+use Rattle.sketchfile.proofs.Filling.{filled-all, counts-long, idsums-long, Agrees, agrees-none, agrees-all}
 use Rattle.sketchfile.proofs.Rewriting.{rewritten-all, same-bytes}
 
 lengths-good : (P : Params) (c s : ℕ) → c ≡ size P → s ≡ size P → lengthsAnswer P c s ≡ Done
@@ -33,8 +35,8 @@ unfolding lengthsAnswer
 lengths-good P c s e h = rw (eq-eqb c (size P) e, eq-eqb s (size P) h)
 
 -- a sketch that can be written is, where there is room for its file
-pub writable-done : (P : Params) (S : Sketch) (o : ℕ) → Writable P S → length (sketchBytes P S) ≤ o → sketchWriting P S o ≡ Done
-unfolding sketchWriting lentAnswer
+pub writable-done : (P : Params) (S : Sketch) (o : ℕ) → Writable P S → length (sketchBytes P S) ≤ o → sketchWriteAnswer P S o ≡ Done
+unfolding sketchWriteAnswer lentAnswer
 writable-done P S o h l =
     first-passed (lentAnswer P (length (S .counts)) (length (S .idsums))) _ (rw (h .good) (lengths-good P _ _ (h .counts) (h .idsums)))
     ∙ (rw (le-ltb o (length (sketchBytes P S)) l) (refuse-none (size P) (damagedAt S) Damage Done (h .undamaged)))
@@ -45,7 +47,7 @@ module _ (P : Params) (S : Sketch) (able : Writable P S) where
   file = sketchBytes P S
 
   abbrev number : ℕ
-  number = usedBuckets 0 (size P) S
+  number = nonzeroBuckets 0 (size P) S
 
   abbrev before : List ℕ
   before = headBytes P ++ bucketsBytes 0 (size P) S
@@ -55,14 +57,14 @@ module _ (P : Params) (S : Sketch) (able : Writable P S) where
   file-is = sym (append-assoc (headBytes P) (bucketsBytes 0 (size P) S) (endBytes number))
 
   end-place : length before ≡ bucketPlace number
-  end-place = headed-long P (bucketsBytes 0 (size P) S) ∙ ap (λ (n : ℕ). 38 + n) (buckets-long S 0 (size P))
+  end-place = headed-long P (bucketsBytes 0 (size P) S) ∙ ap (λ (n : ℕ). headLength + n) (buckets-long S 0 (size P))
 
   short : size P ≤ 65536
   short = dimensions-small (good-dimensions P (able .good))
 
-  told : Told P file S number (size P)
+  agrees : Agrees P file S number (size P)
   unfolding sketchBytes headBytes wordBytes
-  told = rw (zero-add number) at (told-all P file S (endBytes number) short (able .undamaged) (size P) 0 0 (headBytes P) refl refl (zero-add (size P)) (told-none P file S))
+  agrees = rw (zero-add number) at (agrees-all P file S (endBytes number) short (able .undamaged) (size P) 0 0 (headBytes P) refl refl (zero-add (size P)) (agrees-none P file S))
 
   ended : endAnswer file (bucketPlace number) number ≡ Done
   ended = rw file-is (end-written before (bucketPlace number) number end-place (omega (arith, short, left-few S 0 (size P))))
@@ -71,14 +73,15 @@ module _ (P : Params) (S : Sketch) (able : Writable P S) where
   unfolding endBytes
   counted =
       let long : length file ≡ bucketPlace number + length (endBytes number) = ap length file-is ∙ length-append before (endBytes number) ∙ ap (λ (n : ℕ). n + length (endBytes number)) end-place in
-      let four : getD file (bucketPlace number) 0 ≡ 4 = rw file-is (getD-at before 4 (wordBytes number) 0 (bucketPlace number) end-place) in
-      records-are 3 bucketPlace file number (omega arith) (told .kinds) (not-kind file (bucketPlace number) 3 (λ q. omega arith))
+      let four : getD file (bucketPlace number) 0 ≡ endKind = rw file-is (getD-at before endKind (wordBytes number) 0 (bucketPlace number) end-place) in
+      records-are bucketKind bucketPlace file number (omega arith) (agrees .kinds) (not-kind file (bucketPlace number) bucketKind (λ q. omega arith))
 
   pub file-accepted : (c s : ℕ) → c ≡ size P → s ≡ size P → sketchAnswer P file c s ≡ Done
-  unfolding sketchBytes sketchAnswer bucketsJudged
+  unfolding sketchBytes bucketsJudged
   file-accepted c s e h =
-      let judged = in-turn-done number (bucketJudged (size P) file) (told .judged) in
-      first-passed (openingAnswer P file c s) _ (opening-written P _ c s (able .good) ∙ lengths-good P c s e h)
+      let judged = in-turn-done number (bucketJudged (size P) file) (agrees .judged) in
+      sketch-opening P file c s
+      ∙ first-passed (openingAnswer P file c s) _ (opening-written P _ c s (able .good) ∙ lengths-good P c s e h)
       ∙ rw counted (first-passed (inTurn 0 number (bucketJudged (size P) file)) _ judged ∙ ended)
 
   pub file-content : sketchIn P file ≡ S
@@ -86,19 +89,19 @@ module _ (P : Params) (S : Sketch) (able : Writable P S) where
   file-content =
       ap (λ (n : ℕ). stored file n (zeros P)) counted
       ∙ ap₂ sketch
-      (filled-all (pos 0) (S .counts) (counts-long P file number) (able .counts) (told .counts))
-      (filled-all 0 (S .idsums) (idsums-long P file number) (able .idsums) (told .idsums))
+      (filled-all (pos 0) (S .counts) (counts-long P file number) (able .counts) (agrees .counts))
+      (filled-all 0 (S .idsums) (idsums-long P file number) (able .idsums) (agrees .idsums))
 
 -- an accepted file is that of the sketch that it holds, which can be written
 pub accepted : (P : Params) (bs : List ℕ) (c s : ℕ) → ((k : ℕ) → getD bs k 0 < 256) → sketchAnswer P bs c s ≡ Done
     → Writable P (sketchIn P bs) × (sketchBytes P (sketchIn P bs) ≡ bs)
-unfolding sketchAnswer bucketsJudged sketchIn
+unfolding bucketsJudged sketchIn
 accepted P bs c s small e =
     let n = bucketsIn bs in
-    let h = first-done (openingAnswer P bs c s) (bucketsJudged (size P) bs) e in
+    let h = first-done (openingAnswer P bs c s) (bucketsJudged (size P) bs) (sym (sketch-opening P bs c s) ∙ e) in
     let opened = opening-done P bs c s (h .0) in
     let k = first-done (inTurn 0 n (bucketJudged (size P) bs)) (endAnswer bs (bucketPlace n) n) (h .1) in
     let head = head-read bs small P (opened .head) (opened .same) in
-    let r = rewritten-all P bs small n head (whole-within 3 bucketPlace bs) (done-in-turn n (bucketJudged (size P) bs) (k .0)) in
+    let r = rewritten-all P bs small n head (whole-within bucketKind bucketPlace bs) (done-in-turn n (bucketJudged (size P) bs) (k .0)) in
     let able : Writable P (stored bs n (zeros P)) = record { good = opened .good; counts = counts-long P bs n; idsums = idsums-long P bs n; undamaged = λ x l. r .undamaged x } in
     (able, same-bytes P bs small n (lowest bs n) (stored bs n (zeros P)) r (k .1))

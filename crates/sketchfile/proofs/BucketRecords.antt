@@ -1,35 +1,36 @@
 -- Laws of the buckets in a sketch file: what is refused of one, what a reader finds in turn, and what holds where nothing is refused.
 use mathlib.Core.Path.{_≡_, refl, sym, _∙_}
-use mathlib.Core.Bool.{Bool, true, false, not, cond, _&&_}
+use mathlib.Core.Bool.{Bool, true, false, cond, _&&_}
 use mathlib.Core.List.{List}
 use Prim.Native.Nat.{ℕ, _+_, _≤_, _<_}
 use native.Mathlib.Numerals.{add-one}
 use native.Mathlib.Omega.{arith}
-use borrow.Author.Tests.{le-leb, lt-leb, leb-true, lt-ltb, le-ltb, ltb-true, not-false}
-use lib.Dec.{leb, ltb}
+use borrow.Author.Tests.{lt-leb, leb-false, le-ltb, ltb-false}
+use lib.Dec.{ltb}
 use lib.IntN.{ℤ}
 use lib.ListN.{length, set}
 use Rattle.params.specs.declared.params.Params.{Params}
 use Rattle.params.specs.declared.answers.Refusal.the-variants.{Damage, Form}
 use Rattle.params.specs.declared.answers.Answer.{Answer}
 use Rattle.params.specs.declared.answers.Answer.the-variants.{Done, Refused}
-use Rattle.params.specs.Answers.{kept}
-use Rattle.params.specs.Params.{prime, lentAnswer}
+use Rattle.params.specs.Answers.{first, kept}
+use Rattle.params.specs.Params.{prime, size, lentAnswer}
 use Rattle.buckets.specs.Buckets.{allZero, inLimits, damaged}
 use Rattle.sketch.specs.Sketch.{Sketch, sketch, Freshened}
-use Rattle.params.proofs.Searches.{and-true}
 use Rattle.params.proofs.Judging.{Refuses, first-refused, first-passed, first-done, refuse-done}
 use Rattle.files.specs.declared.fields.Bucket.{Bucket}
 use Rattle.files.specs.declared.fields.Bucket.the-variants.{Of as BucketOf, No as NoBucket}
 use Rattle.files.specs.Bytes.{word, countOf}
-use Rattle.files.specs.Records.{bodyLength, recordAt, isKind}
-use Rattle.files.specs.Heads.{openingAnswer}
+use Rattle.files.specs.Records.{recordAt, isKind, bucketKind, headLength, bucketLength}
+use Rattle.files.specs.Heads.{parametersAnswer}
 use Rattle.files.specs.Layout.{bucketAt}
 use Rattle.files.specs.Turns.{bucketPlace, endAnswer}
-use Rattle.files.proofs.HeadTrips.{opening-done}
+use Rattle.files.specs.Fields.{indexField, countField, idsumField}
+use Rattle.files.proofs.HeadStages.{openingAnswer, opening-first}
+use Rattle.files.proofs.HeadTrips.{opening-lent}
 use Rattle.files.proofs.Standing.{kind-ends}
 use Rattle.files.proofs.Turning.{Come, come-start, come-next, come-end, come-within, in-turn-refused, in-turn-done, done-in-turn}
-use Rattle.sketchfile.specs.Stored.{bucketsIn, bucketIndex, bucketCount, bucketIdsum, lowest, bucketAnswer, bucketJudged, bucketsJudged, stored, sketchIn}
+use Rattle.sketchfile.specs.Reading.{bucketsIn, bucketIndex, bucketCount, bucketIdsum, lowest, tooLarge, notRising, bucketAnswer, bucketJudged, bucketsJudged, sketchAnswer, stored, sketchIn}
 
 -- what is refused of one bucket, by its stages
 module _ (N low at x : ℕ) (c : ℤ) (s : ℕ) where
@@ -38,21 +39,21 @@ module _ (N low at x : ℕ) (c : ℤ) (s : ℕ) where
   bucket-damaged e = rw e
 
   module _ (sound : (inLimits c && ltb s prime) ≡ true) where
-    pub bucket-low : x < low → Refused Form at ≡ bucketAnswer N low at x c s
+    pub bucket-large : tooLarge N x ≡ true → Refused Form at ≡ bucketAnswer N low at x c s
     unfolding bucketAnswer
-    bucket-low h = rw (sound, lt-leb low x h)
+    bucket-large h = rw (sound, h)
 
-    pub bucket-high : low ≤ x → N ≤ x → Refused Form at ≡ bucketAnswer N low at x c s
+    pub bucket-low : tooLarge N x ≡ false → notRising low x ≡ true → Refused Form at ≡ bucketAnswer N low at x c s
     unfolding bucketAnswer
-    bucket-high l h = rw (sound, le-leb low x l, le-ltb x N h)
+    bucket-low h l = rw (sound, h, l)
 
-    pub bucket-zero : low ≤ x → x < N → allZero c s ≡ true → Refused Form at ≡ bucketAnswer N low at x c s
+    pub bucket-zero : tooLarge N x ≡ false → notRising low x ≡ false → allZero c s ≡ true → Refused Form at ≡ bucketAnswer N low at x c s
     unfolding bucketAnswer
-    bucket-zero l h e = rw (sound, le-leb low x l, lt-ltb x N h, e)
+    bucket-zero h l e = rw (sound, h, l, e)
 
-    pub bucket-passed : low ≤ x → x < N → allZero c s ≡ false → Done ≡ bucketAnswer N low at x c s
+    pub bucket-passed : tooLarge N x ≡ false → notRising low x ≡ false → allZero c s ≡ false → Done ≡ bucketAnswer N low at x c s
     unfolding bucketAnswer
-    bucket-passed l h e = rw (sound, le-leb low x l, lt-ltb x N h, e)
+    bucket-passed h l e = rw (sound, h, l, e)
 
 -- a bucket record that is not refused
 pub record SoundBucket (N low x : ℕ) (c : ℤ) (s : ℕ) : Type 0 where
@@ -63,28 +64,28 @@ pub record SoundBucket (N low x : ℕ) (c : ℤ) (s : ℕ) : Type 0 where
 
 pub sound-done : {N low x : ℕ} {c : ℤ} {s : ℕ} (at : ℕ) → SoundBucket N low x c s → bucketAnswer N low at x c s ≡ Done
 unfolding bucketAnswer
-sound-done {N} {low} {x} {c} {s} at h = rw (h .undamaged, le-leb low x (h .rising), lt-ltb x N (h .inside), h .not-zero)
+sound-done {N} {low} {x} {c} {s} at h = rw (h .undamaged, lt-leb N x (h .inside), le-ltb x low (h .rising), h .not-zero)
 
 pub done-sound : (N low at x : ℕ) (c : ℤ) (s : ℕ) → bucketAnswer N low at x c s ≡ Done → SoundBucket N low x c s
 unfolding bucketAnswer
 done-sound N low at x c s e =
     let h = refuse-done (damaged c s) Damage at _ e in
-    let k = refuse-done (not (leb low x && ltb x N)) Form at _ (h .1) in
-    let l = and-true (leb low x) (ltb x N) (not-false _ (k .0)) in
+    let k = refuse-done (tooLarge N x) Form at _ (h .1) in
+    let l = refuse-done (notRising low x) Form at _ (k .1) in
     record {
       undamaged = h .0;
-      rising = leb-true low x (l .0);
-      inside = ltb-true x N (l .1);
-      not-zero = refuse-done (allZero c s) Form at Done (k .1) .0;
+      rising = ltb-false x low (l .0);
+      inside = leb-false N x (k .0);
+      not-zero = refuse-done (allZero c s) Form at Done (l .1) .0;
     }
 
 -- a reader has come to bucket n of the file, which is due at an offset
 pub record Reader (bs : List ℕ) (n at : ℕ) : Type 0 where
   pub place : at ≡ bucketPlace n
-  pub come : Come 3 bucketPlace bs n
+  pub come : Come bucketKind bucketPlace bs n
 
-pub reader-start : (bs : List ℕ) → Reader bs 0 38
-reader-start bs = record { place = refl; come = come-start 3 bucketPlace bs }
+pub reader-start : (bs : List ℕ) → Reader bs 0 headLength
+reader-start bs = record { place = refl; come = come-start bucketKind bucketPlace bs }
 
 -- it found bucket n there, whole
 pub record Found (bs : List ℕ) (n at k : ℕ) (c : ℤ) (s : ℕ) : Type 0 where
@@ -92,50 +93,49 @@ pub record Found (bs : List ℕ) (n at k : ℕ) (c : ℤ) (s : ℕ) : Type 0 whe
   pub count : c ≡ bucketCount bs n
   pub idsum : s ≡ bucketIdsum bs n
   -- cited by no name: `omega` reads it where a reader steps on, so that the offset fits its width and the bytes left grow fewer
-  pub before-end : at + 13 ≤ length bs
+  pub before-end : at + bucketLength ≤ length bs
   pub counted : n < bucketsIn bs
-  pub next : Reader bs (n + 1) (at + 13)
+  pub next : Reader bs (n + 1) (at + bucketLength)
 
 -- what stands at an offset: a whole bucket by its fields, or no bucket
 fields : (bs : List ℕ) (at k : ℕ) (c : ℤ) (s : ℕ) → BucketOf k c s ≡ bucketAt bs at
-    → (isKind 3 (recordAt bs at) ≡ true) × (k ≡ word bs (at + 1)) × (c ≡ countOf (word bs (at + 5))) × (s ≡ word bs (at + 9))
+    → (isKind bucketKind (recordAt bs at) ≡ true) × (k ≡ word bs (at + indexField)) × (c ≡ countOf (word bs (at + countField))) × (s ≡ word bs (at + idsumField))
 unfolding bucketAt
-fields bs at k c s = go (isKind 3 (recordAt bs at))
+fields bs at k c s = go (isKind bucketKind (recordAt bs at))
   where
-    go : (b : Bool) → BucketOf k c s ≡ cond b (BucketOf (word bs (at + 1)) (countOf (word bs (at + 5))) (word bs (at + 9))) NoBucket
-        → (b ≡ true) × (k ≡ word bs (at + 1)) × (c ≡ countOf (word bs (at + 5))) × (s ≡ word bs (at + 9))
+    go : (b : Bool) → BucketOf k c s ≡ cond b (BucketOf (word bs (at + indexField)) (countOf (word bs (at + countField))) (word bs (at + idsumField))) NoBucket
+        → (b ≡ true) × (k ≡ word bs (at + indexField)) × (c ≡ countOf (word bs (at + countField))) × (s ≡ word bs (at + idsumField))
     go true q = (refl, cc, cc, cc)
     go false q = absurd (let w : _≡_ {A = ℕ} 0 1 = cc in omega arith)
 
-no-bucket : (bs : List ℕ) (at : ℕ) → NoBucket ≡ bucketAt bs at → isKind 3 (recordAt bs at) ≡ false
+no-bucket : (bs : List ℕ) (at : ℕ) → NoBucket ≡ bucketAt bs at → isKind bucketKind (recordAt bs at) ≡ false
 unfolding bucketAt
-no-bucket bs at = go (isKind 3 (recordAt bs at))
+no-bucket bs at = go (isKind bucketKind (recordAt bs at))
   where
-    go : (b : Bool) → NoBucket ≡ cond b (BucketOf (word bs (at + 1)) (countOf (word bs (at + 5))) (word bs (at + 9))) NoBucket → b ≡ false
+    go : (b : Bool) → NoBucket ≡ cond b (BucketOf (word bs (at + indexField)) (countOf (word bs (at + countField))) (word bs (at + idsumField))) NoBucket → b ≡ false
     go true q = absurd (let w : _≡_ {A = ℕ} 0 1 = cc in omega arith)
     go false q = refl
 
-bucket-ends : (bs : List ℕ) (at : ℕ) → isKind 3 (recordAt bs at) ≡ true → at + 13 ≤ length bs
-unfolding bodyLength
-bucket-ends bs at e = omega (arith, kind-ends 3 bs at e)
+bucket-ends : (bs : List ℕ) (at : ℕ) → isKind bucketKind (recordAt bs at) ≡ true → at + bucketLength ≤ length bs
+bucket-ends bs at e = omega (arith, kind-ends bucketKind bs at e)
 
 module _ {bs : List ℕ} {n at : ℕ} {found : Bucket} (r : Reader bs n at) (e : found ≡ bucketAt bs at) where
   pub found-bucket : {k : ℕ} {c : ℤ} {s : ℕ} → found ≡ BucketOf k c s → Found bs n at k c s
   found-bucket {k} {c} {s} q =
       let f = rw (r .place) at (fields bs at k c s (sym q ∙ e)) in
       let short = bucket-ends bs (bucketPlace n) (f .0) in
-      let come-on = come-next 3 bucketPlace bs n (omega arith) (f .0) (r .come) in
+      let come-on = come-next bucketKind bucketPlace bs n (omega arith) (f .0) (r .come) in
       record {
         index = f .1;
         count = f .2;
         idsum = f .3;
         before-end = omega arith;
-        counted = omega (arith, come-within 3 bucketPlace bs (n + 1) come-on);
+        counted = omega (arith, come-within bucketKind bucketPlace bs (n + 1) come-on);
         next = record { place = omega arith; come = come-on };
       }
 
   pub none-left : found ≡ NoBucket → n ≡ bucketsIn bs
-  none-left q = come-end 3 bucketPlace bs n (rw (r .place) at (no-bucket bs at (sym q ∙ e))) (r .come)
+  none-left q = come-end bucketKind bucketPlace bs n (rw (r .place) at (no-bucket bs at (sym q ∙ e))) (r .come)
 
 -- the answers for the buckets in turn
 module _ (N : ℕ) {bs : List ℕ} {n at : ℕ} where
@@ -172,7 +172,7 @@ pub record Storing (bs : List ℕ) (S : Sketch) (at : ℕ) (T : Sketch) : Type 0
 pub all-stored : {P : Params} (bs : List ℕ) {S T U : Sketch} {a r : Answer} → Freshened P S a T → lentAnswer P (length (S .counts)) (length (S .idsums)) ≡ Done
     → U ≡ stored bs (bucketsIn bs) T → r ≡ Done → U ≡ kept r S (sketchIn P bs)
 unfolding kept sketchIn
-all-stored bs f shaped filled done = rw (done, filled, f .after, f .answer, shaped)
+all-stored bs f lent-right filled done = rw (done, filled, f .after, f .answer, lent-right)
 
 -- where nothing is refused, each index lies in the sketch, and the parameters and the lengths of the lent slices are right
 pub indexes-inside : (N : ℕ) (bs : List ℕ) → bucketsJudged N bs ≡ Done → (k : ℕ) → k < bucketsIn bs → bucketIndex bs k < N
@@ -180,6 +180,19 @@ unfolding bucketsJudged bucketJudged
 indexes-inside N bs e k l =
     done-sound N (lowest bs k) (bucketPlace k) _ _ _ (done-in-turn (bucketsIn bs) (bucketJudged N bs) (first-done _ _ e .0) k l) .inside
 
-pub opening-lent : (P : Params) (bs : List ℕ) (c s : ℕ) → openingAnswer P bs c s ≡ Done → lentAnswer P c s ≡ Done
-unfolding lentAnswer
-opening-lent P bs c s e = let opened = opening-done P bs c s e in rw (opened .good) (opened .lengths)
+-- the parameters and the lengths, then the records
+pub sketch-opening : (P : Params) (bs : List ℕ) (c s : ℕ) → sketchAnswer P bs c s ≡ first (openingAnswer P bs c s) (bucketsJudged (size P) bs)
+unfolding sketchAnswer
+sketch-opening P bs c s = opening-first P bs c s _
+
+module _ (P : Params) (bs : List ℕ) (c s : ℕ) where
+  pub bad-parameters : (r : Answer) → r ≡ parametersAnswer P bs → Refuses r → r ≡ sketchAnswer P bs c s
+  unfolding sketchAnswer
+  bad-parameters r e h = first-refused r _ _ e h
+
+  module _ (right : parametersAnswer P bs ≡ Done) where
+    pub bad-lengths : (r : Answer) → r ≡ lentAnswer P c s → Refuses r → r ≡ sketchAnswer P bs c s
+    bad-lengths r e h = first-refused r _ _ (e ∙ opening-lent P bs c s right) h ∙ sym (sketch-opening P bs c s)
+
+    pub records-decide : lentAnswer P c s ≡ Done → bucketsJudged (size P) bs ≡ sketchAnswer P bs c s
+    records-decide e = sym (sketch-opening P bs c s ∙ first-passed _ _ (sym (opening-lent P bs c s right) ∙ e))

@@ -17,8 +17,9 @@ use Rattle.params.proofs.Searches.{and-true}
 use Rattle.buckets.specs.Buckets.{isZero}
 use Rattle.buckets.proofs.Zeros.{zero-is}
 use Rattle.files.specs.Bytes.{word, wordBytes, countWord, countOf}
-use Rattle.files.specs.Records.{bodyLength, recordAt, isKind}
+use Rattle.files.specs.Records.{recordAt, isKind, bucketKind, bucketLength}
 use Rattle.files.specs.Layout.{bucketBytes}
+use Rattle.files.specs.Fields.{indexField, countField, idsumField}
 use Rattle.files.proofs.Standing.{kind-ends}
 use Rattle.files.proofs.RoundTrips.{digits-make, word-small, word-then, two-words}
 use Rattle.files.proofs.RecordTrips.{kind-written, word-written, record-read}
@@ -27,32 +28,32 @@ use Rattle.sketchfile.specs.Writing.{zeroAt, bucketsBytes}
 
 -- a whole bucket record at an offset, by what it says
 pub record Bucketed (bs : List ℕ) (at k : ℕ) (c : ℤ) (s : ℕ) : Type 0 where
-  pub kind : isKind 3 (recordAt bs at) ≡ true
-  pub index : word bs (at + 1) ≡ k
-  pub count : countOf (word bs (at + 5)) ≡ c
-  pub idsum : word bs (at + 9) ≡ s
+  pub kind : isKind bucketKind (recordAt bs at) ≡ true
+  pub index : word bs (at + indexField) ≡ k
+  pub count : countOf (word bs (at + countField)) ≡ c
+  pub idsum : word bs (at + idsumField) ≡ s
 
 pub bucket-written : (bs xs ys : List ℕ) (at k : ℕ) (c : ℤ) (s : ℕ) → bs ≡ xs ++ (bucketBytes k c s ++ ys) → length xs ≡ at → k < 4294967296 → SFits w32 c → s < 4294967296
     → Bucketed bs at k c s
-unfolding bucketBytes bodyLength wordBytes word
+unfolding bucketBytes wordBytes word
 bucket-written bs xs ys at k c s form e h f l =
     let body = wordBytes k ++ (wordBytes (countWord c) ++ wordBytes s) in
-    let told = word-written bs xs body ys at 3 form e in
+    let read = word-written bs xs body ys at bucketKind form e in
     record {
-      kind = kind-written bs xs body ys at 3 form e refl (omega arith);
-      index = told 1 ∙ digits-make k h;
-      count = ap (toZ w32) (told 5 ∙ digits-make (countWord c) (ofZ-fits w32 c f .fits)) ∙ toZ-ofZ w32 c f;
-      idsum = told 9 ∙ digits-make s l;
+      kind = kind-written bs xs body ys at bucketKind form e refl (omega arith);
+      index = read indexField ∙ digits-make k h;
+      count = ap (toZ w32) (read countField ∙ digits-make (countWord c) (ofZ-fits w32 c f .fits)) ∙ toZ-ofZ w32 c f;
+      idsum = read idsumField ∙ digits-make s l;
     }
 
-pub bucket-read : (bs : List ℕ) (at : ℕ) → ((k : ℕ) → getD bs k 0 < 256) → isKind 3 (recordAt bs at) ≡ true
-    → bucketBytes (word bs (at + 1)) (countOf (word bs (at + 5))) (word bs (at + 9)) ≡ take 13 (drop at bs)
-unfolding bucketBytes bodyLength
+pub bucket-read : (bs : List ℕ) (at : ℕ) → ((k : ℕ) → getD bs k 0 < 256) → isKind bucketKind (recordAt bs at) ≡ true
+    → bucketBytes (word bs (at + indexField)) (countOf (word bs (at + countField))) (word bs (at + idsumField)) ≡ take bucketLength (drop at bs)
+unfolding bucketBytes
 bucket-read bs at small h =
-    let long = kind-ends 3 bs at h in
-    let count = ofZ-toZ w32 (word bs (at + 5)) (record { fits = word-small bs small (at + 5) }) in
-    let both = ap (λ (n : ℕ). wordBytes n ++ wordBytes (word bs (at + 9))) count ∙ two-words bs small (at + 5) (at + 9) (omega arith) (omega arith) in
-    record-read bs at 3 _ h (ap (λ (xs : List ℕ). wordBytes (word bs (at + 1)) ++ xs) both ∙ word-then bs small (at + 1) (at + 5) 8 (omega arith) (omega arith))
+    let long = kind-ends bucketKind bs at h in
+    let count = ofZ-toZ w32 (word bs (at + countField)) (record { fits = word-small bs small (at + countField) }) in
+    let both = ap (λ (n : ℕ). wordBytes n ++ wordBytes (word bs (at + idsumField))) count ∙ two-words bs small (at + countField) (at + idsumField) (omega arith) (omega arith) in
+    record-read bs at bucketKind _ h (ap (λ (xs : List ℕ). wordBytes (word bs (at + indexField)) ++ xs) both ∙ word-then bs small (at + indexField) (at + countField) 8 (omega arith) (omega arith))
 
 -- a bucket that is all zero, by its test
 pub all-zero : (c : ℤ) (s : ℕ) → allZero c s ≡ true → (c ≡ pos 0) × (s ≡ 0)

@@ -15,11 +15,11 @@ use Rattle.params.specs.Params.{size}
 use Rattle.sketch.specs.Sketch.{Sketch, countIn, idsumIn, damagedAt, zeros}
 use Rattle.buckets.proofs.Limits.{whole, limits-fit}
 use Rattle.files.specs.Bytes.{wordBytes}
-use Rattle.files.specs.Records.{recordAt, isKind}
+use Rattle.files.specs.Records.{recordAt, isKind, bucketKind}
 use Rattle.files.specs.Layout.{bucketBytes}
 use Rattle.files.specs.Turns.{bucketPlace}
-use Rattle.sketchfile.specs.Stored.{bucketIndex, bucketCount, bucketIdsum, lowest, bucketJudged, stored}
-use Rattle.sketchfile.specs.Writing.{zeroAt, bucketsBytes, usedBuckets}
+use Rattle.sketchfile.specs.Reading.{bucketIndex, bucketCount, bucketIdsum, lowest, bucketJudged, stored}
+use Rattle.sketchfile.specs.Writing.{zeroAt, bucketsBytes, nonzeroBuckets}
 use Rattle.sketchfile.proofs.BucketRecords.{SoundBucket, sound-done}
 use Rattle.sketchfile.proofs.BucketTrips.{Bucketed, bucket-written, all-zero}
 
@@ -65,18 +65,18 @@ module _ (P : Params) (bs : List ℕ) where
   idsums-long zero = length-replicate (size P) 0
   idsums-long (suc k) = length-set (stored bs k (zeros P) .idsums) (bucketIndex bs k) (bucketIdsum bs k) ∙ idsums-long k
 
--- the first j records of a file are sound and tell the buckets of S below k
-pub record Told (P : Params) (bs : List ℕ) (S : Sketch) (j k : ℕ) : Type 0 where
-  pub kinds : (x : ℕ) → x < j → isKind 3 (recordAt bs (bucketPlace x)) ≡ true
+-- the first j records of a file are sound and agree with the buckets of S below k
+pub record Agrees (P : Params) (bs : List ℕ) (S : Sketch) (j k : ℕ) : Type 0 where
+  pub kinds : (x : ℕ) → x < j → isKind bucketKind (recordAt bs (bucketPlace x)) ≡ true
   pub judged : (x : ℕ) → x < j → bucketJudged (size P) bs x ≡ Done
   pub low : lowest bs j ≤ k
   pub counts : Filled (pos 0) (S .counts) (stored bs j (zeros P) .counts) k
   pub idsums : Filled 0 (S .idsums) (stored bs j (zeros P) .idsums) k
 
 module _ (P : Params) (bs : List ℕ) (S : Sketch) where
-  pub told-none : Told P bs S 0 0
+  pub agrees-none : Agrees P bs S 0 0
   unfolding lowest stored zeros
-  told-none =
+  agrees-none =
       record {
         kinds = λ x l. absurd (omega arith);
         judged = λ x l. absurd (omega arith);
@@ -85,8 +85,8 @@ module _ (P : Params) (bs : List ℕ) (S : Sketch) where
         idsums = filled-none 0 (S .idsums) (size P);
       }
 
-  told-zero : (j k : ℕ) → zeroAt S k ≡ true → Told P bs S j k → Told P bs S j (suc k)
-  told-zero j k e t =
+  agrees-zero : (j k : ℕ) → zeroAt S k ≡ true → Agrees P bs S j k → Agrees P bs S j (suc k)
+  agrees-zero j k e t =
       let z = all-zero (countIn S k) (idsumIn S k) e in
       record {
         kinds = t .kinds;
@@ -96,46 +96,46 @@ module _ (P : Params) (bs : List ℕ) (S : Sketch) where
         idsums = filled-skip 0 (S .idsums) (z .1) (t .idsums);
       }
 
-  told-next : (j k : ℕ) → k < size P → damagedAt S k ≡ false → zeroAt S k ≡ false → Bucketed bs (bucketPlace j) k (countIn S k) (idsumIn S k)
-      → Told P bs S j k → Told P bs S (suc j) (suc k)
+  agrees-next : (j k : ℕ) → k < size P → damagedAt S k ≡ false → zeroAt S k ≡ false → Bucketed bs (bucketPlace j) k (countIn S k) (idsumIn S k)
+      → Agrees P bs S j k → Agrees P bs S (suc j) (suc k)
   unfolding lowest stored bucketJudged
-  told-next j k h intact some b t =
+  agrees-next j k h intact some b t =
       let sound : SoundBucket (size P) (lowest bs j) k (countIn S k) (idsumIn S k) = record { undamaged = intact; rising = t .low; inside = h; not-zero = some } in
       let here : bucketJudged (size P) bs j ≡ Done = rw (b .index, b .count, b .idsum) (sound-done (bucketPlace j) sound) in
       record {
-        kinds = λ x l. below-more (λ x. isKind 3 (recordAt bs (bucketPlace x)) ≡ true) j (t .kinds) (b .kind) x (omega arith);
+        kinds = λ x l. below-more (λ x. isKind bucketKind (recordAt bs (bucketPlace x)) ≡ true) j (t .kinds) (b .kind) x (omega arith);
         judged = λ x l. below-more (λ x. bucketJudged (size P) bs x ≡ Done) j (t .judged) here x (omega arith);
         low = omega (arith, b .index);
         counts = filled-next (pos 0) (S .counts) (b .index) (b .count) (omega (arith, counts-long P bs j)) (t .counts);
         idsums = filled-next 0 (S .idsums) (b .index) (b .idsum) (omega (arith, idsums-long P bs j)) (t .idsums);
       }
 
-  told-same : {i j k l : ℕ} → i ≡ j → l ≡ k → Told P bs S j k → Told P bs S i l
-  told-same e f t = rw (e, f) t
+  agrees-same : {i j k l : ℕ} → i ≡ j → l ≡ k → Agrees P bs S j k → Agrees P bs S i l
+  agrees-same e f t = rw (e, f) t
 
   -- the records of the buckets from k on, after others
   module _ (rest : List ℕ) (small : size P ≤ 65536) (undamaged : (x : ℕ) → x < size P → damagedAt S x ≡ false) where
-    told-step : (n k j : ℕ) (before : List ℕ) (b : Bool) → zeroAt S k ≡ b → length before ≡ bucketPlace j
-        → bs ≡ before ++ ((cond b [] (bucketBytes k (countIn S k) (idsumIn S k)) ++ bucketsBytes (suc k) n S) ++ rest) → k < size P → Told P bs S j k
-        → ((j : ℕ) (before : List ℕ) → length before ≡ bucketPlace j → bs ≡ before ++ (bucketsBytes (suc k) n S ++ rest) → Told P bs S j (suc k)
-        → Told P bs S (j + usedBuckets (suc k) n S) (size P))
-        → Told P bs S (j + (cond b 0 1 + usedBuckets (suc k) n S)) (size P)
+    agrees-step : (n k j : ℕ) (before : List ℕ) (b : Bool) → zeroAt S k ≡ b → length before ≡ bucketPlace j
+        → bs ≡ before ++ ((cond b [] (bucketBytes k (countIn S k) (idsumIn S k)) ++ bucketsBytes (suc k) n S) ++ rest) → k < size P → Agrees P bs S j k
+        → ((j : ℕ) (before : List ℕ) → length before ≡ bucketPlace j → bs ≡ before ++ (bucketsBytes (suc k) n S ++ rest) → Agrees P bs S j (suc k)
+        → Agrees P bs S (j + nonzeroBuckets (suc k) n S) (size P))
+        → Agrees P bs S (j + (cond b 0 1 + nonzeroBuckets (suc k) n S)) (size P)
     unfolding bucketBytes wordBytes
-    told-step n k j before true z e q l t ih = told-same (omega arith) refl (ih j before e q (told-zero j k z t))
-    told-step n k j before false z e q l t ih =
+    agrees-step n k j before true z e q l t ih = agrees-same (omega arith) refl (ih j before e q (agrees-zero j k z t))
+    agrees-step n k j before false z e q l t ih =
         let this = bucketBytes k (countIn S k) (idsumIn S k) in
         let other-counts = bucketsBytes (suc k) n S ++ rest in
         let form : bs ≡ before ++ (this ++ other-counts) = q ∙ ap (λ (xs : List ℕ). before ++ xs) (append-assoc this (bucketsBytes (suc k) n S) rest) in
         let limits = whole (countIn S k) (idsumIn S k) (undamaged k l) in
         let fits = limits-fit (countIn S k) (limits .0) in
         let b = bucket-written bs before other-counts (bucketPlace j) k (countIn S k) (idsumIn S k) form e (omega arith) fits (omega (arith, limits .1)) in
-        told-same (omega arith) refl
+        agrees-same (omega arith) refl
         (ih (suc j) (before ++ this) (length-append before this ∙ omega arith) (form ∙ sym (append-assoc before this other-counts))
-        (told-next j k l (undamaged k l) z b t))
+        (agrees-next j k l (undamaged k l) z b t))
 
-    pub told-all : (n k j : ℕ) (before : List ℕ) → length before ≡ bucketPlace j → bs ≡ before ++ (bucketsBytes k n S ++ rest) → k + n ≡ size P → Told P bs S j k
-        → Told P bs S (j + usedBuckets k n S) (size P)
-    unfolding bucketsBytes usedBuckets
-    told-all zero k j before e q l t = told-same (omega arith) (omega arith) t
-    told-all (suc n) k j before e q l t =
-        told-step n k j before (zeroAt S k) refl e q (omega arith) t (λ i longer f g u. told-all n (suc k) i longer f g (omega arith) u)
+    pub agrees-all : (n k j : ℕ) (before : List ℕ) → length before ≡ bucketPlace j → bs ≡ before ++ (bucketsBytes k n S ++ rest) → k + n ≡ size P → Agrees P bs S j k
+        → Agrees P bs S (j + nonzeroBuckets k n S) (size P)
+    unfolding bucketsBytes nonzeroBuckets
+    agrees-all zero k j before e q l t = agrees-same (omega arith) (omega arith) t
+    agrees-all (suc n) k j before e q l t =
+        agrees-step n k j before (zeroAt S k) refl e q (omega arith) t (λ i longer f g u. agrees-all n (suc k) i longer f g (omega arith) u)

@@ -1,12 +1,12 @@
--- What is told with each refusal of a sketch file: the head and the lengths come first, then the buckets in turn, then the end. And what a sketch's writer tells.
+-- What goes with each refusal of a sketch file: the head and the lengths come first, then the buckets in turn, then the end. And what a sketch's writer returns.
 use mathlib.Core.Path.{_≡_, refl, sym, ap, _∙_}
-use mathlib.Core.Bool.{Bool, true, false, not, _&&_, _||_}
+use mathlib.Core.Bool.{Bool, true, false, not, _||_}
 use mathlib.Core.Logic.{⊎-elim}
 use mathlib.Core.List.{List}
 use Prim.Native.Nat.{ℕ, _≤_, _<_}
 use native.Mathlib.Omega.{arith}
 use borrow.Author.Tests.{ltb-true}
-use lib.Dec.{leb, ltb}
+use lib.Dec.{ltb}
 use lib.ListN.{length}
 use Rattle.params.specs.declared.params.Params.{Params}
 use Rattle.params.specs.declared.answers.Refusal.{Refusal}
@@ -24,19 +24,20 @@ use Rattle.params.proofs.InOrder.{order, firstOf, lowest-first, some, refuse-nu
 use Rattle.sketch.proofs.InOrder.{wrongLength}
 use Rattle.files.specs.declared.writing.Written.{Written}
 use Rattle.files.specs.declared.writing.Written.the-variants.{Refused as NotWritten}
-use Rattle.files.specs.Heads.{openingAnswer}
+use Rattle.files.proofs.HeadStages.{openingAnswer}
 use Rattle.files.specs.Turns.{inTurn, bucketPlace, endAnswer}
 use Rattle.files.specs.Writing.{writtenNumber, writtenIndex, writtenLength}
 use Rattle.files.proofs.HeadTrips.{Opened, opening-done}
 use Rattle.files.proofs.Turning.{Earliest, in-turn-earliest, done-in-turn}
 use Rattle.files.proofs.InOrder.{openingOrder, openingFault, opening-number, opening-index, EndFault, end-fault, written-number, written-index, written-length, refused-as-it-was}
-use Rattle.sketchfile.specs.Stored.{bucketsIn, bucketIndex, bucketCount, bucketIdsum, lowest, bucketAnswer, bucketJudged, bucketsJudged, sketchAnswer}
-use Rattle.sketchfile.specs.Writing.{sketchBytes, sketchWriting, SketchWritten}
+use Rattle.sketchfile.specs.Reading.{bucketsIn, bucketIndex, bucketCount, bucketIdsum, lowest, tooLarge, notRising, bucketAnswer, bucketJudged, bucketsJudged, sketchAnswer}
+use Rattle.sketchfile.specs.Writing.{sketchBytes, sketchWriteAnswer, SketchWritten}
+use Rattle.sketchfile.proofs.BucketRecords.{sketch-opening}
 
--- which faults the j-th record has, in a sketch of N buckets: damage, an index that does not rise or is not below N, or a bucket that is all zero
+-- which faults the j-th record has, in a sketch of N buckets: damage, an index that is too large or does not rise, or a bucket that is all zero
 abbrev pub bucketFault : ℕ → List ℕ → ℕ → Refusal → Bool
 bucketFault N bs j Damage = damaged (bucketCount bs j) (bucketIdsum bs j)
-bucketFault N bs j Form = not (leb (lowest bs j) (bucketIndex bs j) && ltb (bucketIndex bs j) N) || allZero (bucketCount bs j) (bucketIdsum bs j)
+bucketFault N bs j Form = tooLarge N (bucketIndex bs j) || (notRising (lowest bs j) (bucketIndex bs j) || allZero (bucketCount bs j) (bucketIdsum bs j))
 bucketFault N bs j Param = false
 bucketFault N bs j Length = false
 bucketFault N bs j Flow = false
@@ -51,16 +52,17 @@ module _ (N : ℕ) (bs : List ℕ) (j : ℕ) where
 
   bucket-place : (w : Refusal) (k : ℕ) → bucketJudged N bs j ≡ Refused w k → k ≡ bucketPlace j
   unfolding bucketJudged bucketAnswer
-  bucket-place w k = go (damaged (bucketCount bs j) (bucketIdsum bs j)) (not (leb (lowest bs j) (bucketIndex bs j) && ltb (bucketIndex bs j) N)) (allZero (bucketCount bs j) (bucketIdsum bs j))
+  bucket-place w k = go (damaged (bucketCount bs j) (bucketIdsum bs j)) (tooLarge N (bucketIndex bs j)) (notRising (lowest bs j) (bucketIndex bs j)) (allZero (bucketCount bs j) (bucketIdsum bs j))
     where
-      go : (x y z : Bool) → refuseIf x Damage (bucketPlace j) (refuseIf y Form (bucketPlace j) (refuseIf z Form (bucketPlace j) Done)) ≡ Refused w k → k ≡ bucketPlace j
-      go true y z e = cc
-      go false true z e = cc
-      go false false true e = cc
-      go false false false e = absurd (let z : _≡_ {A = ℕ} 0 1 = cc in omega arith)
+      go : (x y z v : Bool) → refuseIf x Damage (bucketPlace j) (refuseIf y Form (bucketPlace j) (refuseIf z Form (bucketPlace j) (refuseIf v Form (bucketPlace j) Done))) ≡ Refused w k → k ≡ bucketPlace j
+      go true y z v e = cc
+      go false true z v e = cc
+      go false false true v e = cc
+      go false false false true e = cc
+      go false false false false e = absurd (let z : _≡_ {A = ℕ} 0 1 = cc in omega arith)
 
 module _ (P : Params) (bs : List ℕ) (c s : ℕ) (w : Refusal) (k : ℕ) where
-  -- the earliest bucket at fault: those before it were accepted, the first of its faults decides the number, and its offset is told
+  -- the earliest bucket at fault: those before it were accepted, the first of its faults decides the number, and its offset goes with it
   pub record BucketFault : Type 0 where
     pub which : ℕ
     pub one : which < bucketsIn bs
@@ -95,12 +97,11 @@ module _ (P : Params) (bs : List ℕ) (c s : ℕ) (w : Refusal) (k : ℕ) where
       (first-either (inTurn 0 n judge) (endAnswer bs (bucketPlace n) n) w k e)
 
   pub sketch-fault : sketchAnswer P bs c s ≡ Refused w k → SketchFault
-  unfolding sketchAnswer
   sketch-fault e =
       ⊎-elim
       (λ h. in-opening (sym (ap numberIn h) ∙ opening-number P bs c s) (sym (ap indexIn h) ∙ opening-index P bs c s))
       (λ h. records-fault (opening-done P bs c s (h .0)) (h .1))
-      (first-either (openingAnswer P bs c s) (bucketsJudged (size P) bs) w k e)
+      (first-either (openingAnswer P bs c s) (bucketsJudged (size P) bs) w k (sym (sketch-opening P bs c s) ∙ e))
 
 -- which faults apply where a sketch is written into an output of o bytes
 abbrev pub writeFault : Params → Sketch → ℕ → Refusal → Bool
@@ -114,14 +115,14 @@ writeFault P S o Mismatch = false
 writeFault P S o Form = false
 
 module _ (P : Params) (S : Sketch) (o : ℕ) where
-  writing-number : numberIn (sketchWriting P S o) ≡ firstOf order (writeFault P S o)
-  unfolding sketchWriting lentAnswer lengthsAnswer first
+  writing-number : numberIn (sketchWriteAnswer P S o) ≡ firstOf order (writeFault P S o)
+  unfolding sketchWriteAnswer lentAnswer lengthsAnswer first
   writing-number = simp (first-refuse, refuse-number, refuse-at-number, cond-either)
 
   -- the lowest damaged bucket goes with the number of Damage, 0 with any other
-  writing-index : (numberIn (sketchWriting P S o) ≡ 5 → Lowest (size P) (damagedAt S) (indexIn (sketchWriting P S o)))
-      × ((numberIn (sketchWriting P S o) ≡ 5 → ⊥) → indexIn (sketchWriting P S o) ≡ 0)
-  unfolding sketchWriting lentAnswer lengthsAnswer first refuseAt
+  writing-index : (numberIn (sketchWriteAnswer P S o) ≡ 5 → Lowest (size P) (damagedAt S) (indexIn (sketchWriteAnswer P S o)))
+      × ((numberIn (sketchWriteAnswer P S o) ≡ 5 → ⊥) → indexIn (sketchWriteAnswer P S o) ≡ 0)
+  unfolding sketchWriteAnswer lentAnswer lengthsAnswer first refuseAt
   writing-index = go (not (goodParams P)) (wrongLength P S) (ltb o (length (sketchBytes P S))) (ltb found (size P)) refl
     where
       found : ℕ
@@ -141,7 +142,7 @@ module _ (P : Params) (S : Sketch) (o : ℕ) where
 -- h is what the contract of `write_sketch` gives
 module _ {P : Params} {S : Sketch} {out : List ℕ} {r : Written} {out' : List ℕ} (h : SketchWritten P S out r out') where
   abbrev judged : Answer
-  judged = sketchWriting P S (length out)
+  judged = sketchWriteAnswer P S (length out)
 
   abbrev long : ℕ
   long = length (sketchBytes P S)
@@ -164,7 +165,7 @@ module _ {P : Params} {S : Sketch} {out : List ℕ} {r : Written} {out' : List �
   write-sketch-index n =
       written-index judged long (h .answer) ∙ writing-index P S (length out) .1 (λ e. n (written-number judged long (h .answer) ∙ e))
 
-  -- where nothing is at fault the file's length is told
+  -- where nothing is at fault the file's length is returned
   pub write-sketch-length : writtenNumber r ≡ 0 → writtenLength r ≡ length (sketchBytes P S)
   write-sketch-length e = written-length judged long (h .answer) e
 

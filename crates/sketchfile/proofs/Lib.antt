@@ -1,4 +1,4 @@
--- The laws of sketch files, that a sketch has one file, and what is told with each refusal.
+-- The laws of sketch files, that a sketch has one file, and what goes with each refusal.
 pub mod BucketRecords
 pub mod Written
 pub mod BucketTrips

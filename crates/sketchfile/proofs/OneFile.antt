@@ -16,8 +16,8 @@ use Rattle.files.specs.declared.writing.Written.{Written}
 use Rattle.files.specs.declared.writing.Written.the-variants.{Bytes}
 use Rattle.files.specs.Writing.{writtenOf}
 use Rattle.files.proofs.Overwriting.{written-front}
-use Rattle.sketchfile.specs.Stored.{sketchAnswer, sketchIn, SketchRead}
-use Rattle.sketchfile.specs.Writing.{sketchBytes, sketchWriting, SketchWritten}
+use Rattle.sketchfile.specs.Reading.{sketchAnswer, sketchIn, SketchRead}
+use Rattle.sketchfile.specs.Writing.{sketchBytes, sketchWriteAnswer, SketchWritten}
 use Rattle.sketchfile.proofs.Written.{Writable, writing-done}
 use Rattle.sketchfile.proofs.Accepting.{writable-done, file-accepted, file-content, accepted}
 
@@ -25,7 +25,7 @@ use Rattle.sketchfile.proofs.Accepting.{writable-done, file-accepted, f
 pub read-written : {P : Params} {S T T' : Sketch} {out out' : List ℕ} {n : ℕ} {r : Answer} → SketchWritten P S out (Bytes n) out' → SketchRead P (take n out') T r T'
     → length (T .counts) ≡ size P → length (T .idsums) ≡ size P → (r ≡ Done) × (T' ≡ S)
 read-written {P} {S} {T} {T'} {out} {out'} {n} {r} w q c s =
-    let wrote = written-front (sketchWriting P S (length out)) out (sketchBytes P S) (w .answer) (w .bytes) in
+    let wrote = written-front (sketchWriteAnswer P S (length out)) out (sketchBytes P S) (w .answer) (w .bytes) in
     let able = writing-done P S (length out) (wrote .0) .0 in
     let front = wrote .1 in
     let judged = ap (λ (bs : List ℕ). sketchAnswer P bs (length (T .counts)) (length (T .idsums))) front in
@@ -49,8 +49,8 @@ written-read {P} {bs} {T} {T'} {out} {out'} {r} small q w l =
     let same : sketchBytes P T' ≡ bs = f .1 in
     let long : length (sketchBytes P T') ≡ length bs = ap length same in
     let done = writable-done P T' (length out) (f .0) (omega arith) in
-    let told : r ≡ Bytes (length bs) = w .answer ∙ ap₂ writtenOf done long in
-    (told, written-front (sketchWriting P T' (length out)) out (sketchBytes P T') (sym told ∙ w .answer) (w .bytes) .1 ∙ same)
+    let returned : r ≡ Bytes (length bs) = w .answer ∙ ap₂ writtenOf done long in
+    (returned, written-front (sketchWriteAnswer P T' (length out)) out (sketchBytes P T') (sym returned ∙ w .answer) (w .bytes) .1 ∙ same)
 
 -- so two accepted files that read as the same sketch are the same
 pub one-file : {P : Params} {bs cs : List ℕ} {S T U : Sketch} → ((k : ℕ) → getD bs k 0 < 256) → ((k : ℕ) → getD cs k 0 < 256)

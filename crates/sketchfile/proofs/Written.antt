@@ -18,26 +18,27 @@ use Rattle.params.proofs.Judging.{first-done, first-passed, refuse-done, refuse
 use Rattle.params.proofs.Rules.{good-dimensions, dimensions-small, lent-done}
 use Rattle.files.specs.Bytes.{wordBytes}
 use Rattle.files.specs.Layout.{bucketBytes}
+use Rattle.files.specs.Records.{headLength, bucketLength, endLength}
 use Rattle.files.proofs.Overwriting.{length-file}
-use Rattle.sketchfile.specs.Writing.{zeroAt, bucketsBytes, usedBuckets, sketchBytes, sketchWriting}
+use Rattle.sketchfile.specs.Writing.{zeroAt, bucketsBytes, nonzeroBuckets, sketchBytes, sketchWriteAnswer}
 
 module _ (S : Sketch) where
-  pub left-few : (k n : ℕ) → usedBuckets k n S ≤ n
-  unfolding usedBuckets
+  pub left-few : (k n : ℕ) → nonzeroBuckets k n S ≤ n
+  unfolding nonzeroBuckets
   left-few k zero = omega arith
   left-few k (suc n) = go (zeroAt S k) (left-few (suc k) n)
     where
-      go : (b : Bool) → usedBuckets (suc k) n S ≤ n → cond b 0 1 + usedBuckets (suc k) n S ≤ suc n
+      go : (b : Bool) → nonzeroBuckets (suc k) n S ≤ n → cond b 0 1 + nonzeroBuckets (suc k) n S ≤ suc n
       go true h = omega arith
       go false h = omega arith
 
-  pub buckets-long : (k n : ℕ) → length (bucketsBytes k n S) ≡ 13 * usedBuckets k n S
-  unfolding bucketsBytes usedBuckets bucketBytes wordBytes
+  pub buckets-long : (k n : ℕ) → length (bucketsBytes k n S) ≡ bucketLength * nonzeroBuckets k n S
+  unfolding bucketsBytes nonzeroBuckets bucketBytes wordBytes
   buckets-long k zero = refl
   buckets-long k (suc n) = go (zeroAt S k) (buckets-long (suc k) n)
     where
-      go : (b : Bool) → length (bucketsBytes (suc k) n S) ≡ 13 * usedBuckets (suc k) n S
-          → length (cond b [] (bucketBytes k (countIn S k) (idsumIn S k)) ++ bucketsBytes (suc k) n S) ≡ 13 * (cond b 0 1 + usedBuckets (suc k) n S)
+      go : (b : Bool) → length (bucketsBytes (suc k) n S) ≡ bucketLength * nonzeroBuckets (suc k) n S
+          → length (cond b [] (bucketBytes k (countIn S k) (idsumIn S k)) ++ bucketsBytes (suc k) n S) ≡ bucketLength * (cond b 0 1 + nonzeroBuckets (suc k) n S)
       go true h = omega arith
       go false h = omega arith
 
@@ -58,28 +59,28 @@ module _ (S : Sketch) where
     pub zero-next : (k : ℕ) → k < n → zeroAt S k ≡ true → bucketsBytes k (n - k) S ≡ bucketsBytes (k + 1) (n - (k + 1)) S
     zero-next k h e = rw e at (next-left k h)
 
-    pub used-next : (k : ℕ) → k < n → zeroAt S k ≡ false
+    pub nonzero-next : (k : ℕ) → k < n → zeroAt S k ≡ false
         → bucketsBytes k (n - k) S ≡ bucketBytes k (countIn S k) (idsumIn S k) ++ bucketsBytes (k + 1) (n - (k + 1)) S
-    used-next k h e = rw e at (next-left k h)
+    nonzero-next k h e = rw e at (next-left k h)
 
-pub sketch-long : (P : Params) (S : Sketch) → length (sketchBytes P S) ≡ 43 + 13 * usedBuckets 0 (size P) S
+pub sketch-long : (P : Params) (S : Sketch) → length (sketchBytes P S) ≡ headLength + bucketLength * nonzeroBuckets 0 (size P) S + endLength
 unfolding sketchBytes
-sketch-long P S = omega (arith, length-file P (bucketsBytes 0 (size P) S) (usedBuckets 0 (size P) S), buckets-long S 0 (size P))
+sketch-long P S = omega (arith, length-file P (bucketsBytes 0 (size P) S) (nonzeroBuckets 0 (size P) S), buckets-long S 0 (size P))
 
 -- where the parameters and the lengths of the slices are right
-module _ (P : Params) (S : Sketch) (o : ℕ) (shaped : lentAnswer P (length (S .counts)) (length (S .idsums)) ≡ Done) where
-  long : length (sketchBytes P S) ≡ 43 + 13 * usedBuckets 0 (length (S .counts)) S
-  long = rw (lent-done P _ _ shaped .1) (sketch-long P S)
+module _ (P : Params) (S : Sketch) (o : ℕ) (lent-right : lentAnswer P (length (S .counts)) (length (S .idsums)) ≡ Done) where
+  long : length (sketchBytes P S) ≡ headLength + bucketLength * nonzeroBuckets 0 (length (S .counts)) S + endLength
+  long = rw (lent-done P _ _ lent-right .1) (sketch-long P S)
 
-  pub sketch-short : o < 43 + 13 * usedBuckets 0 (length (S .counts)) S → Refused Length 0 ≡ sketchWriting P S o
-  unfolding sketchWriting
-  sketch-short h = rw (lt-ltb o (length (sketchBytes P S)) (omega (arith, long))) (sym (first-passed _ _ shaped))
+  pub sketch-short : o < headLength + bucketLength * nonzeroBuckets 0 (length (S .counts)) S + endLength → Refused Length 0 ≡ sketchWriteAnswer P S o
+  unfolding sketchWriteAnswer
+  sketch-short h = rw (lt-ltb o (length (sketchBytes P S)) (omega (arith, long))) (sym (first-passed _ _ lent-right))
 
-  pub sketch-passed : 43 + 13 * usedBuckets 0 (length (S .counts)) S ≤ o → refuseAt (length (S .counts)) (damagedAt S) Damage Done ≡ sketchWriting P S o
-  unfolding sketchWriting
+  pub sketch-passed : headLength + bucketLength * nonzeroBuckets 0 (length (S .counts)) S + endLength ≤ o → refuseAt (length (S .counts)) (damagedAt S) Damage Done ≡ sketchWriteAnswer P S o
+  unfolding sketchWriteAnswer
   sketch-passed h =
-      let passed : refuseAt (size P) (damagedAt S) Damage Done ≡ sketchWriting P S o = rw (le-ltb o (length (sketchBytes P S)) (omega (arith, long))) (sym (first-passed _ _ shaped)) in
-      ap (λ (n : ℕ). refuseAt n (damagedAt S) Damage Done) (lent-done P _ _ shaped .1) ∙ passed
+      let passed : refuseAt (size P) (damagedAt S) Damage Done ≡ sketchWriteAnswer P S o = rw (le-ltb o (length (sketchBytes P S)) (omega (arith, long))) (sym (first-passed _ _ lent-right)) in
+      ap (λ (n : ℕ). refuseAt n (damagedAt S) Damage Done) (lent-done P _ _ lent-right .1) ∙ passed
 
 -- a sketch whose writing is not refused
 pub record Writable (P : Params) (S : Sketch) : Type 0 where
@@ -93,8 +94,8 @@ pub writable-few : {P : Params} {S : Sketch} → Writable P S → length (S .cou
 writable-few {P} able = omega (arith, able .counts, dimensions-small (good-dimensions P (able .good)))
 
 -- where nothing is refused it is one, and the output has room for its file
-pub writing-done : (P : Params) (S : Sketch) (o : ℕ) → sketchWriting P S o ≡ Done → Writable P S × (43 + 13 * usedBuckets 0 (length (S .counts)) S ≤ o)
-unfolding sketchWriting lentAnswer
+pub writing-done : (P : Params) (S : Sketch) (o : ℕ) → sketchWriteAnswer P S o ≡ Done → Writable P S × (headLength + bucketLength * nonzeroBuckets 0 (length (S .counts)) S + endLength ≤ o)
+unfolding sketchWriteAnswer lentAnswer
 writing-done P S o e =
     let h = first-done (lentAnswer P (length (S .counts)) (length (S .idsums))) _ e in
     let k = refuse-done (ltb o (length (sketchBytes P S))) Length 0 _ (h .1) in

@@ -1,3 +1,3 @@
 -- What a reader must believe of sketch files, in the words of the scope.
-pub mod Stored
+pub mod Reading
 pub mod Writing

@@ -13,7 +13,7 @@ use Rattle.params.specs.Answers.{refuseIf, refuseAt, first, kept}
 use Rattle.params.specs.Params.{size, lentAnswer}
 use Rattle.sketch.specs.Sketch.{Sketch, countIn, idsumIn, damagedAt}
 use Rattle.files.specs.declared.writing.Written.{Written}
-use Rattle.files.specs.Bytes.{over}
+use Rattle.files.specs.Bytes.{overwritten}
 use Rattle.files.specs.Layout.{headBytes, bucketBytes, endBytes}
 use Rattle.files.specs.Writing.{writtenOf}
 use Rattle.buckets.specs.Buckets.{allZero}
@@ -27,22 +27,22 @@ unfoldable pub bucketsBytes : ℕ → ℕ → Sketch → List ℕ
 bucketsBytes k zero S = []
 bucketsBytes k (suc n) S = cond (zeroAt S k) [] (bucketBytes k (countIn S k) (idsumIn S k)) ++ bucketsBytes (suc k) n S
 
-unfoldable pub usedBuckets : ℕ → ℕ → Sketch → ℕ
-usedBuckets k zero S = 0
-usedBuckets k (suc n) S = cond (zeroAt S k) 0 1 + usedBuckets (suc k) n S
+unfoldable pub nonzeroBuckets : ℕ → ℕ → Sketch → ℕ
+nonzeroBuckets k zero S = 0
+nonzeroBuckets k (suc n) S = cond (zeroAt S k) 0 1 + nonzeroBuckets (suc k) n S
 
 -- the one file of a sketch
 unfoldable pub sketchBytes : Params → Sketch → List ℕ
-sketchBytes P S = headBytes P ++ (bucketsBytes 0 (size P) S ++ endBytes (usedBuckets 0 (size P) S))
+sketchBytes P S = headBytes P ++ (bucketsBytes 0 (size P) S ++ endBytes (nonzeroBuckets 0 (size P) S))
 
 -- the parameters and the lengths, of the output, o, too, then damage anywhere
-unfoldable pub sketchWriting : Params → Sketch → ℕ → Answer
-sketchWriting P S o =
+unfoldable pub sketchWriteAnswer : Params → Sketch → ℕ → Answer
+sketchWriteAnswer P S o =
     first (lentAnswer P (length (S .counts)) (length (S .idsums)))
     (refuseIf (ltb o (length (sketchBytes P S))) Length 0
     (refuseAt (size P) (damagedAt S) Damage
     Done))
 
 pub record SketchWritten (P : Params) (S : Sketch) (out : List ℕ) (r : Written) (out' : List ℕ) : Type 0 where
-  pub answer : r ≡ writtenOf (sketchWriting P S (length out)) (length (sketchBytes P S))
-  pub bytes : out' ≡ kept (sketchWriting P S (length out)) out (over out 0 (sketchBytes P S))
+  pub answer : r ≡ writtenOf (sketchWriteAnswer P S (length out)) (length (sketchBytes P S))
+  pub bytes : out' ≡ kept (sketchWriteAnswer P S (length out)) out (overwritten out 0 (sketchBytes P S))

@@ -3,17 +3,33 @@ ghost use mathlib.Core.Path.{_≡_};
 ghost use Prim.Native.Nat.{ℕ, _<_};
 ghost use lib.ListN.{length};
 ghost use Rattle.sketch.specs.Sketch.{sketch};
-ghost use Rattle.sketchfile.specs.Stored.{bucketsIn, bucketIndex, bucketAnswer, bucketsJudged, stored, SketchRead};
+ghost use Rattle.sketchfile.specs.Reading.{bucketsIn, bucketIndex, tooLarge, notRising, bucketAnswer, bucketsJudged, stored, SketchRead};
 use buckets::all_zero;
 use buckets::sound;
-use files::ends::end;
+use files::ends::judge_end;
 use files::fields::Bucket;
 use files::fields::bucket_at;
-use files::heads::opening;
+use files::heads::judge_parameters;
+use files::records::BUCKET_LENGTH;
+use files::records::HEAD_LENGTH;
 use params::Answer;
 use params::Params;
 use params::Refusal;
 use sketch::packets::fresh;
+
+// The index of a record is not below the number of buckets.
+fn too_large(size: usize, index: usize) -> bool
+    ensures { λ r. ⌜ r ≡ tooLarge size index ⌝ }
+{
+    size <= index
+}
+
+// The index of a record is not above that of the record before it: below the lowest that it may be.
+fn not_rising(low: usize, index: usize) -> bool
+    ensures { λ r. ⌜ r ≡ notRising low index ⌝ }
+{
+    index < low
+}
 
 // One bucket record at an offset, in a sketch of `size` buckets, where no index below `low` may stand.
 fn judge_bucket(size: usize, low: usize, at: usize, index: usize, c: i32, s: u32) -> Answer
@@ -22,10 +38,10 @@ fn judge_bucket(size: usize, low: usize, at: usize, index: usize, c: i32, s: u32
     if !sound(c, s) {
         return Answer::Refused(Refusal::Damage, at);
     }
-    if index < low {
+    if too_large(size, index) {
         return Answer::Refused(Refusal::Form, at);
     }
-    if size <= index {
+    if not_rising(low, index) {
         return Answer::Refused(Refusal::Form, at);
     }
     if all_zero(c, s) {
@@ -38,7 +54,7 @@ fn judge_bucket(size: usize, low: usize, at: usize, index: usize, c: i32, s: u32
 fn judge_records(size: usize, bytes: &[u8]) -> Answer
     ensures { λ r. ⌜ r ≡ bucketsJudged size (now (bytes .entry)) ⌝ }
 {
-    let mut at = 38;
+    let mut at = HEAD_LENGTH;
     let mut n = 0;
     let mut low = 0;
     loop {
@@ -51,10 +67,10 @@ fn judge_records(size: usize, bytes: &[u8]) -> Answer
             return r;
         };
         low = index as usize + 1;
-        at += 13;
+        at += BUCKET_LENGTH;
         n += 1;
     }
-    end(bytes, at, n)
+    judge_end(bytes, at, n)
 }
 
 // Stores the file's buckets.
@@ -63,7 +79,7 @@ fn store(counts: &mut [i32], idsums: &mut [u32], bytes: &[u8])
     requires { ⌜ ((k : ℕ) → k < bucketsIn (now bytes) → bucketIndex (now bytes) k < length (now counts)) ⌝ }
     ensures { λ r. ⌜ sketch (now (counts .exit)) (now (idsums .exit)) ≡ stored (now (bytes .entry)) (bucketsIn (now (bytes .entry))) (sketch (now (counts .entry)) (now (idsums .entry))) ⌝ }
 {
-    let mut at = 38;
+    let mut at = HEAD_LENGTH;
     loop {
         let found = bucket_at(bytes, at);
         let Bucket::Of(index, c, s) = found else {
@@ -72,7 +88,7 @@ fn store(counts: &mut [i32], idsums: &mut [u32], bytes: &[u8])
         let k = index as usize;
         counts[k] = c;
         idsums[k] = s;
-        at += 13;
+        at += BUCKET_LENGTH;
     }
 }
 
@@ -80,9 +96,13 @@ fn store(counts: &mut [i32], idsums: &mut [u32], bytes: &[u8])
 pub fn read_sketch(p: Params, counts: &mut [i32], idsums: &mut [u32], bytes: &[u8]) -> Answer
     ensures { λ r. ⌜ SketchRead p (now (bytes .entry)) (sketch (now (counts .entry)) (now (idsums .entry))) r (sketch (now (counts .exit)) (now (idsums .exit))) ⌝ }
 {
-    let o = opening(p, bytes, counts.len(), idsums.len());
-    let Answer::Done = o else {
-        return o;
+    let a = judge_parameters(p, bytes);
+    let Answer::Done = a else {
+        return a;
+    };
+    let l = p.judge_lent(counts.len(), idsums.len());
+    let Answer::Done = l else {
+        return l;
     };
     let r = judge_records(counts.len(), bytes);
     let Answer::Done = r else {

@@ -3,10 +3,14 @@ ghost use mathlib.Core.Path.{_≡_};
 ghost use Prim.Native.Nat.{_+_, _*_, _≤_};
 ghost use lib.ListN.{length};
 ghost use Rattle.sketch.specs.Sketch.{sketch};
-ghost use Rattle.files.specs.Bytes.{over};
-ghost use Rattle.sketchfile.specs.Writing.{bucketsBytes, usedBuckets, sketchWriting, SketchWritten};
+ghost use Rattle.files.specs.Bytes.{overwritten};
+ghost use Rattle.files.specs.Records.{headLength, bucketLength};
+ghost use Rattle.sketchfile.specs.Writing.{bucketsBytes, nonzeroBuckets, sketchWriteAnswer, SketchWritten};
 use buckets::all_zero;
 use buckets::first_damaged;
+use files::records::BUCKET_LENGTH;
+use files::records::END_LENGTH;
+use files::records::HEAD_LENGTH;
 use files::writing::Written;
 use files::writing::put_bucket;
 use files::writing::put_end;
@@ -16,9 +20,9 @@ use params::Params;
 use params::Refusal;
 
 // How many buckets are not all zero.
-fn used(counts: &[i32], idsums: &[u32]) -> usize
+fn nonzero_buckets(counts: &[i32], idsums: &[u32]) -> usize
     requires { ⌜ length (now counts) ≡ length (now idsums) ⌝ }
-    ensures { λ r. ⌜ (r ≡ usedBuckets 0 (length (now (counts .entry))) (sketch (now (counts .entry)) (now (idsums .entry)))) × (r ≤ length (now (counts .entry))) ⌝ }
+    ensures { λ r. ⌜ (r ≡ nonzeroBuckets 0 (length (now (counts .entry))) (sketch (now (counts .entry)) (now (idsums .entry)))) × (r ≤ length (now (counts .entry))) ⌝ }
 {
     let mut n = 0;
     let mut k = 0;
@@ -33,13 +37,13 @@ fn used(counts: &[i32], idsums: &[u32]) -> usize
 
 // The answer, which alters nothing; `room` is the length of the output.
 fn judge(p: Params, counts: &[i32], idsums: &[u32], room: usize) -> Answer
-    ensures { λ r. ⌜ r ≡ sketchWriting p (sketch (now (counts .entry)) (now (idsums .entry))) room ⌝ }
+    ensures { λ r. ⌜ r ≡ sketchWriteAnswer p (sketch (now (counts .entry)) (now (idsums .entry))) room ⌝ }
 {
     let r = p.judge_lent(counts.len(), idsums.len());
     let Answer::Done = r else {
         return r;
     };
-    if room < 43 + 13 * used(counts, idsums) {
+    if room < HEAD_LENGTH + BUCKET_LENGTH * nonzero_buckets(counts, idsums) + END_LENGTH {
         return Answer::Refused(Refusal::Length, 0);
     }
     let x = first_damaged(counts, idsums);
@@ -52,16 +56,16 @@ fn judge(p: Params, counts: &[i32], idsums: &[u32], room: usize) -> Answer
 // The bucket records, after the head; gives the offset after them.
 fn put_all(out: &mut [u8], counts: &[i32], idsums: &[u32]) -> usize
     requires { ⌜ (length (now counts) ≡ length (now idsums)) × (length (now counts) ≤ 65536) ⌝ }
-    requires { ⌜ 38 + 13 * usedBuckets 0 (length (now counts)) (sketch (now counts) (now idsums)) ≤ length (now out) ⌝ }
-    ensures { λ r. ⌜ r ≡ 38 + 13 * usedBuckets 0 (length (now (counts .entry))) (sketch (now (counts .entry)) (now (idsums .entry))) ⌝ }
-    ensures { λ r. ⌜ now (out .exit) ≡ over (now (out .entry)) 38 (bucketsBytes 0 (length (now (counts .entry))) (sketch (now (counts .entry)) (now (idsums .entry)))) ⌝ }
+    requires { ⌜ headLength + bucketLength * nonzeroBuckets 0 (length (now counts)) (sketch (now counts) (now idsums)) ≤ length (now out) ⌝ }
+    ensures { λ r. ⌜ r ≡ headLength + bucketLength * nonzeroBuckets 0 (length (now (counts .entry))) (sketch (now (counts .entry)) (now (idsums .entry))) ⌝ }
+    ensures { λ r. ⌜ now (out .exit) ≡ overwritten (now (out .entry)) headLength (bucketsBytes 0 (length (now (counts .entry))) (sketch (now (counts .entry)) (now (idsums .entry)))) ⌝ }
 {
-    let mut at = 38;
+    let mut at = HEAD_LENGTH;
     let mut k = 0;
     while k < counts.len() {
         if !all_zero(counts[k], idsums[k]) {
             put_bucket(out, at, k as u32, counts[k], idsums[k]);
-            at += 13;
+            at += BUCKET_LENGTH;
         }
         k += 1;
     }
@@ -77,9 +81,9 @@ pub fn write_sketch(p: Params, counts: &[i32], idsums: &[u32], out: &mut [u8]) -
         Answer::Done => {
             put_head(out, p);
             let at = put_all(out, counts, idsums);
-            let n = (at - 38) / 13;
+            let n = (at - HEAD_LENGTH) / BUCKET_LENGTH;
             put_end(out, at, n as u32);
-            Written::Bytes(at + 5)
+            Written::Bytes(at + END_LENGTH)
         }
         Answer::Refused(refusal, index) => Written::Refused(refusal, index),
     }

@@ -1,5 +1,5 @@
--- What an accepted stream tells: of its opening, of the sketch, of every packet, and of its end.
-use mathlib.Core.Path.{_≡_, refl}
+-- What holds of an accepted stream: of its opening, of the sketch, of every packet, and of its end.
+use mathlib.Core.Path.{_≡_, refl, sym, _∙_}
 use mathlib.Core.Bool.{false}
 use mathlib.Core.List.{List}
 use Prim.Native.Nat.{ℕ, _≤_, _<_}
@@ -13,17 +13,19 @@ use Rattle.params.specs.Params.{size}
 use Rattle.sketch.specs.Sketch.{Sketch, damagedAt}
 use Rattle.sketch.specs.Packets.{Accepted}
 use Rattle.params.proofs.Judging.{first-done, refuse-at-done}
-use Rattle.files.specs.Heads.{openingAnswer}
+use Rattle.files.proofs.HeadStages.{openingAnswer}
 use Rattle.files.specs.Turns.{atOffset, inTurn, packetPlace, endAnswer}
+use Rattle.files.specs.Records.{headLength}
 use Rattle.files.proofs.HeadTrips.{Opened, opening-done}
 use Rattle.files.proofs.Turning.{done-in-turn}
 use Rattle.streamfile.specs.Streams.{packetsIn, flowsIn, numbersIn, packetJudged, packetsJudged, streamAnswer}
+use Rattle.streamfile.proofs.Stages.{stream-opening}
 use Rattle.streamfile.proofs.Found.{flow-is, number-is}
 
-told-done : (at : ℕ) (r : Answer) → atOffset at r ≡ Done → r ≡ Done
+at-offset-done : (at : ℕ) (r : Answer) → atOffset at r ≡ Done → r ≡ Done
 unfolding atOffset
-told-done at Done e = refl
-told-done at (Refused w k) e = cc
+at-offset-done at Done e = refl
+at-offset-done at (Refused w k) e = cc
 
 module _ (P : Params) (bs : List ℕ) (S : Sketch) where
   -- packets whose records were not refused
@@ -31,7 +33,7 @@ module _ (P : Params) (bs : List ℕ) (S : Sketch) where
   unfolding packetJudged
   judged-accepted i h judged j l =
       let one : j < packetsIn bs = omega arith in
-      rw (← flow-is 38 bs j one, ← number-is 38 bs j one) (told-done (packetPlace j) _ (judged j l))
+      rw (← flow-is headLength bs j one, ← number-is headLength bs j one) (at-offset-done (packetPlace j) _ (judged j l))
 
   pub record StreamDone : Type 0 where
     pub opened : Opened P bs (length (S .counts)) (length (S .idsums))
@@ -41,9 +43,9 @@ module _ (P : Params) (bs : List ℕ) (S : Sketch) where
     pub ended : endAnswer bs (packetPlace (packetsIn bs)) (packetsIn bs) ≡ Done
 
   pub stream-done : streamAnswer P bs S ≡ Done → StreamDone
-  unfolding streamAnswer packetsJudged
+  unfolding packetsJudged
   stream-done e =
-      let h = first-done (openingAnswer P bs (length (S .counts)) (length (S .idsums))) _ e in
+      let h = first-done (openingAnswer P bs (length (S .counts)) (length (S .idsums))) _ (sym (stream-opening P bs S) ∙ e) in
       let k = refuse-at-done (size P) (damagedAt S) Damage (packetsJudged P bs S) (h .1) in
       let l = first-done (inTurn 0 (packetsIn bs) (packetJudged P bs S)) _ (k .1) in
       record {

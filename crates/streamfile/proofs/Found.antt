@@ -12,24 +12,25 @@ use Rattle.sketch.proofs.Tables.{length-from, getD-from}
 use Rattle.files.specs.declared.fields.Packets.{Packets}
 use Rattle.files.specs.declared.fields.Packets.the-variants.{Of, No}
 use Rattle.files.specs.Bytes.{word}
-use Rattle.files.specs.Records.{recordAt, isKind, bodyLength}
+use Rattle.files.specs.Records.{recordAt, isKind, packetsKind, packetsLength}
 use Rattle.files.specs.Layout.{packetsAt}
 use Rattle.files.specs.Turns.{packetFrom}
+use Rattle.files.specs.Fields.{flowField, numberField}
 use Rattle.files.proofs.fields.Packets.{the-type}
 use Rattle.files.proofs.Standing.{kind-ends}
 use Rattle.files.proofs.Turning.{whole-within}
 use Rattle.streamfile.specs.Streams.{packetsFrom, flowFrom, numberFrom, flowsFrom, numbersFrom}
 
 pub record There (bs : List ℕ) (at f n : ℕ) : Type 0 where
-  pub whole : isKind 2 (recordAt bs at) ≡ true
-  pub flow : f ≡ word bs (at + 1)
-  pub number : n ≡ word bs (at + 5)
+  pub whole : isKind packetsKind (recordAt bs at) ≡ true
+  pub flow : f ≡ word bs (at + flowField)
+  pub number : n ≡ word bs (at + numberField)
 
 pub packets-there : (bs : List ℕ) (at f n : ℕ) → packetsAt bs at ≡ Of f n → There bs at f n
 unfolding packetsAt
-packets-there bs at f n = go (isKind 2 (recordAt bs at)) refl
+packets-there bs at f n = go (isKind packetsKind (recordAt bs at)) refl
   where
-    go : (b : Bool) → isKind 2 (recordAt bs at) ≡ b → cond b (Of (word bs (at + 1)) (word bs (at + 5))) No ≡ Of f n → There bs at f n
+    go : (b : Bool) → isKind packetsKind (recordAt bs at) ≡ b → cond b (Of (word bs (at + flowField)) (word bs (at + numberField))) No ≡ Of f n → There bs at f n
     go true e q = record { whole = e; flow = cc; number = cc }
     go false e q = absurd (let w : _≡_ {A = ℕ} 0 1 = cc in omega arith)
 
@@ -37,19 +38,18 @@ packets-there bs at f n = go (isKind 2 (recordAt bs at)) refl
 abbrev pub NoPackets : Packets → Type 0
 NoPackets r = OneOf (1 ∷ []) (tagOf the-type r)
 
-pub packets-not-there : (r : Packets) (bs : List ℕ) (at : ℕ) → r ≡ packetsAt bs at → NoPackets r → isKind 2 (recordAt bs at) ≡ false
+pub packets-not-there : (r : Packets) (bs : List ℕ) (at : ℕ) → r ≡ packetsAt bs at → NoPackets r → isKind packetsKind (recordAt bs at) ≡ false
 unfolding packetsAt
-packets-not-there r bs at e h = go (isKind 2 (recordAt bs at)) refl e
+packets-not-there r bs at e h = go (isKind packetsKind (recordAt bs at)) refl e
   where
-    go : (b : Bool) → isKind 2 (recordAt bs at) ≡ b → r ≡ cond b (Of (word bs (at + 1)) (word bs (at + 5))) No → isKind 2 (recordAt bs at) ≡ false
+    go : (b : Bool) → isKind packetsKind (recordAt bs at) ≡ b → r ≡ cond b (Of (word bs (at + flowField)) (word bs (at + numberField))) No → isKind packetsKind (recordAt bs at) ≡ false
     go true q z = absurd (miss (1 ∷ []) 0 tt (rw z at h))
     go false q z = q
 
 -- packet records from an offset on: each lies within the bytes, and the lists of flows and numbers have their fields
 module _ (o : ℕ) (bs : List ℕ) where
-  pub packet-within : (i : ℕ) → i < packetsFrom o bs → packetFrom o i + 9 ≤ length bs
-  unfolding bodyLength
-  packet-within i l = omega (arith, kind-ends 2 bs (packetFrom o i) (whole-within 2 (packetFrom o) bs i l))
+  pub packet-within : (i : ℕ) → i < packetsFrom o bs → packetFrom o i + packetsLength ≤ length bs
+  packet-within i l = omega (arith, kind-ends packetsKind bs (packetFrom o i) (whole-within packetsKind (packetFrom o) bs i l))
 
   pub length-flows : length (flowsFrom o bs) ≡ packetsFrom o bs
   unfolding flowsFrom

@@ -29,6 +29,7 @@ use Rattle.sketch.proofs.ManyPackets.{Long, stepped-long, after-more, after-end
 use Rattle.streamfile.specs.Streams.{packetsIn, flowsIn, numbersIn, StreamRead}
 use Rattle.streamfile.proofs.Found.{length-flows, length-numbers}
 use Rattle.streamfile.proofs.Accepting.{stream-done}
+use Rattle.files.specs.Records.{headLength}
 
 -- good parameters, and a sketch of their size, undamaged, in which no count is below 0
 pub record Grown (P : Params) (S : Sketch) : Type 0 where
@@ -114,7 +115,7 @@ fresh-count P k = found (decLt k (size P))
     found (yes l) = getD-replicate (size P) k (pos 0) (pos 0) l
     found (no l) = List·getD-eq-default (replicate (size P) (pos 0)) (pos 0) {n = k} (omega (arith, length-replicate (size P) (pos 0)))
 
--- A stream that is accepted into a fresh sketch: its opening tells of the parameters and the lengths, and its packets only add.
+-- A stream that is accepted into a fresh sketch: its parameters and the lengths are right, and its packets only add.
 pub fresh-grown : {P : Params} {bs : List ℕ} {S : Sketch} → StreamRead P bs (zeros P) Done S → Grown P S
 unfolding kept
 fresh-grown {P} {bs} {S} r =
@@ -130,5 +131,5 @@ fresh-grown {P} {bs} {S} r =
     }
     in
     subst (λ (U : Sketch). Grown P U)
-    (after-end P (flowsIn bs) (numbersIn bs) (packetsIn bs) (zeros P) (omega (arith, length-flows 38 bs)) (omega (arith, length-numbers 38 bs)) ∙ sym (r .after-all))
-    (after-grown P (flowsIn bs) (numbersIn bs) (zeros P) start (packetsIn bs) (omega (arith, length-flows 38 bs)) (omega (arith, length-numbers 38 bs)) (done .accepted))
+    (after-end P (flowsIn bs) (numbersIn bs) (packetsIn bs) (zeros P) (omega (arith, length-flows headLength bs)) (omega (arith, length-numbers headLength bs)) ∙ sym (r .after-all))
+    (after-grown P (flowsIn bs) (numbersIn bs) (zeros P) start (packetsIn bs) (omega (arith, length-flows headLength bs)) (omega (arith, length-numbers headLength bs)) (done .accepted))

@@ -1,4 +1,4 @@
--- What is told with each refusal of a stream: the head and the lengths come first, then the sketch's damage, then the packets in turn, then the end. And what a stream's writer tells.
+-- What goes with each refusal of a stream: the head and the lengths come first, then the sketch's damage, then the packets in turn, then the end. And what a stream's writer returns.
 use mathlib.Core.Path.{_≡_, refl, sym, ap, _∙_}
 use mathlib.Core.Bool.{Bool, true, false, not, _&&_, _||_}
 use mathlib.Core.Logic.{⊎-elim}
@@ -24,18 +24,19 @@ use Rattle.params.proofs.InOrder.{order, firstOf, lowest-first, refuse-number, 
 use Rattle.sketch.proofs.InOrder.{moveFault, move-number}
 use Rattle.files.specs.declared.writing.Written.{Written}
 use Rattle.files.specs.declared.writing.Written.the-variants.{Refused as NotWritten}
-use Rattle.files.specs.Heads.{openingAnswer}
+use Rattle.files.proofs.HeadStages.{openingAnswer}
 use Rattle.files.specs.Turns.{atOffset, inTurn, packetPlace, endAnswer}
 use Rattle.files.specs.Writing.{writtenNumber, writtenIndex, writtenLength}
 use Rattle.files.proofs.HeadTrips.{Opened, opening-done}
 use Rattle.files.proofs.Turning.{Earliest, in-turn-earliest, done-in-turn}
 use Rattle.files.proofs.InOrder.{openingOrder, openingFault, opening-number, opening-index, EndFault, end-fault, refuse-start, written-number, written-index, written-length, refused-as-it-was}
 use Rattle.streamfile.specs.Streams.{packetsIn, packetFlow, packetNumber, flowsIn, numbersIn, afterFirst, packetJudged, packetsJudged, streamAnswer}
-use Rattle.streamfile.specs.Writing.{streamBytes, isFlowAt, isNumberAt, streamWriting, StreamWritten}
+use Rattle.streamfile.specs.Writing.{streamBytes, isFlowAt, isNumberAt, streamWriteAnswer, StreamWritten}
+use Rattle.streamfile.proofs.Stages.{stream-opening}
 use Rattle.streamfile.proofs.Accepting.{judged-accepted}
 
 module _ (P : Params) (bs : List ℕ) (S : Sketch) (w : Refusal) (k : ℕ) where
-  -- the earliest packet at fault: those before it were accepted, the first of its faults decides the number, and its offset is told
+  -- the earliest packet at fault: those before it were accepted, the first of its faults decides the number, and its offset goes with it
   pub record PacketFault : Type 0 where
     pub which : ℕ
     pub one : which < packetsIn bs
@@ -50,23 +51,23 @@ module _ (P : Params) (bs : List ℕ) (S : Sketch) (w : Refusal) (k : ℕ) where
     in-end : Opened P bs (length (S .counts)) (length (S .idsums)) → ((j : ℕ) → j < size P → damagedAt S j ≡ false)
         → Accepted P (flowsIn bs) (numbersIn bs) S (packetsIn bs) → w ≡ Form → EndFault bs (packetPlace (packetsIn bs)) (packetsIn bs) k → StreamFault
 
-  told-refused : (at : ℕ) (r : Answer) → atOffset at r ≡ Refused w k → (numberOf w ≡ numberIn r) × (k ≡ at)
+  refused-there : (at : ℕ) (r : Answer) → atOffset at r ≡ Refused w k → (numberOf w ≡ numberIn r) × (k ≡ at)
   unfolding atOffset
-  told-refused at Done e = absurd (let z : _≡_ {A = ℕ} 0 1 = cc in omega arith)
-  told-refused at (Refused v j) e = let same : v ≡ w = cc in (ap numberOf (sym same), cc)
+  refused-there at Done e = absurd (let z : _≡_ {A = ℕ} 0 1 = cc in omega arith)
+  refused-there at (Refused v j) e = let same : v ≡ w = cc in (ap numberOf (sym same), cc)
 
   packet-fault : goodParams P ≡ true → Earliest (packetsIn bs) (packetJudged P bs S) (Refused w k) → PacketFault
   unfolding packetJudged
   packet-fault good r =
       let j = r .which in
-      let told = told-refused (packetPlace j) (stepAnswer P false (packetFlow bs j) (packetNumber bs j) (afterFirst P bs j S)) (r .here) in
+      let there = refused-there (packetPlace j) (stepAnswer P false (packetFlow bs j) (packetNumber bs j) (afterFirst P bs j S)) (r .here) in
       let moved = move-good P false (packetFlow bs j) (packetNumber bs j) (afterFirst P bs j S) good in
       record {
         which = j;
         one = r .one;
         accepted = judged-accepted P bs S j (omega (arith, r .one)) (r .before);
-        number = told .0 ∙ ap numberIn (sym moved) ∙ move-number P false (packetFlow bs j) (packetNumber bs j) (afterFirst P bs j S);
-        place = told .1;
+        number = there .0 ∙ ap numberIn (sym moved) ∙ move-number P false (packetFlow bs j) (packetNumber bs j) (afterFirst P bs j S);
+        place = there .1;
       }
 
   records-fault : Opened P bs (length (S .counts)) (length (S .idsums)) → ((j : ℕ) → j < size P → damagedAt S j ≡ false) → packetsJudged P bs S ≡ Refused w k → StreamFault
@@ -87,14 +88,13 @@ module _ (P : Params) (bs : List ℕ) (S : Sketch) (w : Refusal) (k : ℕ) where
       (refuse-at (size P) (damagedAt S) Damage w k (packetsJudged P bs S) e)
 
   pub stream-fault : streamAnswer P bs S ≡ Refused w k → StreamFault
-  unfolding streamAnswer
   stream-fault e =
       let c = length (S .counts) in
       let s = length (S .idsums) in
       ⊎-elim
       (λ h. in-opening (sym (ap numberIn h) ∙ opening-number P bs c s) (sym (ap indexIn h) ∙ opening-index P bs c s))
       (λ h. past-opening (opening-done P bs c s (h .0)) (h .1))
-      (first-either (openingAnswer P bs c s) _ w k e)
+      (first-either (openingAnswer P bs c s) _ w k (sym (stream-opening P bs S) ∙ e))
 
 -- which faults apply where packets are written into an output of o bytes
 abbrev pub writeFault : Params → List ℕ → List ℕ → ℕ → Refusal → Bool
@@ -108,12 +108,12 @@ writeFault P fs ns o Mismatch = false
 writeFault P fs ns o Form = false
 
 module _ (P : Params) (fs ns : List ℕ) (o : ℕ) where
-  writing-number : numberIn (streamWriting P fs ns o) ≡ firstOf order (writeFault P fs ns o)
-  unfolding streamWriting
+  writing-number : numberIn (streamWriteAnswer P fs ns o) ≡ firstOf order (writeFault P fs ns o)
+  unfolding streamWriteAnswer
   writing-number = simp (refuse-number, cond-either)
 
-  writing-index : indexIn (streamWriting P fs ns o) ≡ 0
-  unfolding streamWriting
+  writing-index : indexIn (streamWriteAnswer P fs ns o) ≡ 0
+  unfolding streamWriteAnswer
   writing-index =
       refuse-start (not (goodParams P)) Param _
       (refuse-start (not (eqb (length fs) (length ns) && leb (length fs) 65536)) Length _
@@ -124,7 +124,7 @@ module _ (P : Params) (fs ns : List ℕ) (o : ℕ) where
 -- h is what the contract of `write_stream` gives
 module _ {P : Params} {fs ns out : List ℕ} {r : Written} {out' : List ℕ} (h : StreamWritten P fs ns out r out') where
   abbrev judged : Answer
-  judged = streamWriting P fs ns (length out)
+  judged = streamWriteAnswer P fs ns (length out)
 
   abbrev long : ℕ
   long = length (streamBytes P fs ns)
@@ -137,11 +137,11 @@ module _ {P : Params} {fs ns out : List ℕ} {r : Written} {out' : List ℕ} (h 
   pub write-stream-least-number : (w : Refusal) → writeFault P fs ns (length out) w ≡ true → writtenNumber r ≤ numberOf w
   write-stream-least-number w e = rw write-stream-number (lowest-first (writeFault P fs ns (length out)) refl w e)
 
-  -- 0 is told with it
+  -- 0 goes with it
   pub write-stream-index : writtenIndex r ≡ 0
   write-stream-index = written-index judged long (h .answer) ∙ writing-index P fs ns (length out)
 
-  -- where nothing is at fault the file's length is told
+  -- where nothing is at fault the file's length is returned
   pub write-stream-length : writtenNumber r ≡ 0 → writtenLength r ≡ length (streamBytes P fs ns)
   write-stream-length e = written-length judged long (h .answer) e
 

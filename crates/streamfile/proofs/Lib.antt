@@ -1,4 +1,4 @@
--- The laws of stream files, that one is read as its packets are inserted and is what is written from them, what one leaves in a fresh sketch, and what is told with each refusal.
+-- The laws of stream files, that one is read as its packets are inserted and is what is written from them, what one leaves in a fresh sketch, and what goes with each refusal.
 pub mod Found
 pub mod InTurn
 pub mod Stages

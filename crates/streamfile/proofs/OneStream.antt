@@ -19,12 +19,13 @@ use Rattle.files.specs.declared.writing.Written.the-variants.{Bytes}
 use Rattle.files.specs.Writing.{writtenOf}
 use Rattle.files.specs.Layout.{endBytes}
 use Rattle.files.specs.Turns.{packetPlace}
+use Rattle.files.specs.Records.{packetsKind, headLength, packetsLength}
 use Rattle.files.proofs.HeadTrips.{head-read}
 use Rattle.files.proofs.RecordTrips.{end-read}
 use Rattle.files.proofs.Turning.{whole-within}
 use Rattle.files.proofs.Overwriting.{written-front}
 use Rattle.streamfile.specs.Streams.{packetsIn, flowsIn, numbersIn, flowsFrom, numbersFrom, streamAnswer, StreamRead}
-use Rattle.streamfile.specs.Writing.{streamBytes, streamWriting, StreamWritten}
+use Rattle.streamfile.specs.Writing.{streamBytes, streamWriteAnswer, StreamWritten}
 use Rattle.streamfile.proofs.Found.{length-flows}
 use Rattle.streamfile.proofs.Accepting.{stream-done}
 use Rattle.streamfile.proofs.PacketTrips.{packets-read}
@@ -33,7 +34,7 @@ use Rattle.streamfile.proofs.Sending.{Sendable, sending-done, sendable-
 -- packets that were written are fit for it, and their file is the output's front
 sent : {P : Params} {fs ns out out' : List ℕ} {n : ℕ} → StreamWritten P fs ns out (Bytes n) out' → Sendable P fs ns × (take n out' ≡ streamBytes P fs ns)
 sent {P} {fs} {ns} {out} w =
-    let wrote = written-front (streamWriting P fs ns (length out)) out (streamBytes P fs ns) (w .answer) (w .bytes) in
+    let wrote = written-front (streamWriteAnswer P fs ns (length out)) out (streamBytes P fs ns) (w .answer) (w .bytes) in
     (sending-done P fs ns (length out) (wrote .0), wrote .1)
 
 -- a written stream holds its packets
@@ -41,7 +42,7 @@ pub read-written-stream : {P : Params} {fs ns out out' : List ℕ} {n : ℕ} →
 read-written-stream {P} {fs} {ns} w =
     let h = sent w in (ap flowsIn (h .1) ∙ flows-back P fs ns (h .0), ap numbersIn (h .1) ∙ numbers-back P fs ns (h .0))
 
--- reading it into a sketch without damage is inserting them, save for the place told
+-- reading it into a sketch without damage is inserting them, save for the offset
 pub written-as-inserted : {P : Params} {fs ns out out' : List ℕ} {n : ℕ} {S S' T : Sketch} {r q : Answer} → StreamWritten P fs ns out (Bytes n) out' → ((k : ℕ) → k < size P → damagedAt S k ≡ false)
     → StreamRead P (take n out') S r S' → AllInserted P fs ns S q T → (numberIn r ≡ numberIn q) × (S' ≡ T)
 written-as-inserted {P} {fs} {ns} {out} {out'} {n} {S} {S'} {T} {r} {q} w undamaged read inserted =
@@ -59,9 +60,9 @@ written-read-stream {P} {bs} {S} small read =
     let n = packetsIn bs in
     let done = stream-done P bs S (sym (read .answer)) in
     let head = head-read bs small P (done .opened .head) (done .opened .same) in
-    let packets = packets-read bs 0 n small (λ j l. whole-within 2 packetPlace bs j (omega arith)) in
-    let end = ap endBytes (length-flows 38 bs) ∙ end-read bs (packetPlace n) n small (done .ended) .1 in
-    ap₂ {C = List ℕ} _++_ head (ap₂ {C = List ℕ} _++_ packets (end ∙ sym (drop-drop (9 * n) 38 bs)) ∙ take-append-drop (9 * n) (drop 38 bs)) ∙ take-append-drop 38 bs
+    let packets = packets-read bs 0 n small (λ j l. whole-within packetsKind packetPlace bs j (omega arith)) in
+    let end = ap endBytes (length-flows headLength bs) ∙ end-read bs (packetPlace n) n small (done .ended) .1 in
+    ap₂ {C = List ℕ} _++_ head (ap₂ {C = List ℕ} _++_ packets (end ∙ sym (drop-drop (packetsLength * n) headLength bs)) ∙ take-append-drop (packetsLength * n) (drop headLength bs)) ∙ take-append-drop headLength bs
 
 -- and writing them gives it again
 pub written-again : {P : Params} {bs : List ℕ} {S S' : Sketch} {out out' : List ℕ} {r : Written} → ((k : ℕ) → getD bs k 0 < 256) → StreamRead P bs S Done S' → packetsIn bs ≤ 65536
@@ -72,8 +73,8 @@ written-again {P} {bs} {S} {S'} {out} {out'} {r} small read few w l =
     let long : length file ≡ length bs = ap length same in
     let able = read-sendable (stream-done P bs S (sym (read .answer))) few in
     let done = sendable-done P (flowsIn bs) (numbersIn bs) (length out) able (omega arith) in
-    let told : r ≡ Bytes (length bs) = w .answer ∙ ap₂ writtenOf done long in
-    (told, written-front (streamWriting P (flowsIn bs) (numbersIn bs) (length out)) out file (sym told ∙ w .answer) (w .bytes) .1 ∙ same)
+    let returned : r ≡ Bytes (length bs) = w .answer ∙ ap₂ writtenOf done long in
+    (returned, written-front (streamWriteAnswer P (flowsIn bs) (numbersIn bs) (length out)) out file (sym returned ∙ w .answer) (w .bytes) .1 ∙ same)
 
 -- so two accepted streams of the same packets are the same
 pub one-stream : {P : Params} {bs cs : List ℕ} {S S' T T' : Sketch} → ((k : ℕ) → getD bs k 0 < 256) → ((k : ℕ) → getD cs k 0 < 256) → StreamRead P bs S Done S' → StreamRead P cs T Done T'

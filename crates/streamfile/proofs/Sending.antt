@@ -21,14 +21,16 @@ use Rattle.params.proofs.Searches.{and-true, below-at, all-below}
 use Rattle.sketch.proofs.Steps.{step-done}
 use Rattle.params.proofs.Judging.{first-end, first-number, refuse-done, refuse-none}
 use Rattle.files.specs.Bytes.{wordBytes}
-use Rattle.files.specs.Heads.{openingAnswer}
+use Rattle.files.proofs.HeadStages.{openingAnswer}
 use Rattle.files.specs.Layout.{headBytes, packetBytes, endBytes}
 use Rattle.files.specs.Turns.{packetPlace, inTurn, endAnswer}
+use Rattle.files.specs.Records.{packetsKind, headLength, packetsLength}
 use Rattle.files.proofs.HeadTrips.{headed-long, opening-written}
 use Rattle.files.proofs.RecordTrips.{not-kind, end-written}
 use Rattle.files.proofs.Turning.{records-are}
 use Rattle.streamfile.specs.Streams.{packetsIn, flowsIn, numbersIn, afterFirst, packetJudged, packetsJudged, streamAnswer}
-use Rattle.streamfile.specs.Writing.{packetsBytes, streamBytes, isFlowAt, isNumberAt, streamWriting}
+use Rattle.streamfile.specs.Writing.{packetsBytes, streamBytes, isFlowAt, isNumberAt, streamWriteAnswer}
+use Rattle.streamfile.proofs.Stages.{stream-opening}
 use Rattle.streamfile.proofs.Written.{packets-long, stream-long, Passed, writing-passed, stream-passed}
 use Rattle.streamfile.proofs.Found.{There, length-flows, length-numbers, flow-is, number-is}
 use Rattle.streamfile.proofs.Accepting.{StreamDone}
@@ -43,7 +45,7 @@ pub record Sendable (P : Params) (fs ns : List ℕ) : Type 0 where
   pub flows : (k : ℕ) → k < length fs → getD fs k 0 < prime
   pub numbers : (k : ℕ) → k < length ns → (1 ≤ getD ns k 0) × (getD ns k 0 < prime)
 
-pub sending-done : (P : Params) (fs ns : List ℕ) (o : ℕ) → streamWriting P fs ns o ≡ Done → Sendable P fs ns
+pub sending-done : (P : Params) (fs ns : List ℕ) (o : ℕ) → streamWriteAnswer P fs ns o ≡ Done → Sendable P fs ns
 unfolding isFlowAt isNumberAt
 sending-done P fs ns o e =
     let passed = writing-passed P fs ns o e in
@@ -59,7 +61,7 @@ sending-done P fs ns o e =
           (leb-true _ _ (q .0), ltb-true _ _ (q .1));
     }
 
-pub sendable-done : (P : Params) (fs ns : List ℕ) (o : ℕ) → Sendable P fs ns → length (streamBytes P fs ns) ≤ o → streamWriting P fs ns o ≡ Done
+pub sendable-done : (P : Params) (fs ns : List ℕ) (o : ℕ) → Sendable P fs ns → length (streamBytes P fs ns) ≤ o → streamWriteAnswer P fs ns o ≡ Done
 unfolding isFlowAt isNumberAt
 sendable-done P fs ns o h l =
     let passed : Passed P fs ns o = record { good = h .good; same = h .same; few = h .few; room = omega (arith, stream-long P fs ns (h .same)) } in
@@ -72,12 +74,12 @@ pub read-sendable : {P : Params} {bs : List ℕ} {S : Sketch} → StreamDone P b
 read-sendable {P} {bs} {S} done few =
     record {
       good = done .opened .good;
-      same = length-flows 38 bs ∙ sym (length-numbers 38 bs);
-      few = rw (length-flows 38 bs) few;
-      flows = λ k l. step-done P false _ _ (afterFirst P bs k S) (done .accepted k (rw (length-flows 38 bs) at l)) .let-in .flow;
+      same = length-flows headLength bs ∙ sym (length-numbers headLength bs);
+      few = rw (length-flows headLength bs) few;
+      flows = λ k l. step-done P false _ _ (afterFirst P bs k S) (done .accepted k (rw (length-flows headLength bs) at l)) .let-in .flow;
       numbers = λ k l.
-          let told = step-done P false _ _ (afterFirst P bs k S) (done .accepted k (rw (length-numbers 38 bs) at l)) .let-in in
-          (told .low, told .high);
+          let in-order = step-done P false _ _ (afterFirst P bs k S) (done .accepted k (rw (length-numbers headLength bs) at l)) .let-in in
+          (in-order .low, in-order .high);
     }
 
 -- the file of such packets
@@ -96,7 +98,7 @@ module _ (P : Params) (fs ns : List ℕ) (able : Sendable P fs ns) where
   file-is = sym (append-assoc (headBytes P) (packetsBytes fs ns) end)
 
   end-place : length before ≡ packetPlace (length fs)
-  end-place = headed-long P (packetsBytes fs ns) ∙ ap (λ (n : ℕ). 38 + n) (packets-long fs ns (able .same))
+  end-place = headed-long P (packetsBytes fs ns) ∙ ap (λ (n : ℕ). headLength + n) (packets-long fs ns (able .same))
 
   -- packet k stands at its place
   there : (k : ℕ) → k < length fs → There file (packetPlace k) (getD fs k 0) (getD ns k 0)
@@ -109,7 +111,7 @@ module _ (P : Params) (fs ns : List ℕ) (able : Sendable P fs ns) where
       let form : file ≡ (headBytes P ++ sofar) ++ (this ++ (rest ++ end)) = ap (λ (xs : List ℕ). headBytes P ++ (xs ++ end)) (packet-among fs ns k l m) ∙ simp append-assoc in
       let fl : length (take k fs) ≡ k = length-take-le k fs (omega arith) in
       let nl : length (take k ns) ≡ k = length-take-le k ns (omega arith) in
-      let long : length (headBytes P ++ sofar) ≡ packetPlace k = headed-long P sofar ∙ ap (λ (n : ℕ). 38 + n) (packets-long (take k fs) (take k ns) (fl ∙ sym nl) ∙ ap (λ (n : ℕ). 9 * n) fl) in
+      let long : length (headBytes P ++ sofar) ≡ packetPlace k = headed-long P sofar ∙ ap (λ (n : ℕ). headLength + n) (packets-long (take k fs) (take k ns) (fl ∙ sym nl) ∙ ap (λ (n : ℕ). packetsLength * n) fl) in
       packet-written file (headBytes P ++ sofar) (rest ++ end) (packetPlace k) _ _ form long (omega (arith, able .flows k l)) (omega (arith, able .numbers k m .1))
 
   counted : packetsIn file ≡ length fs
@@ -117,23 +119,23 @@ module _ (P : Params) (fs ns : List ℕ) (able : Sendable P fs ns) where
   counted =
       let long : length file ≡ packetPlace (length fs) + length end = ap length file-is ∙ length-append before end ∙ ap (λ (n : ℕ). n + length end) end-place in
       let four : getD file (packetPlace (length fs)) 0 ≡ 4 = rw file-is (getD-at before 4 (wordBytes (length fs)) 0 (packetPlace (length fs)) end-place) in
-      records-are 2 packetPlace file (length fs) (omega arith) (λ k l. there k l .whole) (not-kind file (packetPlace (length fs)) 2 (λ q. omega arith))
+      records-are packetsKind packetPlace file (length fs) (omega arith) (λ k l. there k l .whole) (not-kind file (packetPlace (length fs)) packetsKind (λ q. omega arith))
 
   ended : endAnswer file (packetPlace (packetsIn file)) (packetsIn file) ≡ Done
   ended = rw (counted, file-is) (end-written before (packetPlace (length fs)) (length fs) end-place (omega (arith, able .few)))
 
   -- so its flows and numbers are those that were given
   pub flows-back : flowsIn file ≡ fs
-  flows-back = ext-getD 0 (flowsIn file) fs (length-flows 38 file ∙ counted) (λ k l. sym (there k (at k l) .flow ∙ flow-is 38 file k (rw (length-flows 38 file) at l)))
+  flows-back = ext-getD 0 (flowsIn file) fs (length-flows headLength file ∙ counted) (λ k l. sym (there k (at k l) .flow ∙ flow-is headLength file k (rw (length-flows headLength file) at l)))
     where
       at : (k : ℕ) → k < length (flowsIn file) → k < length fs
-      at k l = omega (arith, length-flows 38 file, counted)
+      at k l = omega (arith, length-flows headLength file, counted)
 
   pub numbers-back : numbersIn file ≡ ns
-  numbers-back = ext-getD 0 (numbersIn file) ns (length-numbers 38 file ∙ counted ∙ able .same) (λ k l. sym (there k (at k l) .number ∙ number-is 38 file k (rw (length-numbers 38 file) at l)))
+  numbers-back = ext-getD 0 (numbersIn file) ns (length-numbers headLength file ∙ counted ∙ able .same) (λ k l. sym (there k (at k l) .number ∙ number-is headLength file k (rw (length-numbers headLength file) at l)))
     where
       at : (k : ℕ) → k < length (numbersIn file) → k < length fs
-      at k l = omega (arith, length-numbers 38 file, counted)
+      at k l = omega (arith, length-numbers headLength file, counted)
 
   -- and reading it into a sketch without damage answers as inserting them does, save for the place
   opening-is : (c s : ℕ) → openingAnswer P file c s ≡ lentAnswer P c s
@@ -155,7 +157,8 @@ module _ (P : Params) (fs ns : List ℕ) (able : Sendable P fs ns) where
       ∙ rw (eq-eqb (length fs) (length ns) (able .same))
 
   pub file-number : (S : Sketch) → ((k : ℕ) → k < size P → damagedAt S k ≡ false) → numberIn (streamAnswer P file S) ≡ numberIn (allAnswer P fs ns S)
-  unfolding streamAnswer allAnswer
+  unfolding allAnswer
   file-number S undamaged =
-      ap (λ (r : Answer). numberIn (first r (refuseAt (size P) (damagedAt S) Damage (packetsJudged P file S)))) (opening-is (length (S .counts)) (length (S .idsums)))
+      ap numberIn (stream-opening P file S)
+      ∙ ap (λ (r : Answer). numberIn (first r (refuseAt (size P) (damagedAt S) Damage (packetsJudged P file S)))) (opening-is (length (S .counts)) (length (S .idsums)))
       ∙ first-number (lentAnswer P (length (S .counts)) (length (S .idsums))) _ _ (past-lent S undamaged)

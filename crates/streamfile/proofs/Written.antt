@@ -19,8 +19,9 @@ use Rattle.params.proofs.Searches.{and-true}
 use Rattle.params.proofs.Judging.{refuse-done}
 use Rattle.files.specs.Bytes.{wordBytes}
 use Rattle.files.specs.Layout.{packetBytes}
+use Rattle.files.specs.Records.{headLength, packetsLength, endLength}
 use Rattle.files.proofs.Overwriting.{length-file}
-use Rattle.streamfile.specs.Writing.{packetsBytes, streamBytes, isFlowAt, isNumberAt, streamWriting}
+use Rattle.streamfile.specs.Writing.{packetsBytes, streamBytes, isFlowAt, isNumberAt, streamWriteAnswer}
 
 -- of the records from the i-th on, the first
 pub packets-next : (fs ns : List ℕ) (i : ℕ) → i < length fs → i < length ns
@@ -28,14 +29,14 @@ pub packets-next : (fs ns : List ℕ) (i : ℕ) → i < length fs → i < length
 unfolding packetsBytes
 packets-next fs ns i h k = rw (drop-cons fs i 0 h, drop-cons ns i 0 k, add-one i)
 
--- each takes 9 bytes
-pub packets-long : (fs ns : List ℕ) → length fs ≡ length ns → length (packetsBytes fs ns) ≡ 9 * length fs
+-- each takes as many bytes as its kind asks for
+pub packets-long : (fs ns : List ℕ) → length fs ≡ length ns → length (packetsBytes fs ns) ≡ packetsLength * length fs
 unfolding packetsBytes packetBytes wordBytes
 packets-long [] ns e = refl
 packets-long (f ∷ fs) [] e = absurd (omega arith)
 packets-long (f ∷ fs) (n ∷ ns) e = omega (arith, packets-long fs ns (omega arith))
 
-pub stream-long : (P : Params) (fs ns : List ℕ) → length fs ≡ length ns → length (streamBytes P fs ns) ≡ 43 + 9 * length fs
+pub stream-long : (P : Params) (fs ns : List ℕ) → length fs ≡ length ns → length (streamBytes P fs ns) ≡ headLength + packetsLength * length fs + endLength
 unfolding streamBytes
 stream-long P fs ns e = omega (arith, length-file P (packetsBytes fs ns) (length fs), packets-long fs ns e)
 
@@ -44,10 +45,10 @@ pub record Passed (P : Params) (fs ns : List ℕ) (o : ℕ) : Type 0 where
   pub good : goodParams P ≡ true
   pub same : length fs ≡ length ns
   pub few : length fs ≤ 65536
-  pub room : 43 + 9 * length fs ≤ o
+  pub room : headLength + packetsLength * length fs + endLength ≤ o
 
-pub writing-passed : (P : Params) (fs ns : List ℕ) (o : ℕ) → streamWriting P fs ns o ≡ Done → Passed P fs ns o
-unfolding streamWriting
+pub writing-passed : (P : Params) (fs ns : List ℕ) (o : ℕ) → streamWriteAnswer P fs ns o ≡ Done → Passed P fs ns o
+unfolding streamWriteAnswer
 writing-passed P fs ns o e =
     let h = refuse-done (not (goodParams P)) Param 0 _ e in
     let k = refuse-done (not (eqb (length fs) (length ns) && leb (length fs) 65536)) Length 0 _ (h .1) in
@@ -63,7 +64,7 @@ writing-passed P fs ns o e =
 
 -- the flows and the numbers decide then
 pub stream-passed : (P : Params) (fs ns : List ℕ) (o : ℕ) → Passed P fs ns o
-    → streamWriting P fs ns o ≡ refuseIf (not (below (length fs) (isFlowAt P fs))) Flow 0 (refuseIf (not (below (length ns) (isNumberAt ns))) Count 0 Done)
-unfolding streamWriting
+    → streamWriteAnswer P fs ns o ≡ refuseIf (not (below (length fs) (isFlowAt P fs))) Flow 0 (refuseIf (not (below (length ns) (isNumberAt ns))) Count 0 Done)
+unfolding streamWriteAnswer
 stream-passed P fs ns o h =
     rw (h .good, eq-eqb _ _ (h .same), le-leb _ _ (h .few), le-ltb o (length (streamBytes P fs ns)) (omega (arith, h .room, stream-long P fs ns (h .same))))

@@ -9,22 +9,24 @@ use Rattle.params.specs.declared.answers.Refusal.the-variants.{Damage}
 use Rattle.params.specs.declared.answers.Answer.{Answer}
 use Rattle.params.specs.Lists.{from}
 use Rattle.params.specs.Answers.{refuseAt, first, kept}
-use Rattle.params.specs.Params.{size}
+use Rattle.params.specs.Params.{size, lengthsAnswer}
 use Rattle.sketch.specs.Sketch.{Sketch, damagedAt}
 use Rattle.sketch.specs.Packets.{stepAnswer, after}
 use Rattle.files.specs.Bytes.{word}
-use Rattle.files.specs.Heads.{openingAnswer}
+use Rattle.files.specs.Heads.{parametersAnswer}
 use Rattle.files.specs.Turns.{atOffset, inTurn, packetFrom, packetPlace, recordsOf, endAnswer}
+use Rattle.files.specs.Records.{packetsKind, headLength}
+use Rattle.files.specs.Fields.{flowField, numberField}
 
 -- how many packet records stand from an offset o on, and the flow and the number in the k-th, counted from 0
 abbrev pub packetsFrom : ℕ → List ℕ → ℕ
-packetsFrom o bs = recordsOf 2 (packetFrom o) bs
+packetsFrom o bs = recordsOf packetsKind (packetFrom o) bs
 
 abbrev pub flowFrom : ℕ → List ℕ → ℕ → ℕ
-flowFrom o bs k = word bs (packetFrom o k + 1)
+flowFrom o bs k = word bs (packetFrom o k + flowField)
 
 abbrev pub numberFrom : ℕ → List ℕ → ℕ → ℕ
-numberFrom o bs k = word bs (packetFrom o k + 5)
+numberFrom o bs k = word bs (packetFrom o k + numberField)
 
 -- all their flows, and all their numbers
 unfoldable pub flowsFrom : ℕ → List ℕ → List ℕ
@@ -35,19 +37,19 @@ numbersFrom o bs = from 0 (packetsFrom o bs) (numberFrom o bs)
 
 -- in a stream they stand after the head
 abbrev pub packetsIn : List ℕ → ℕ
-packetsIn bs = packetsFrom 38 bs
+packetsIn bs = packetsFrom headLength bs
 
 abbrev pub packetFlow : List ℕ → ℕ → ℕ
-packetFlow bs k = flowFrom 38 bs k
+packetFlow bs k = flowFrom headLength bs k
 
 abbrev pub packetNumber : List ℕ → ℕ → ℕ
-packetNumber bs k = numberFrom 38 bs k
+packetNumber bs k = numberFrom headLength bs k
 
 abbrev pub flowsIn : List ℕ → List ℕ
-flowsIn bs = flowsFrom 38 bs
+flowsIn bs = flowsFrom headLength bs
 
 abbrev pub numbersIn : List ℕ → List ℕ
-numbersIn bs = numbersFrom 38 bs
+numbersIn bs = numbersFrom headLength bs
 
 -- the sketch that the first k records leave, and what is refused of the k-th, which goes into it
 abbrev pub afterFirst : Params → List ℕ → ℕ → Sketch → Sketch
@@ -62,12 +64,13 @@ packetsJudged P bs S =
     first (inTurn 0 (packetsIn bs) (packetJudged P bs S))
     (endAnswer bs (packetPlace (packetsIn bs)) (packetsIn bs))
 
--- the head and the lengths, damage anywhere in the sketch, the records
+-- the head and the parameters, the lengths, damage anywhere in the sketch, the records
 unfoldable pub streamAnswer : Params → List ℕ → Sketch → Answer
 streamAnswer P bs S =
-    first (openingAnswer P bs (length (S .counts)) (length (S .idsums)))
+    first (parametersAnswer P bs)
+    (first (lengthsAnswer P (length (S .counts)) (length (S .idsums)))
     (refuseAt (size P) (damagedAt S) Damage
-    (packetsJudged P bs S))
+    (packetsJudged P bs S)))
 
 -- the packets in turn, into a sketch whose damage is judged already
 pub record RecordsRead (P : Params) (bs : List ℕ) (S : Sketch) (r : Answer) (S' : Sketch) : Type 0 where

@@ -13,7 +13,7 @@ use Rattle.params.specs.Lists.{below}
 use Rattle.params.specs.Answers.{refuseIf, kept}
 use Rattle.params.specs.Params.{prime, isFlow, goodParams}
 use Rattle.files.specs.declared.writing.Written.{Written}
-use Rattle.files.specs.Bytes.{over}
+use Rattle.files.specs.Bytes.{overwritten}
 use Rattle.files.specs.Layout.{headBytes, packetBytes, endBytes}
 use Rattle.files.specs.Writing.{writtenOf}
 
@@ -34,8 +34,8 @@ unfoldable pub isNumberAt : List ℕ → ℕ → Bool
 isNumberAt ns k = leb 1 (getD ns k 0) && ltb (getD ns k 0) prime
 
 -- the parameters, the lengths of the lists and of the output, o, then all flows and all numbers
-unfoldable pub streamWriting : Params → List ℕ → List ℕ → ℕ → Answer
-streamWriting P fs ns o =
+unfoldable pub streamWriteAnswer : Params → List ℕ → List ℕ → ℕ → Answer
+streamWriteAnswer P fs ns o =
     refuseIf (not (goodParams P)) Param 0
     (refuseIf (not (eqb (length fs) (length ns) && leb (length fs) 65536)) Length 0
     (refuseIf (ltb o (length (streamBytes P fs ns))) Length 0
@@ -44,5 +44,5 @@ streamWriting P fs ns o =
     Done))))
 
 pub record StreamWritten (P : Params) (fs ns out : List ℕ) (r : Written) (out' : List ℕ) : Type 0 where
-  pub answer : r ≡ writtenOf (streamWriting P fs ns (length out)) (length (streamBytes P fs ns))
-  pub bytes : out' ≡ kept (streamWriting P fs ns (length out)) out (over out 0 (streamBytes P fs ns))
+  pub answer : r ≡ writtenOf (streamWriteAnswer P fs ns (length out)) (length (streamBytes P fs ns))
+  pub bytes : out' ≡ kept (streamWriteAnswer P fs ns (length out)) out (overwritten out 0 (streamBytes P fs ns))

@@ -6,10 +6,12 @@ ghost use Rattle.sketch.specs.Packets.{Unwound};
 ghost use Rattle.files.specs.Turns.{atOffset};
 ghost use Rattle.streamfile.specs.Streams.{packetsIn, flowsIn, numbersIn, RecordsRead, StreamRead};
 use buckets::first_damaged;
-use files::ends::end;
+use files::ends::judge_end;
 use files::fields::Packets;
 use files::fields::packets_at;
-use files::heads::opening;
+use files::heads::judge_parameters;
+use files::records::HEAD_LENGTH;
+use files::records::PACKETS_LENGTH;
 use params::Answer;
 use params::Params;
 use params::Refusal;
@@ -34,7 +36,7 @@ fn withdraw_packets(p: Params, counts: &mut [i32], idsums: &mut [u32], bytes: &[
     let mut i = n;
     while 0 < i {
         i -= 1;
-        let found = packets_at(bytes, 38 + 9 * i);
+        let found = packets_at(bytes, HEAD_LENGTH + PACKETS_LENGTH * i);
         let Packets::Of(flow, number) = found else {
             return;
         };
@@ -46,7 +48,7 @@ fn withdraw_packets(p: Params, counts: &mut [i32], idsums: &mut [u32], bytes: &[
 fn read_records(p: Params, counts: &mut [i32], idsums: &mut [u32], bytes: &[u8]) -> Answer
     ensures { λ r. ⌜ RecordsRead p (now (bytes .entry)) (sketch (now (counts .entry)) (now (idsums .entry))) r (sketch (now (counts .exit)) (now (idsums .exit))) ⌝ }
 {
-    let mut at = 38;
+    let mut at = HEAD_LENGTH;
     let mut n = 0;
     loop {
         let found = packets_at(bytes, at);
@@ -58,10 +60,10 @@ fn read_records(p: Params, counts: &mut [i32], idsums: &mut [u32], bytes: &[u8])
             withdraw_packets(p, counts, idsums, bytes, n);
             return at_offset(at, r);
         };
-        at += 9;
+        at += PACKETS_LENGTH;
         n += 1;
     }
-    let e = end(bytes, at, n);
+    let e = judge_end(bytes, at, n);
     let Answer::Done = e else {
         withdraw_packets(p, counts, idsums, bytes, n);
         return e;
@@ -73,9 +75,13 @@ fn read_records(p: Params, counts: &mut [i32], idsums: &mut [u32], bytes: &[u8])
 pub fn read_stream(p: Params, counts: &mut [i32], idsums: &mut [u32], bytes: &[u8]) -> Answer
     ensures { λ r. ⌜ StreamRead p (now (bytes .entry)) (sketch (now (counts .entry)) (now (idsums .entry))) r (sketch (now (counts .exit)) (now (idsums .exit))) ⌝ }
 {
-    let o = opening(p, bytes, counts.len(), idsums.len());
-    let Answer::Done = o else {
-        return o;
+    let a = judge_parameters(p, bytes);
+    let Answer::Done = a else {
+        return a;
+    };
+    let l = p.judge_lent(counts.len(), idsums.len());
+    let Answer::Done = l else {
+        return l;
     };
     let x = first_damaged(counts, idsums);
     if x < counts.len() {

@@ -3,8 +3,12 @@ ghost use mathlib.Core.Path.{_≡_};
 ghost use Prim.Native.Nat.{_+_, _*_, _≤_};
 ghost use lib.ListN.{length};
 ghost use Rattle.params.specs.Lists.{below};
-ghost use Rattle.files.specs.Bytes.{over};
-ghost use Rattle.streamfile.specs.Writing.{packetsBytes, isFlowAt, isNumberAt, streamWriting, StreamWritten};
+ghost use Rattle.files.specs.Bytes.{overwritten};
+ghost use Rattle.files.specs.Records.{headLength, packetsLength};
+ghost use Rattle.streamfile.specs.Writing.{packetsBytes, isFlowAt, isNumberAt, streamWriteAnswer, StreamWritten};
+use files::records::END_LENGTH;
+use files::records::HEAD_LENGTH;
+use files::records::PACKETS_LENGTH;
 use files::writing::Written;
 use files::writing::put_end;
 use files::writing::put_head;
@@ -47,7 +51,7 @@ fn all_numbers(numbers: &[u32]) -> bool
 
 // The answer, which alters nothing; `room` is the length of the output.
 fn judge(p: Params, flows: &[u32], numbers: &[u32], room: usize) -> Answer
-    ensures { λ r. ⌜ r ≡ streamWriting p (now (flows .entry)) (now (numbers .entry)) room ⌝ }
+    ensures { λ r. ⌜ r ≡ streamWriteAnswer p (now (flows .entry)) (now (numbers .entry)) room ⌝ }
 {
     if !p.check() {
         return Answer::Refused(Refusal::Param, 0);
@@ -59,7 +63,7 @@ fn judge(p: Params, flows: &[u32], numbers: &[u32], room: usize) -> Answer
     if 65536 < n {
         return Answer::Refused(Refusal::Length, 0);
     }
-    if room < 43 + 9 * n {
+    if room < HEAD_LENGTH + PACKETS_LENGTH * n + END_LENGTH {
         return Answer::Refused(Refusal::Length, 0);
     }
     if !all_flows(p, flows) {
@@ -74,14 +78,14 @@ fn judge(p: Params, flows: &[u32], numbers: &[u32], room: usize) -> Answer
 // The packet records, after the head.
 fn put_all(out: &mut [u8], flows: &[u32], numbers: &[u32])
     requires { ⌜ length (now flows) ≡ length (now numbers) ⌝ }
-    requires { ⌜ 38 + 9 * length (now flows) ≤ length (now out) ⌝ }
-    ensures { λ r. ⌜ now (out .exit) ≡ over (now (out .entry)) 38 (packetsBytes (now (flows .entry)) (now (numbers .entry))) ⌝ }
+    requires { ⌜ headLength + packetsLength * length (now flows) ≤ length (now out) ⌝ }
+    ensures { λ r. ⌜ now (out .exit) ≡ overwritten (now (out .entry)) headLength (packetsBytes (now (flows .entry)) (now (numbers .entry))) ⌝ }
 {
-    let mut at = 38;
+    let mut at = HEAD_LENGTH;
     let mut i = 0;
     while i < flows.len() {
         put_packets(out, at, flows[i], numbers[i]);
-        at += 9;
+        at += PACKETS_LENGTH;
         i += 1;
     }
 }
@@ -96,8 +100,9 @@ pub fn write_stream(p: Params, flows: &[u32], numbers: &[u32], out: &mut [u8]) -
             let n = flows.len();
             put_head(out, p);
             put_all(out, flows, numbers);
-            put_end(out, 38 + 9 * n, n as u32);
-            Written::Bytes(43 + 9 * n)
+            let at = HEAD_LENGTH + PACKETS_LENGTH * n;
+            put_end(out, at, n as u32);
+            Written::Bytes(at + END_LENGTH)
         }
         Answer::Refused(refusal, index) => Written::Refused(refusal, index),
     }

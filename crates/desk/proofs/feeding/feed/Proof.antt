@@ -8,8 +8,8 @@ use denote.Ref.{now}
 use borrow.Author.Needs.{needs}
 use Rattle.sketch.specs.Sketch.{Sketch, sketch}
 use Rattle.params.proofs.Searches.{test-held, test-failed}
-use Rattle.desk.specs.Desk.{inReach, firstPackets, firstEnd, secondHead, secondPackets, secondEnd, fedState}
-use Rattle.desk.proofs.Onward.{Came, part-reach, packets-first, then-end, then-head, then-packets, then-over, then-sketch}
+use Rattle.desk.specs.Desk.{offsetsFit, upstreamTaken, upstreamEnded, downstreamHeaded, downstreamTaken, downstreamEnded, fedState}
+use Rattle.desk.proofs.Onward.{Came, part-fits, packets-first, then-end, then-head, then-packets, then-nothing, then-sketch}
 use Rattle.desk.proofs.feeding.feed.Statement.{statement}
 use Rattle.desk.proofs.feeding.feed.Tie as tie
 
@@ -23,116 +23,116 @@ down c = sketch (now (c .args .down-counts)) (now (c .args .down-idsums))
 abbrev hand : tie.Start → List ℕ
 hand c = now (c .args .bytes)
 
-in-reach-requires : tie.Need-in-reach-requires
-in-reach-requires c κs = search needs
+offsets-fit-requires : tie.Need-offsets-fit-requires
+offsets-fit-requires c κs = search needs
 
 returns : tie.Need-returns
-unfolding inReach
+unfolding offsetsFit
 returns c =
-    let far = test-failed (c .before .in-reach .ensures) (c .if1 .taken) in
+    let far = test-failed (c .before .offsets-fit .ensures) (c .if1 .taken) in
     record { state = rw far; used = omega arith; upstream = rw far; downstream = rw far }
 
 -- else 64 bits hold all that the bytes lead to
-near : (c : tie.Else1) → inReach (hand (c .before .before .before .before .before)) (c .before .before .before .before .before .args .s) ≡ true
-unfolding inReach
-near c = test-held (c .before .in-reach .ensures) (c .if1 .left)
+near : (c : tie.Else1) → offsetsFit (hand (c .before .before .before .before .before)) (c .before .before .before .before .before .args .s) ≡ true
+unfolding offsetsFit
+near c = test-held (c .before .offsets-fit .ensures) (c .if1 .left)
 
-packets-requires : tie.Need-packets-requires
-packets-requires c κs = near (c .before .before)
+packets-stage-requires : tie.Need-packets-stage-requires
+packets-stage-requires c κs = near (c .before .before)
 
 -- stage after stage: what its function gives is what the definition says
-came-to-first-packets : (c : tie.After-packets) → Came (hand (c .before .before .before .before .before .before .before .before)) (c .before .before .before .before .before .before .before .before .args .s) (c .packets .result) (firstPackets (c .before .before .before .before .before .before .before .before .args .p) (hand (c .before .before .before .before .before .before .before .before)) (up (c .before .before .before .before .before .before .before .before)) (down (c .before .before .before .before .before .before .before .before)) (c .before .before .before .before .before .before .before .before .args .s))
-came-to-first-packets c = packets-first _ _ _ _ _ (c .packets .ensures .0)
+came-to-upstream-taken : (c : tie.After-packets-stage) → Came (hand (c .before .before .before .before .before .before .before .before)) (c .before .before .before .before .before .before .before .before .args .s) (c .packets-stage .result) (upstreamTaken (c .before .before .before .before .before .before .before .before .args .p) (hand (c .before .before .before .before .before .before .before .before)) (up (c .before .before .before .before .before .before .before .before)) (down (c .before .before .before .before .before .before .before .before)) (c .before .before .before .before .before .before .before .before .args .s))
+came-to-upstream-taken c = packets-first _ _ _ _ _ (c .packets-stage .ensures .0)
 
 sub-i : tie.Need-sub-i
-sub-i c = came-to-first-packets (c .before .before .before .before) .onward .low
+sub-i c = came-to-upstream-taken (c .before .before .before .before) .onward .low
 
-sub-end : tie.Need-sub-end
-sub-end c = came-to-first-packets (c .before .before .before .before) .onward .within
+sub-end-stage : tie.Need-sub-end-stage
+sub-end-stage c = came-to-upstream-taken (c .before .before .before .before) .onward .within
 
-part-end-start : tie.Need-part-end-start
-part-end-start c = came-to-first-packets (c .before .before .before .before) .onward .within
+part-end-stage-start : tie.Need-part-end-stage-start
+part-end-stage-start c = came-to-upstream-taken (c .before .before .before .before) .onward .within
 
-part-end-end : tie.Need-part-end-end
-part-end-end c = search needs
+part-end-stage-end : tie.Need-part-end-stage-end
+part-end-stage-end c = search needs
 
-end-requires : tie.Need-end-requires
-end-requires c κs = part-reach (came-to-first-packets (c .before .before .before .before .before)) (near (c .before .before .before .before .before .before .before .before))
+end-stage-requires : tie.Need-end-stage-requires
+end-stage-requires c κs = part-fits (came-to-upstream-taken (c .before .before .before .before .before)) (near (c .before .before .before .before .before .before .before .before))
 
-came-to-first-end : (c : tie.After-end) → Came (hand (c .before .before .before .before .before .before .before .before .before .before .before .before .before .before)) (c .before .before .before .before .before .before .before .before .before .before .before .before .before .before .args .s) (c .end .result) (firstEnd (c .before .before .before .before .before .before .before .before .before .before .before .before .before .before .args .p) (hand (c .before .before .before .before .before .before .before .before .before .before .before .before .before .before)) (up (c .before .before .before .before .before .before .before .before .before .before .before .before .before .before)) (down (c .before .before .before .before .before .before .before .before .before .before .before .before .before .before)) (c .before .before .before .before .before .before .before .before .before .before .before .before .before .before .args .s))
-came-to-first-end c = then-end (came-to-first-packets (c .before .before .before .before .before .before)) _ (c .end .ensures)
+came-to-upstream-ended : (c : tie.After-end-stage) → Came (hand (c .before .before .before .before .before .before .before .before .before .before .before .before .before .before)) (c .before .before .before .before .before .before .before .before .before .before .before .before .before .before .args .s) (c .end-stage .result) (upstreamEnded (c .before .before .before .before .before .before .before .before .before .before .before .before .before .before .args .p) (hand (c .before .before .before .before .before .before .before .before .before .before .before .before .before .before)) (up (c .before .before .before .before .before .before .before .before .before .before .before .before .before .before)) (down (c .before .before .before .before .before .before .before .before .before .before .before .before .before .before)) (c .before .before .before .before .before .before .before .before .before .before .before .before .before .before .args .s))
+came-to-upstream-ended c = then-end (came-to-upstream-taken (c .before .before .before .before .before .before)) _ (c .end-stage .ensures)
 
 sub-j : tie.Need-sub-j
-sub-j c = came-to-first-end (c .before) .onward .low
+sub-j c = came-to-upstream-ended (c .before) .onward .low
 
-sub-second-head : tie.Need-sub-second-head
-sub-second-head c = came-to-first-end (c .before) .onward .within
+sub-head-stage : tie.Need-sub-head-stage
+sub-head-stage c = came-to-upstream-ended (c .before) .onward .within
 
-part-second-head-start : tie.Need-part-second-head-start
-part-second-head-start c = came-to-first-end (c .before) .onward .within
+part-head-stage-start : tie.Need-part-head-stage-start
+part-head-stage-start c = came-to-upstream-ended (c .before) .onward .within
 
-part-second-head-end : tie.Need-part-second-head-end
-part-second-head-end c = search needs
+part-head-stage-end : tie.Need-part-head-stage-end
+part-head-stage-end c = search needs
 
-second-head-requires : tie.Need-second-head-requires
-second-head-requires c κs = part-reach (came-to-first-end (c .before .before)) (near (c .before .before .before .before .before .before .before .before .before .before .before))
+head-stage-requires : tie.Need-head-stage-requires
+head-stage-requires c κs = part-fits (came-to-upstream-ended (c .before .before)) (near (c .before .before .before .before .before .before .before .before .before .before .before))
 
-came-to-second-head : (c : tie.After-second-head) → Came (hand (c .before .before .before .before .before .before .before .before .before .before .before .before .before .before .before .before .before)) (c .before .before .before .before .before .before .before .before .before .before .before .before .before .before .before .before .before .args .s) (c .second-head .result) (secondHead (c .before .before .before .before .before .before .before .before .before .before .before .before .before .before .before .before .before .args .p) (hand (c .before .before .before .before .before .before .before .before .before .before .before .before .before .before .before .before .before)) (up (c .before .before .before .before .before .before .before .before .before .before .before .before .before .before .before .before .before)) (down (c .before .before .before .before .before .before .before .before .before .before .before .before .before .before .before .before .before)) (c .before .before .before .before .before .before .before .before .before .before .before .before .before .before .before .before .before .args .s))
-came-to-second-head c = then-head (came-to-first-end (c .before .before .before)) _ _ (c .second-head .ensures)
+came-to-downstream-headed : (c : tie.After-head-stage) → Came (hand (c .before .before .before .before .before .before .before .before .before .before .before .before .before .before .before .before .before)) (c .before .before .before .before .before .before .before .before .before .before .before .before .before .before .before .before .before .args .s) (c .head-stage .result) (downstreamHeaded (c .before .before .before .before .before .before .before .before .before .before .before .before .before .before .before .before .before .args .p) (hand (c .before .before .before .before .before .before .before .before .before .before .before .before .before .before .before .before .before)) (up (c .before .before .before .before .before .before .before .before .before .before .before .before .before .before .before .before .before)) (down (c .before .before .before .before .before .before .before .before .before .before .before .before .before .before .before .before .before)) (c .before .before .before .before .before .before .before .before .before .before .before .before .before .before .before .before .before .args .s))
+came-to-downstream-headed c = then-head (came-to-upstream-ended (c .before .before .before)) _ _ (c .head-stage .ensures)
 
 sub-k : tie.Need-sub-k
-sub-k c = came-to-second-head (c .before) .onward .low
+sub-k c = came-to-downstream-headed (c .before) .onward .low
 
-sub-packets : tie.Need-sub-packets
-sub-packets c = came-to-second-head (c .before .before .before) .onward .within
+sub-packets-stage : tie.Need-sub-packets-stage
+sub-packets-stage c = came-to-downstream-headed (c .before .before .before) .onward .within
 
-part-packets-start : tie.Need-part-packets-start
-part-packets-start c = came-to-second-head (c .before .before .before) .onward .within
+part-packets-stage-start : tie.Need-part-packets-stage-start
+part-packets-stage-start c = came-to-downstream-headed (c .before .before .before) .onward .within
 
-part-packets-end : tie.Need-part-packets-end
-part-packets-end c = search needs
+part-packets-stage-end : tie.Need-part-packets-stage-end
+part-packets-stage-end c = search needs
 
-packets-requires-2 : tie.Need-packets-requires-2
-packets-requires-2 c κs = part-reach (came-to-second-head (c .before .before .before .before)) (near (c .before .before .before .before .before .before .before .before .before .before .before .before .before .before .before .before))
+packets-stage-requires-2 : tie.Need-packets-stage-requires-2
+packets-stage-requires-2 c κs = part-fits (came-to-downstream-headed (c .before .before .before .before)) (near (c .before .before .before .before .before .before .before .before .before .before .before .before .before .before .before .before))
 
-came-to-second-packets : (c : tie.After-packets2) → Came (hand (c .before .before .before .before .before .before .before .before .before .before .before .before .before .before .before .before .before .before .before .before .before .before)) (c .before .before .before .before .before .before .before .before .before .before .before .before .before .before .before .before .before .before .before .before .before .before .args .s) (c .packets2 .result) (secondPackets (c .before .before .before .before .before .before .before .before .before .before .before .before .before .before .before .before .before .before .before .before .before .before .args .p) (hand (c .before .before .before .before .before .before .before .before .before .before .before .before .before .before .before .before .before .before .before .before .before .before)) (up (c .before .before .before .before .before .before .before .before .before .before .before .before .before .before .before .before .before .before .before .before .before .before)) (down (c .before .before .before .before .before .before .before .before .before .before .before .before .before .before .before .before .before .before .before .before .before .before)) (c .before .before .before .before .before .before .before .before .before .before .before .before .before .before .before .before .before .before .before .before .before .before .args .s))
-came-to-second-packets c = then-packets (came-to-second-head (c .before .before .before .before .before)) _ _ _ (c .packets2 .ensures .0)
+came-to-downstream-taken : (c : tie.After-packets-stage2) → Came (hand (c .before .before .before .before .before .before .before .before .before .before .before .before .before .before .before .before .before .before .before .before .before .before)) (c .before .before .before .before .before .before .before .before .before .before .before .before .before .before .before .before .before .before .before .before .before .before .args .s) (c .packets-stage2 .result) (downstreamTaken (c .before .before .before .before .before .before .before .before .before .before .before .before .before .before .before .before .before .before .before .before .before .before .args .p) (hand (c .before .before .before .before .before .before .before .before .before .before .before .before .before .before .before .before .before .before .before .before .before .before)) (up (c .before .before .before .before .before .before .before .before .before .before .before .before .before .before .before .before .before .before .before .before .before .before)) (down (c .before .before .before .before .before .before .before .before .before .before .before .before .before .before .before .before .before .before .before .before .before .before)) (c .before .before .before .before .before .before .before .before .before .before .before .before .before .before .before .before .before .before .before .before .before .before .args .s))
+came-to-downstream-taken c = then-packets (came-to-downstream-headed (c .before .before .before .before .before)) _ _ _ (c .packets-stage2 .ensures .0)
 
 sub-l : tie.Need-sub-l
-sub-l c = came-to-second-packets (c .before .before .before .before) .onward .low
+sub-l c = came-to-downstream-taken (c .before .before .before .before) .onward .low
 
-sub-end-2 : tie.Need-sub-end-2
-sub-end-2 c = came-to-second-packets (c .before .before .before .before) .onward .within
+sub-end-stage-2 : tie.Need-sub-end-stage-2
+sub-end-stage-2 c = came-to-downstream-taken (c .before .before .before .before) .onward .within
 
-part-end-start-2 : tie.Need-part-end-start-2
-part-end-start-2 c = came-to-second-packets (c .before .before .before .before) .onward .within
+part-end-stage-start-2 : tie.Need-part-end-stage-start-2
+part-end-stage-start-2 c = came-to-downstream-taken (c .before .before .before .before) .onward .within
 
-part-end-end-2 : tie.Need-part-end-end-2
-part-end-end-2 c = search needs
+part-end-stage-end-2 : tie.Need-part-end-stage-end-2
+part-end-stage-end-2 c = search needs
 
-end-requires-2 : tie.Need-end-requires-2
-end-requires-2 c κs = part-reach (came-to-second-packets (c .before .before .before .before .before)) (near (c .before .before .before .before .before .before .before .before .before .before .before .before .before .before .before .before .before .before .before .before .before .before))
+end-stage-requires-2 : tie.Need-end-stage-requires-2
+end-stage-requires-2 c κs = part-fits (came-to-downstream-taken (c .before .before .before .before .before)) (near (c .before .before .before .before .before .before .before .before .before .before .before .before .before .before .before .before .before .before .before .before .before .before))
 
-came-to-second-end : (c : tie.After-end2) → Came (hand (c .before .before .before .before .before .before .before .before .before .before .before .before .before .before .before .before .before .before .before .before .before .before .before .before .before .before .before .before)) (c .before .before .before .before .before .before .before .before .before .before .before .before .before .before .before .before .before .before .before .before .before .before .before .before .before .before .before .before .args .s) (c .end2 .result) (secondEnd (c .before .before .before .before .before .before .before .before .before .before .before .before .before .before .before .before .before .before .before .before .before .before .before .before .before .before .before .before .args .p) (hand (c .before .before .before .before .before .before .before .before .before .before .before .before .before .before .before .before .before .before .before .before .before .before .before .before .before .before .before .before)) (up (c .before .before .before .before .before .before .before .before .before .before .before .before .before .before .before .before .before .before .before .before .before .before .before .before .before .before .before .before)) (down (c .before .before .before .before .before .before .before .before .before .before .before .before .before .before .before .before .before .before .before .before .before .before .before .before .before .before .before .before)) (c .before .before .before .before .before .before .before .before .before .before .before .before .before .before .before .before .before .before .before .before .before .before .before .before .before .before .before .before .args .s))
-came-to-second-end c = then-end (came-to-second-packets (c .before .before .before .before .before .before)) _ (c .end2 .ensures)
+came-to-downstream-ended : (c : tie.After-end-stage2) → Came (hand (c .before .before .before .before .before .before .before .before .before .before .before .before .before .before .before .before .before .before .before .before .before .before .before .before .before .before .before .before)) (c .before .before .before .before .before .before .before .before .before .before .before .before .before .before .before .before .before .before .before .before .before .before .before .before .before .before .before .before .args .s) (c .end-stage2 .result) (downstreamEnded (c .before .before .before .before .before .before .before .before .before .before .before .before .before .before .before .before .before .before .before .before .before .before .before .before .before .before .before .before .args .p) (hand (c .before .before .before .before .before .before .before .before .before .before .before .before .before .before .before .before .before .before .before .before .before .before .before .before .before .before .before .before)) (up (c .before .before .before .before .before .before .before .before .before .before .before .before .before .before .before .before .before .before .before .before .before .before .before .before .before .before .before .before)) (down (c .before .before .before .before .before .before .before .before .before .before .before .before .before .before .before .before .before .before .before .before .before .before .before .before .before .before .before .before)) (c .before .before .before .before .before .before .before .before .before .before .before .before .before .before .before .before .before .before .before .before .before .before .before .before .before .before .before .before .args .s))
+came-to-downstream-ended c = then-end (came-to-downstream-taken (c .before .before .before .before .before .before)) _ (c .end-stage2 .ensures)
 
 sub-m : tie.Need-sub-m
-sub-m c = came-to-second-end (c .before) .onward .low
+sub-m c = came-to-downstream-ended (c .before) .onward .low
 
-sub-over : tie.Need-sub-over
-sub-over c = came-to-second-end (c .before) .onward .within
+sub-nothing-stage : tie.Need-sub-nothing-stage
+sub-nothing-stage c = came-to-downstream-ended (c .before) .onward .within
 
-part-over-start : tie.Need-part-over-start
-part-over-start c = came-to-second-end (c .before) .onward .within
+part-nothing-stage-start : tie.Need-part-nothing-stage-start
+part-nothing-stage-start c = came-to-downstream-ended (c .before) .onward .within
 
-part-over-end : tie.Need-part-over-end
-part-over-end c = search needs
+part-nothing-stage-end : tie.Need-part-nothing-stage-end
+part-nothing-stage-end c = search needs
 
-over-requires : tie.Need-over-requires
-over-requires c κs = search needs
+nothing-stage-requires : tie.Need-nothing-stage-requires
+nothing-stage-requires c κs = search needs
 
-came-to-all : (c : tie.After-over) → Came (hand (c .before .before .before .before .before .before .before .before .before .before .before .before .before .before .before .before .before .before .before .before .before .before .before .before .before .before .before .before .before .before .before)) (c .before .before .before .before .before .before .before .before .before .before .before .before .before .before .before .before .before .before .before .before .before .before .before .before .before .before .before .before .before .before .before .args .s) (c .over .result) (fedState (c .before .before .before .before .before .before .before .before .before .before .before .before .before .before .before .before .before .before .before .before .before .before .before .before .before .before .before .before .before .before .before .args .p) (hand (c .before .before .before .before .before .before .before .before .before .before .before .before .before .before .before .before .before .before .before .before .before .before .before .before .before .before .before .before .before .before .before)) (up (c .before .before .before .before .before .before .before .before .before .before .before .before .before .before .before .before .before .before .before .before .before .before .before .before .before .before .before .before .before .before .before)) (down (c .before .before .before .before .before .before .before .before .before .before .before .before .before .before .before .before .before .before .before .before .before .before .before .before .before .before .before .before .before .before .before)) (c .before .before .before .before .before .before .before .before .before .before .before .before .before .before .before .before .before .before .before .before .before .before .before .before .before .before .before .before .before .before .before .args .s))
-came-to-all c = then-over (came-to-second-end (c .before .before .before)) _ (c .over .ensures)
+came-to-all : (c : tie.After-nothing-stage) → Came (hand (c .before .before .before .before .before .before .before .before .before .before .before .before .before .before .before .before .before .before .before .before .before .before .before .before .before .before .before .before .before .before .before)) (c .before .before .before .before .before .before .before .before .before .before .before .before .before .before .before .before .before .before .before .before .before .before .before .before .before .before .before .before .before .before .before .args .s) (c .nothing-stage .result) (fedState (c .before .before .before .before .before .before .before .before .before .before .before .before .before .before .before .before .before .before .before .before .before .before .before .before .before .before .before .before .before .before .before .args .p) (hand (c .before .before .before .before .before .before .before .before .before .before .before .before .before .before .before .before .before .before .before .before .before .before .before .before .before .before .before .before .before .before .before)) (up (c .before .before .before .before .before .before .before .before .before .before .before .before .before .before .before .before .before .before .before .before .before .before .before .before .before .before .before .before .before .before .before)) (down (c .before .before .before .before .before .before .before .before .before .before .before .before .before .before .before .before .before .before .before .before .before .before .before .before .before .before .before .before .before .before .before)) (c .before .before .before .before .before .before .before .before .before .before .before .before .before .before .before .before .before .before .before .before .before .before .before .before .before .before .before .before .before .before .before .args .s))
+came-to-all c = then-nothing (came-to-downstream-ended (c .before .before .before)) _ (c .nothing-stage .ensures)
 
 sub-t21 : tie.Need-sub-t21
 sub-t21 c = came-to-all (c .before) .onward .low
@@ -155,42 +155,42 @@ returns-2 c =
     record {
       state = rw reach (came-to-all (c .before) .same);
       used = refl;
-      upstream = rw reach (c .before .before .before .before .before .before .before .before .before .before .before .before .before .before .before .before .before .before .before .before .before .before .before .before .packets .ensures .1);
-      downstream = rw reach (then-sketch (came-to-second-head (c .before .before .before .before .before .before .before .before .before .before .before .before .before .before .before)) _ _ _ (c .before .before .before .before .before .before .before .before .before .before .packets2 .ensures .1));
+      upstream = rw reach (c .before .before .before .before .before .before .before .before .before .before .before .before .before .before .before .before .before .before .before .before .before .before .before .before .packets-stage .ensures .1);
+      downstream = rw reach (then-sketch (came-to-downstream-headed (c .before .before .before .before .before .before .before .before .before .before .before .before .before .before .before)) _ _ _ (c .before .before .before .before .before .before .before .before .before .before .packets-stage2 .ensures .1));
     }
 
 pub feed-spec : {M : Type 1} → statement M
 feed-spec =
     tie.close
     (tie.spec
-    in-reach-requires
+    offsets-fit-requires
     returns
-    packets-requires
+    packets-stage-requires
     sub-i
-    sub-end
-    part-end-start
-    part-end-end
-    end-requires
+    sub-end-stage
+    part-end-stage-start
+    part-end-stage-end
+    end-stage-requires
     sub-j
-    sub-second-head
-    part-second-head-start
-    part-second-head-end
-    second-head-requires
+    sub-head-stage
+    part-head-stage-start
+    part-head-stage-end
+    head-stage-requires
     sub-k
-    sub-packets
-    part-packets-start
-    part-packets-end
-    packets-requires-2
+    sub-packets-stage
+    part-packets-stage-start
+    part-packets-stage-end
+    packets-stage-requires-2
     sub-l
-    sub-end-2
-    part-end-start-2
-    part-end-end-2
-    end-requires-2
+    sub-end-stage-2
+    part-end-stage-start-2
+    part-end-stage-end-2
+    end-stage-requires-2
     sub-m
-    sub-over
-    part-over-start
-    part-over-end
-    over-requires
+    sub-nothing-stage
+    part-nothing-stage-start
+    part-nothing-stage-end
+    nothing-stage-requires
     sub-t21
     same-length
     same-length-2

@@ -9,7 +9,7 @@ use borrow.Author.Needs.{needs}
 use Rattle.sketch.specs.Sketch.{sketch}
 use Rattle.params.proofs.Judging.{kept-old, kept-new}
 use Rattle.sketch.proofs.ManyPackets.{stepped-long}
-use Rattle.files.specs.Records.{recordAt, isKind}
+use Rattle.files.specs.Records.{recordAt, isKind, packetsKind}
 use Rattle.files.specs.Layout.{packetsAt}
 use Rattle.files.specs.Turns.{packetFrom}
 use Rattle.streamfile.proofs.Found.{There, packets-there, packets-not-there}
@@ -56,7 +56,7 @@ there c = packets-there _ _ _ _ (sym (c .before .before .before .packets-at .ens
 
 -- none do
 none : (c : tie.After-enum-told Inv-loop μ-loop)
-    → isKind 2 (recordAt (now (c .before .before .before .before .before .before .args .bytes)) (packetFrom 0 (c .before .before .before .loop .taken))) ≡ false
+    → isKind packetsKind (recordAt (now (c .before .before .before .before .before .before .args .bytes)) (packetFrom 0 (c .before .before .before .loop .taken))) ≡ false
 none c = packets-not-there _ _ _ (c .before .before .packets-at .ensures ∙ ap (packetsAt _) (c .before .before .before .loop .inv .0)) (c .before .match .keys2)
 
 same-length : tie.Need-same-length Inv-loop μ-loop

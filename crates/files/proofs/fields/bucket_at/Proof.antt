@@ -8,7 +8,7 @@ use borrow.Author.Needs.{needs}
 use Rattle.field.proofs.Casts.{back}
 use Rattle.params.proofs.Searches.{test-held, test-failed}
 use Rattle.files.specs.Bytes.{countOf}
-use Rattle.files.specs.Records.{recordAt, isKind, bodyLength}
+use Rattle.files.specs.Records.{recordAt, isKind, bucketKind}
 use Rattle.files.specs.Layout.{bucketAt}
 use Rattle.files.proofs.Standing.{kind-ends}
 use Rattle.files.proofs.fields.bucket_at.Statement.{statement}
@@ -22,35 +22,29 @@ unfolding bucketAt
 returns c = rw (test-failed (c .before .is-kind .ensures) (c .if1 .taken))
 
 -- a whole bucket stands there
-whole : (c : tie.Else1) → isKind 3 (recordAt (now (c .before .before .before .args .bytes)) (c .before .before .before .args .at)) ≡ true
+whole : (c : tie.Else1) → isKind bucketKind (recordAt (now (c .before .before .before .args .bytes)) (c .before .before .before .args .at)) ≡ true
 whole c = test-held (c .before .is-kind .ensures) (c .if1 .left)
 
 add-word : tie.Need-add-word
-unfolding bodyLength
-add-word c = omega (arith, kind-ends 3 _ _ (whole c))
+add-word c = omega (arith, kind-ends bucketKind _ _ (whole c))
 
 word-requires : tie.Need-word-requires
-unfolding bodyLength
-word-requires c κs = omega (arith, kind-ends 3 _ _ (whole c))
+word-requires c κs = omega (arith, kind-ends bucketKind _ _ (whole c))
 
 count-of-requires : tie.Need-count-of-requires
 count-of-requires c κs = search needs
 
 add-word-2 : tie.Need-add-word-2
-unfolding bodyLength
-add-word-2 c = omega (arith, kind-ends 3 _ _ (whole (c .before .before)))
+add-word-2 c = omega (arith, kind-ends bucketKind _ _ (whole (c .before .before)))
 
 word-requires-2 : tie.Need-word-requires-2
-unfolding bodyLength
-word-requires-2 c κs = omega (arith, kind-ends 3 _ _ (whole (c .before .before)))
+word-requires-2 c κs = omega (arith, kind-ends bucketKind _ _ (whole (c .before .before)))
 
 add-word-3 : tie.Need-add-word-3
-unfolding bodyLength
-add-word-3 c = omega (arith, kind-ends 3 _ _ (whole (c .before .before .before)))
+add-word-3 c = omega (arith, kind-ends bucketKind _ _ (whole (c .before .before .before)))
 
 word-requires-3 : tie.Need-word-requires-3
-unfolding bodyLength
-word-requires-3 c κs = omega (arith, kind-ends 3 _ _ (whole (c .before .before .before)))
+word-requires-3 c κs = omega (arith, kind-ends bucketKind _ _ (whole (c .before .before .before)))
 
 returns-2 : tie.Need-returns-2
 unfolding bucketAt

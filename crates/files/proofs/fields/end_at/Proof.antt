@@ -5,7 +5,7 @@ use native.Mathlib.Omega.{arith}
 use denote.Ref.{now}
 use borrow.Author.Needs.{needs}
 use Rattle.params.proofs.Searches.{test-held, test-failed}
-use Rattle.files.specs.Records.{recordAt, isKind, bodyLength}
+use Rattle.files.specs.Records.{recordAt, isKind, endKind}
 use Rattle.files.specs.Layout.{endAt}
 use Rattle.files.proofs.Standing.{kind-ends}
 use Rattle.files.proofs.fields.end_at.Statement.{statement}
@@ -19,16 +19,14 @@ unfolding endAt
 returns c = rw (test-failed (c .before .is-kind .ensures) (c .if1 .taken))
 
 -- a whole end stands there
-whole : (c : tie.Else1) → isKind 4 (recordAt (now (c .before .before .before .args .bytes)) (c .before .before .before .args .at)) ≡ true
+whole : (c : tie.Else1) → isKind endKind (recordAt (now (c .before .before .before .args .bytes)) (c .before .before .before .args .at)) ≡ true
 whole c = test-held (c .before .is-kind .ensures) (c .if1 .left)
 
 add-word : tie.Need-add-word
-unfolding bodyLength
-add-word c = omega (arith, kind-ends 4 _ _ (whole c))
+add-word c = omega (arith, kind-ends endKind _ _ (whole c))
 
 word-requires : tie.Need-word-requires
-unfolding bodyLength
-word-requires c κs = omega (arith, kind-ends 4 _ _ (whole c))
+word-requires c κs = omega (arith, kind-ends endKind _ _ (whole c))
 
 returns-2 : tie.Need-returns-2
 unfolding endAt

@@ -5,7 +5,7 @@ use native.Mathlib.Omega.{arith}
 use denote.Ref.{now}
 use borrow.Author.Needs.{needs}
 use Rattle.params.proofs.Searches.{test-held, test-failed}
-use Rattle.files.specs.Records.{recordAt, isKind, bodyLength}
+use Rattle.files.specs.Records.{recordAt, isKind, packetsKind}
 use Rattle.files.specs.Layout.{packetsAt}
 use Rattle.files.proofs.Standing.{kind-ends}
 use Rattle.files.proofs.fields.packets_at.Statement.{statement}
@@ -19,24 +19,20 @@ unfolding packetsAt
 returns c = rw (test-failed (c .before .is-kind .ensures) (c .if1 .taken))
 
 -- a whole record of packets stands there
-whole : (c : tie.Else1) → isKind 2 (recordAt (now (c .before .before .before .args .bytes)) (c .before .before .before .args .at)) ≡ true
+whole : (c : tie.Else1) → isKind packetsKind (recordAt (now (c .before .before .before .args .bytes)) (c .before .before .before .args .at)) ≡ true
 whole c = test-held (c .before .is-kind .ensures) (c .if1 .left)
 
 add-word : tie.Need-add-word
-unfolding bodyLength
-add-word c = omega (arith, kind-ends 2 _ _ (whole c))
+add-word c = omega (arith, kind-ends packetsKind _ _ (whole c))
 
 word-requires : tie.Need-word-requires
-unfolding bodyLength
-word-requires c κs = omega (arith, kind-ends 2 _ _ (whole c))
+word-requires c κs = omega (arith, kind-ends packetsKind _ _ (whole c))
 
 add-word-2 : tie.Need-add-word-2
-unfolding bodyLength
-add-word-2 c = omega (arith, kind-ends 2 _ _ (whole (c .before)))
+add-word-2 c = omega (arith, kind-ends packetsKind _ _ (whole (c .before)))
 
 word-requires-2 : tie.Need-word-requires-2
-unfolding bodyLength
-word-requires-2 c κs = omega (arith, kind-ends 2 _ _ (whole (c .before)))
+word-requires-2 c κs = omega (arith, kind-ends packetsKind _ _ (whole (c .before)))
 
 returns-2 : tie.Need-returns-2
 unfolding packetsAt

@@ -7,7 +7,7 @@ use denote.Ref.{now}
 use Rattle.params.specs.Params.{goodParams}
 use Rattle.params.proofs.Searches.{test-held, test-failed}
 use Rattle.files.specs.declared.records.Record.the-variants.{Whole}
-use Rattle.files.specs.Records.{recordAt}
+use Rattle.files.specs.Records.{recordAt, headKind}
 use Rattle.files.specs.Heads.{isHead}
 use Rattle.files.proofs.Standing.{not-whole}
 use Rattle.files.proofs.HeadStages.{not-a-head, bad-params, good-head, head-long}
@@ -18,7 +18,7 @@ use Rattle.files.proofs.heads.head.Tie as tie
 whole : (c : tie.After-known-told) → recordAt (now (c .before .before .before .before .before .args .bytes)) 0 ≡ Whole (c .before .found .given .0 .0) (c .before .found .given .0 .1 .0)
 whole c = sym (c .before .before .before .record-at .ensures) ∙ c .before .found .given .1
 
-whole-head : (c : tie.Else1) → recordAt (now (c .before .before .before .before .before .before .args .bytes)) 0 ≡ Whole 1 (c .before .before .found .given .0 .1 .0)
+whole-head : (c : tie.Else1) → recordAt (now (c .before .before .before .before .before .before .args .bytes)) 0 ≡ Whole headKind (c .before .before .found .given .0 .1 .0)
 whole-head c = whole (c .before) ∙ ap (λ k. Whole k (c .before .before .found .given .0 .1 .0)) (c .if1 .left)
 
 record-at-requires : tie.Need-record-at-requires
@@ -31,13 +31,13 @@ refused-requires : tie.Need-refused-requires
 refused-requires c κs = search needs
 
 returns : tie.Need-returns
-returns c = c .refused .ensures ∙ not-a-head _ (ap isHead (sym (c .before .before .record-at .ensures)) ∙ not-whole (c .before .before .record-at .result) 0 [] (c .before .match .keys2) .0 1)
+returns c = c .refused .ensures ∙ not-a-head _ (ap isHead (sym (c .before .before .record-at .ensures)) ∙ not-whole (c .before .before .record-at .result) 0 [] (c .before .match .keys2) .0 headKind)
 
 refused-requires-2 : tie.Need-refused-requires-2
 refused-requires-2 c κs = search needs
 
 returns-2 : tie.Need-returns-2
-returns-2 c = c .refused2 .ensures ∙ not-a-head _ (ap isHead (whole (c .before .before)) ∙ ne-eqb _ 1 (c .before .if1 .taken))
+returns-2 c = c .refused2 .ensures ∙ not-a-head _ (ap isHead (whole (c .before .before)) ∙ ne-eqb _ headKind (c .before .if1 .taken))
 
 params-requires : tie.Need-params-requires
 params-requires c κs = head-long _ _ (whole-head c)

@@ -8,12 +8,13 @@ use lib.ListN.{length, length-set}
 use Rattle.params.proofs.Searches.{test-held, test-failed}
 use Rattle.files.specs.Bytes.{wordBytes}
 use Rattle.files.specs.Layout.{endBytes}
-use Rattle.files.proofs.Overwriting.{over-store, over-next, written-over, written-not}
+use Rattle.files.specs.Records.{endLength, endKind}
+use Rattle.files.proofs.Overwriting.{overwritten-store, overwritten-next, written-whole, written-not}
 use borrow.Author.Needs.{needs}
 use Rattle.files.proofs.writing.put_end.Statement.{statement}
 use Rattle.files.proofs.writing.put_end.Tie as tie
 
-room : (c : tie.Else1) → c .before .before .before .args .at + 5 ≤ length (now (c .before .before .before .args .out))
+room : (c : tie.Else1) → c .before .before .before .args .at + endLength ≤ length (now (c .before .before .before .args .out))
 room c = leb-true _ _ (test-held (c .before .fits2 .ensures) (c .if1 .left))
 
 fits-requires : tie.Need-fits-requires
@@ -33,15 +34,15 @@ put-word-requires : tie.Need-put-word-requires
 put-word-requires c κs = simp length-set (omega (arith, room (c .before)))
 
 same-length : tie.Need-same-length
-same-length c = let s = c .before .before .before .before .before .before .before .args in omega (arith, length-set (now (s .out)) (s .at) 4)
+same-length c = let s = c .before .before .before .before .before .before .before .args in omega (arith, length-set (now (s .out)) (s .at) endKind)
 
 returns-2 : tie.Need-returns-2
 unfolding endBytes wordBytes
 returns-2 c =
     let s = c .before .before .before .before .before .before .before .args in
     let h = room (c .before .before .before .before) in
-    over-next _ _ _ _ _ (over-store (now (s .out)) (s .at) 4 (omega arith)) (c .before .before .put-word .ensures) (omega arith) refl
-    ∙ sym (written-over _ _ _ h)
+    overwritten-next _ _ _ _ _ (overwritten-store (now (s .out)) (s .at) endKind (omega arith)) (c .before .before .put-word .ensures) (omega arith) refl
+    ∙ sym (written-whole _ _ _ h)
 
 pub put-end-spec : {M : Type 1} → statement M
 put-end-spec =

@@ -11,7 +11,8 @@ use Rattle.params.proofs.Searches.{test-held, test-failed}
 use Rattle.params.proofs.Rules.{good-dimensions}
 use Rattle.files.specs.Bytes.{wordBytes}
 use Rattle.files.specs.Layout.{headBytes}
-use Rattle.files.proofs.Overwriting.{over-stores, over-next, written-over, written-not}
+use Rattle.files.specs.Records.{headKind}
+use Rattle.files.proofs.Overwriting.{overwritten-stores, overwritten-next, written-whole, written-not}
 use borrow.Author.Needs.{needs}
 use Rattle.files.proofs.writing.put_head.Statement.{statement}
 use Rattle.files.proofs.writing.put_head.Tie as tie
@@ -36,13 +37,13 @@ cast-out : tie.Need-cast-out
 cast-out c = omega (arith, good-dimensions _ (good (c .before .before .before .before)))
 
 slice-write-out-2 : tie.Need-slice-write-out-2
-slice-write-out-2 c = omega (arith, length-set (now (c .before .before .before .before .before .before .before .args .out)) 0 1)
+slice-write-out-2 c = omega (arith, length-set (now (c .before .before .before .before .before .before .before .args .out)) 0 headKind)
 
 cast-put-word : tie.Need-cast-put-word
 cast-put-word c = omega (arith, good-dimensions _ (good (c .before .before .before .before .before .before)))
 
 put-word-requires : tie.Need-put-word-requires
-put-word-requires c κs = let s = c .before .before .before .before .before .before .before .before .before .args in omega (arith, length-sets (now (s .out)) 0 (1 ∷ s .p .d ∷ []))
+put-word-requires c κs = let s = c .before .before .before .before .before .before .before .before .before .args in omega (arith, length-sets (now (s .out)) 0 (headKind ∷ s .p .d ∷ []))
 
 array-read-put-pair : tie.Need-array-read-put-pair
 array-read-put-pair c = search needs
@@ -51,7 +52,7 @@ array-read-put-pair-2 : tie.Need-array-read-put-pair-2
 array-read-put-pair-2 c = search needs
 
 put-pair-requires : tie.Need-put-pair-requires
-put-pair-requires c κs = let s = c .before .before .before .before .before .before .before .before .before .before .before .before .before .args in omega (arith, length-sets (now (s .out)) 0 (1 ∷ s .p .d ∷ []))
+put-pair-requires c κs = let s = c .before .before .before .before .before .before .before .before .before .before .before .before .before .args in omega (arith, length-sets (now (s .out)) 0 (headKind ∷ s .p .d ∷ []))
 
 array-read-put-pair-3 : tie.Need-array-read-put-pair-3
 array-read-put-pair-3 c = search needs
@@ -60,7 +61,7 @@ array-read-put-pair-4 : tie.Need-array-read-put-pair-4
 array-read-put-pair-4 c = search needs
 
 put-pair-requires-2 : tie.Need-put-pair-requires-2
-put-pair-requires-2 c κs = let s = c .before .before .before .before .before .before .before .before .before .before .before .before .before .before .before .before .before .args in omega (arith, length-sets (now (s .out)) 0 (1 ∷ s .p .d ∷ []))
+put-pair-requires-2 c κs = let s = c .before .before .before .before .before .before .before .before .before .before .before .before .before .before .before .before .before .args in omega (arith, length-sets (now (s .out)) 0 (headKind ∷ s .p .d ∷ []))
 
 array-read-put-pair-5 : tie.Need-array-read-put-pair-5
 array-read-put-pair-5 c = search needs
@@ -69,7 +70,7 @@ array-read-put-pair-6 : tie.Need-array-read-put-pair-6
 array-read-put-pair-6 c = search needs
 
 put-pair-requires-3 : tie.Need-put-pair-requires-3
-put-pair-requires-3 c κs = let s = c .before .before .before .before .before .before .before .before .before .before .before .before .before .before .before .before .before .before .before .before .before .args in omega (arith, length-sets (now (s .out)) 0 (1 ∷ s .p .d ∷ []))
+put-pair-requires-3 c κs = let s = c .before .before .before .before .before .before .before .before .before .before .before .before .before .before .before .before .before .before .before .before .before .args in omega (arith, length-sets (now (s .out)) 0 (headKind ∷ s .p .d ∷ []))
 
 array-read-put-pair-7 : tie.Need-array-read-put-pair-7
 array-read-put-pair-7 c = search needs
@@ -78,21 +79,21 @@ array-read-put-pair-8 : tie.Need-array-read-put-pair-8
 array-read-put-pair-8 c = search needs
 
 put-pair-requires-4 : tie.Need-put-pair-requires-4
-put-pair-requires-4 c κs = let s = c .before .before .before .before .before .before .before .before .before .before .before .before .before .before .before .before .before .before .before .before .before .before .before .before .before .args in omega (arith, length-sets (now (s .out)) 0 (1 ∷ s .p .d ∷ []))
+put-pair-requires-4 c κs = let s = c .before .before .before .before .before .before .before .before .before .before .before .before .before .before .before .before .before .before .before .before .before .before .before .before .before .args in omega (arith, length-sets (now (s .out)) 0 (headKind ∷ s .p .d ∷ []))
 
 same-length : tie.Need-same-length
-same-length c = let s = c .before .before .before .before .before .before .before .before .before .before .before .before .before .before .before .before .before .before .before .before .before .before .before .before .before .before .before .before .args in omega (arith, length-sets (now (s .out)) 0 (1 ∷ s .p .d ∷ []))
+same-length c = let s = c .before .before .before .before .before .before .before .before .before .before .before .before .before .before .before .before .before .before .before .before .before .before .before .before .before .before .before .before .args in omega (arith, length-sets (now (s .out)) 0 (headKind ∷ s .p .d ∷ []))
 
 returns-3 : tie.Need-returns-3
 unfolding headBytes wordBytes
 returns-3 c =
     let s = c .before .before .before .before .before .before .before .before .before .before .before .before .before .before .before .before .before .before .before .before .before .before .before .before .before .before .before .before .args in
-    let start = over-next _ _ _ _ _ (over-stores (now (s .out)) (1 ∷ s .p .d ∷ []) 0 (omega arith)) (c .before .before .before .before .before .before .before .before .before .before .before .before .before .before .before .before .before .before .put-word .ensures) (omega arith) refl in
-    let one = over-next _ _ _ _ _ start (c .before .before .before .before .before .before .before .before .before .before .before .before .before .before .put-pair .ensures) (omega arith) refl in
-    let two = over-next _ _ _ _ _ one (c .before .before .before .before .before .before .before .before .before .before .put-pair2 .ensures) (omega arith) refl in
-    let three = over-next _ _ _ _ _ two (c .before .before .before .before .before .before .put-pair3 .ensures) (omega arith) refl in
-    let four = over-next _ _ _ _ _ three (c .before .before .put-pair4 .ensures) (omega arith) refl in
-    rw (good (c .before .before .before .before .before .before .before .before .before .before .before .before .before .before .before .before .before .before .before .before .before .before .before .before .before)) (four ∙ sym (written-over _ _ _ (omega arith)))
+    let start = overwritten-next _ _ _ _ _ (overwritten-stores (now (s .out)) (headKind ∷ s .p .d ∷ []) 0 (omega arith)) (c .before .before .before .before .before .before .before .before .before .before .before .before .before .before .before .before .before .before .put-word .ensures) (omega arith) refl in
+    let one = overwritten-next _ _ _ _ _ start (c .before .before .before .before .before .before .before .before .before .before .before .before .before .before .put-pair .ensures) (omega arith) refl in
+    let two = overwritten-next _ _ _ _ _ one (c .before .before .before .before .before .before .before .before .before .before .put-pair2 .ensures) (omega arith) refl in
+    let three = overwritten-next _ _ _ _ _ two (c .before .before .before .before .before .before .put-pair3 .ensures) (omega arith) refl in
+    let four = overwritten-next _ _ _ _ _ three (c .before .before .put-pair4 .ensures) (omega arith) refl in
+    rw (good (c .before .before .before .before .before .before .before .before .before .before .before .before .before .before .before .before .before .before .before .before .before .before .before .before .before)) (four ∙ sym (written-whole _ _ _ (omega arith)))
 
 pub put-head-spec : {M : Type 1} → statement M
 put-head-spec =

@@ -8,12 +8,13 @@ use lib.ListN.{length, length-set}
 use Rattle.params.proofs.Searches.{test-held, test-failed}
 use Rattle.files.specs.Bytes.{wordBytes}
 use Rattle.files.specs.Layout.{packetBytes}
-use Rattle.files.proofs.Overwriting.{over-store, over-next, written-over, written-not}
+use Rattle.files.specs.Records.{packetsLength, packetsKind}
+use Rattle.files.proofs.Overwriting.{overwritten-store, overwritten-next, written-whole, written-not}
 use borrow.Author.Needs.{needs}
 use Rattle.files.proofs.writing.put_packets.Statement.{statement}
 use Rattle.files.proofs.writing.put_packets.Tie as tie
 
-room : (c : tie.Else1) → c .before .before .before .args .at + 9 ≤ length (now (c .before .before .before .args .out))
+room : (c : tie.Else1) → c .before .before .before .args .at + packetsLength ≤ length (now (c .before .before .before .args .out))
 room c = leb-true _ _ (test-held (c .before .fits2 .ensures) (c .if1 .left))
 
 fits-requires : tie.Need-fits-requires
@@ -36,18 +37,18 @@ add-put-word-2 : tie.Need-add-put-word-2
 add-put-word-2 c = omega (arith, room (c .before .before .before .before .before))
 
 put-word-requires-2 : tie.Need-put-word-requires-2
-put-word-requires-2 c κs = let s = c .before .before .before .before .before .before .before .before .args in omega (arith, room (c .before .before .before .before .before), length-set (now (s .out)) (s .at) 2)
+put-word-requires-2 c κs = let s = c .before .before .before .before .before .before .before .before .args in omega (arith, room (c .before .before .before .before .before), length-set (now (s .out)) (s .at) packetsKind)
 
 same-length : tie.Need-same-length
-same-length c = let s = c .before .before .before .before .before .before .before .before .before .before .before .args in omega (arith, length-set (now (s .out)) (s .at) 2)
+same-length c = let s = c .before .before .before .before .before .before .before .before .before .before .before .args in omega (arith, length-set (now (s .out)) (s .at) packetsKind)
 
 returns-2 : tie.Need-returns-2
 unfolding packetBytes wordBytes
 returns-2 c =
     let s = c .before .before .before .before .before .before .before .before .before .before .before .args in
     let h = room (c .before .before .before .before .before .before .before .before) in
-    let flow = over-next _ _ _ _ _ (over-store (now (s .out)) (s .at) 2 (omega arith)) (c .before .before .before .before .before .before .put-word .ensures) (omega arith) refl in
-    over-next _ _ _ _ _ flow (c .before .before .put-word2 .ensures) (omega arith) refl ∙ sym (written-over _ _ _ h)
+    let flow = overwritten-next _ _ _ _ _ (overwritten-store (now (s .out)) (s .at) packetsKind (omega arith)) (c .before .before .before .before .before .before .put-word .ensures) (omega arith) refl in
+    overwritten-next _ _ _ _ _ flow (c .before .before .put-word2 .ensures) (omega arith) refl ∙ sym (written-whole _ _ _ h)
 
 pub put-packets-spec : {M : Type 1} → statement M
 put-packets-spec =

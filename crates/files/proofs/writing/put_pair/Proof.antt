@@ -2,7 +2,7 @@
 use mathlib.Core.Path.{refl}
 use native.Mathlib.Omega.{arith}
 use Rattle.files.specs.Bytes.{wordBytes}
-use Rattle.files.proofs.Overwriting.{over-next}
+use Rattle.files.proofs.Overwriting.{overwritten-next}
 use borrow.Author.Needs.{needs}
 use Rattle.files.proofs.writing.put_pair.Statement.{statement}
 use Rattle.files.proofs.writing.put_pair.Tie as tie
@@ -22,7 +22,7 @@ same-length c = search needs
 returns : tie.Need-returns
 unfolding wordBytes
 returns c =
-    over-next _ _ _ _ _ (c .before .before .before .before .before .before .put-word .ensures) (c .before .before .put-word2 .ensures) (omega arith) refl
+    overwritten-next _ _ _ _ _ (c .before .before .before .before .before .before .put-word .ensures) (c .before .before .put-word2 .ensures) (omega arith) refl
 
 pub put-pair-spec : {M : Type 1} → statement M
 put-pair-spec =

@@ -4,18 +4,18 @@ use mathlib.Core.List.{List, [], _∷_}
 use Prim.Native.Nat.{ℕ, suc, _+_, _≤_}
 use native.Mathlib.Omega.{arith}
 use lib.ListN.{length, set, length-set}
-use Rattle.files.specs.Bytes.{wordBytes, over}
-use Rattle.files.proofs.Overwriting.{over-stores}
+use Rattle.files.specs.Bytes.{wordBytes, overwritten}
+use Rattle.files.proofs.Overwriting.{overwritten-stores}
 use borrow.Author.Needs.{needs}
 use Rattle.files.proofs.writing.put_word.Statement.{statement}
 use Rattle.files.proofs.writing.put_word.Tie as tie
 
-four-stores : (xs : List ℕ) (at a b c d : ℕ) → at + 4 ≤ length xs → set (set (set (set xs at a) (at + 1) b) (at + 2) c) (at + 3) d ≡ over xs at (a ∷ b ∷ c ∷ d ∷ [])
+four-stores : (xs : List ℕ) (at a b c d : ℕ) → at + 4 ≤ length xs → set (set (set (set xs at a) (at + 1) b) (at + 2) c) (at + 3) d ≡ overwritten xs at (a ∷ b ∷ c ∷ d ∷ [])
 four-stores xs at a b c d h =
     let one : at + 1 ≡ suc at = omega arith in
     let two : at + 2 ≡ suc (suc at) = omega arith in
     let three : at + 3 ≡ suc (suc (suc at)) = omega arith in
-    rw (one, two, three) (over-stores xs (a ∷ b ∷ c ∷ d ∷ []) at h)
+    rw (one, two, three) (overwritten-stores xs (a ∷ b ∷ c ∷ d ∷ []) at h)
 
 cast-out : tie.Need-cast-out
 cast-out c = search needs

@@ -15,17 +15,17 @@ returns c =
     let s = c .before .before .before in
     no-left (s .args .index) (s .args .count) (s .args .idsum) _ _ (sym (rw (toZ-ofZ (s .fits .count)) at (c .before .all-zero .ensures)) ∙ c .if1 .taken)
 
-sub-left : tie.Need-sub-left
-sub-left c = search needs
+sub-left-line : tie.Need-sub-left-line
+sub-left-line c = search needs
 
-part-left-start : tie.Need-part-left-start
-part-left-start c = search needs
+part-left-line-start : tie.Need-part-left-line-start
+part-left-line-start c = search needs
 
-part-left-end : tie.Need-part-left-end
-part-left-end c = search needs
+part-left-line-end : tie.Need-part-left-line-end
+part-left-line-end c = search needs
 
-left-requires : tie.Need-left-requires
-left-requires c κs = search needs
+left-line-requires : tie.Need-left-line-requires
+left-line-requires c κs = search needs
 
 same-length : tie.Need-same-length
 same-length c = search needs
@@ -34,7 +34,7 @@ returns-2 : tie.Need-returns-2
 returns-2 c =
     let s = c .before .before .before .before .before .before .before in
     let some = sym (rw (toZ-ofZ (s .fits .count)) at (c .before .before .before .before .before .all-zero .ensures)) ∙ c .before .before .before .before .if1 .left in
-    rw some (line-in-the-rest _ _ _ _ (omega arith) (length-left _ _ _ (omega arith) (s .fits .count) (omega arith)) (rw (toZ-ofZ (s .fits .count)) at (c .before .before .left .ensures)))
+    rw some (line-in-the-rest _ _ _ _ (omega arith) (length-left _ _ _ (omega arith) (s .fits .count) (omega arith)) (rw (toZ-ofZ (s .fits .count)) at (c .before .before .left-line .ensures)))
 
 add-result : tie.Need-add-result
 add-result c = omega (arith, returns-2 c .1)
@@ -45,10 +45,10 @@ put-left-spec =
     (tie.spec
     all-zero-requires
     returns
-    sub-left
-    part-left-start
-    part-left-end
-    left-requires
+    sub-left-line
+    part-left-line-start
+    part-left-line-end
+    left-line-requires
     add-result
     same-length
     returns-2)

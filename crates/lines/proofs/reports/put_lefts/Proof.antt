@@ -8,21 +8,21 @@ use mir.Syntax.{w32}
 use borrow.Author.Needs.{needs}
 use Rattle.field.proofs.Casts.{back}
 use Rattle.lines.specs.Reports.{leftLines}
-use Rattle.lines.specs.Texts.{Placed}
-use Rattle.lines.proofs.Reporting.{lefts-next, nothing-placed, one-more}
+use Rattle.lines.specs.Texts.{TextWritten}
+use Rattle.lines.proofs.Reporting.{lefts-next, nothing-written, one-more}
 use Rattle.lines.proofs.reports.put_lefts.Statement.{statement}
 use Rattle.lines.proofs.reports.put_lefts.Tie as tie
 
 abbrev Inv-loop : tie.InvT-loop
 Inv-loop out₀ from counts idsums at₀ i₀ out at i =
-    (Placed (leftLines counts idsums i) out₀ from at out × (at ≤ from + 64 * i)) × (i ≤ length counts) × (length out ≡ length out₀)
+    (TextWritten (leftLines counts idsums i) out₀ from at out × (at ≤ from + 64 * i)) × (i ≤ length counts) × (length out ≡ length out₀)
 
 abbrev μ-loop : tie.MeasureT-loop
 μ-loop out₀ from counts idsums at₀ i₀ out at i = length counts - i
 
 loop-holds : tie.Need-loop-holds Inv-loop μ-loop
 unfolding leftLines
-loop-holds c = (nothing-placed _ _, omega arith, omega arith)
+loop-holds c = (nothing-written _ _, omega arith, omega arith)
 
 mul-put-left : tie.Need-mul-put-left Inv-loop μ-loop
 mul-put-left c = search needs

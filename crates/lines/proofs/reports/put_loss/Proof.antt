@@ -6,17 +6,17 @@ use borrow.Author.Needs.{needs}
 use Rattle.lines.proofs.reports.put_loss.Statement.{statement}
 use Rattle.lines.proofs.reports.put_loss.Tie as tie
 
-sub-loss : tie.Need-sub-loss
-sub-loss c = search needs
+sub-loss-line : tie.Need-sub-loss-line
+sub-loss-line c = search needs
 
-part-loss-start : tie.Need-part-loss-start
-part-loss-start c = search needs
+part-loss-line-start : tie.Need-part-loss-line-start
+part-loss-line-start c = search needs
 
-part-loss-end : tie.Need-part-loss-end
-part-loss-end c = search needs
+part-loss-line-end : tie.Need-part-loss-line-end
+part-loss-line-end c = search needs
 
-loss-requires : tie.Need-loss-requires
-loss-requires c κs = search needs
+loss-line-requires : tie.Need-loss-line-requires
+loss-line-requires c κs = search needs
 
 same-length : tie.Need-same-length
 same-length c = search needs
@@ -24,7 +24,7 @@ same-length c = search needs
 returns : tie.Need-returns
 returns c =
     let s = c .before .before .before .before .before in
-    line-in-the-rest _ _ _ _ (omega arith) (length-loss _ _ (omega arith) (s .fits .count)) (rw (toZ-ofZ (s .fits .count)) at (c .before .before .loss .ensures))
+    line-in-the-rest _ _ _ _ (omega arith) (length-loss _ _ (omega arith) (s .fits .count)) (rw (toZ-ofZ (s .fits .count)) at (c .before .before .loss-line .ensures))
 
 add-result : tie.Need-add-result
 add-result c = omega (arith, returns c .1)
@@ -32,4 +32,4 @@ add-result c = omega (arith, returns c .1)
 pub put-loss-spec : {M : Type 1} → statement M
 put-loss-spec =
     tie.close
-    (tie.spec sub-loss part-loss-start part-loss-end loss-requires add-result same-length returns)
+    (tie.spec sub-loss-line part-loss-line-start part-loss-line-end loss-line-requires add-result same-length returns)

@@ -7,21 +7,21 @@ use mir.Syntax.{w32}
 use borrow.Author.Needs.{needs}
 use Rattle.field.proofs.Casts.{back}
 use Rattle.lines.specs.Reports.{lossLines}
-use Rattle.lines.specs.Texts.{Placed}
-use Rattle.lines.proofs.Reporting.{losses-next, nothing-placed, one-more}
+use Rattle.lines.specs.Texts.{TextWritten}
+use Rattle.lines.proofs.Reporting.{losses-next, nothing-written, one-more}
 use Rattle.lines.proofs.reports.put_losses.Statement.{statement}
 use Rattle.lines.proofs.reports.put_losses.Tie as tie
 
 abbrev Inv-loop : tie.InvT-loop
 Inv-loop out₀ from flows numbers entries at₀ i₀ out at i =
-    (Placed (lossLines flows numbers i) out₀ from at out × (at ≤ from + 64 * i)) × (i ≤ entries) × (length out ≡ length out₀)
+    (TextWritten (lossLines flows numbers i) out₀ from at out × (at ≤ from + 64 * i)) × (i ≤ entries) × (length out ≡ length out₀)
 
 abbrev μ-loop : tie.MeasureT-loop
 μ-loop out₀ from flows numbers entries at₀ i₀ out at i = entries - i
 
 loop-holds : tie.Need-loop-holds Inv-loop μ-loop
 unfolding lossLines
-loop-holds c = (nothing-placed _ _, omega arith, omega arith)
+loop-holds c = (nothing-written _ _, omega arith, omega arith)
 
 mul-put-loss : tie.Need-mul-put-loss Inv-loop μ-loop
 mul-put-loss c = search needs

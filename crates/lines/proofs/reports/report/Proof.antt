@@ -11,7 +11,7 @@ use borrow.Author.Needs.{needs}
 use borrow.Author.Tests.{not-true, not-false}
 use Rattle.lines.specs.Lines.{endLine}
 use Rattle.lines.specs.Reports.{reportText, reportFits}
-use Rattle.lines.specs.Texts.{Placed}
+use Rattle.lines.specs.Texts.{TextWritten}
 use Rattle.lines.proofs.Joining.{text-of-three, not-written}
 use Rattle.lines.proofs.Reporting.{length-end, line-in-the-rest, fitting}
 use Rattle.lines.proofs.reports.report.Statement.{statement}
@@ -40,29 +40,29 @@ put-losses-requires c κs = let f = within (c .before) in (omega (arith, f), (f 
 put-lefts-requires : tie.Need-put-lefts-requires
 put-lefts-requires c κs = let f = within (c .before .before .before .before .before) in (omega (arith, f), f .2)
 
-sub-end : tie.Need-sub-end
-sub-end c = let f = within (c .before .before .before .before .before .before .before .before) in omega (arith, f)
+sub-end-line : tie.Need-sub-end-line
+sub-end-line c = let f = within (c .before .before .before .before .before .before .before .before) in omega (arith, f)
 
-part-end-start : tie.Need-part-end-start
-part-end-start c = let f = within (c .before .before .before .before .before .before .before .before) in omega (arith, f)
+part-end-line-start : tie.Need-part-end-line-start
+part-end-line-start c = let f = within (c .before .before .before .before .before .before .before .before) in omega (arith, f)
 
-part-end-end : tie.Need-part-end-end
-part-end-end c = search needs
+part-end-line-end : tie.Need-part-end-line-end
+part-end-line-end c = search needs
 
-end-requires : tie.Need-end-requires
-end-requires c κs = search needs
+end-line-requires : tie.Need-end-line-requires
+end-line-requires c κs = search needs
 
 same-length : tie.Need-same-length
 same-length c = search needs
 
 -- the end's line, after all others
 last-line : (c : tie.After-slice-known4) → let lefts = c .before .before .before .before .before .before .put-lefts in let a = c .before .before .before .before .before .before .before .before .before .before .before .before .before .before .before .before .before .args in
-    Placed (endLine (a .ending) (a .pops) (a .net)) (lefts .last .0) (lefts .result) (lefts .result + c .before .before .end .result) (putMid (lefts .result) (length (lefts .last .0) - lefts .result) (lefts .last .0) (c .before .before .end .last .0))
-    × (lefts .result + c .before .before .end .result ≤ lefts .result + 64)
+    TextWritten (endLine (a .ending) (a .pops) (a .net)) (lefts .last .0) (lefts .result) (lefts .result + c .before .before .end-line .result) (putMid (lefts .result) (length (lefts .last .0) - lefts .result) (lefts .last .0) (c .before .before .end-line .last .0))
+    × (lefts .result + c .before .before .end-line .result ≤ lefts .result + 64)
 last-line c =
     let s = c .before .before .before .before .before .before .before .before .before .before .before .before .before .before .before .before .before in
     let f = within (c .before .before .before .before .before .before .before .before .before .before .before .before) in
-    line-in-the-rest _ _ _ _ (omega (arith, f)) (length-end _ _ _ (omega arith) (s .fits .net)) (rw (toZ-ofZ (s .fits .net)) at (c .before .before .end .ensures))
+    line-in-the-rest _ _ _ _ (omega (arith, f)) (length-end _ _ _ (omega arith) (s .fits .net)) (rw (toZ-ofZ (s .fits .net)) at (c .before .before .end-line .ensures))
 
 returns-2 : tie.Need-returns-2
 unfolding reportText
@@ -79,10 +79,10 @@ report-spec =
     returns
     put-losses-requires
     put-lefts-requires
-    sub-end
-    part-end-start
-    part-end-end
-    end-requires
+    sub-end-line
+    part-end-line-start
+    part-end-line-end
+    end-line-requires
     add-result
     same-length
     returns-2)

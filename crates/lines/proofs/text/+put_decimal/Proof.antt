@@ -4,7 +4,7 @@ use Prim.Native.Nat.{ℕ, _<_}
 use native.Mathlib.Omega.{arith}
 use lib.ListN.{length, length-set}
 use Rattle.lines.proofs.Digits.{decimal-one, decimal-last, length-last}
-use Rattle.lines.proofs.Joining.{placed-byte, then}
+use Rattle.lines.proofs.Joining.{byte-written, then}
 use borrow.Author.Needs.{needs}
 use borrow.Fn.Kinds.{In}
 use borrow.Fn.PlainCycle.{Measures, is, falls, and}
@@ -40,7 +40,7 @@ same-length : (t : ℕ) → lts.Need-same-length (below t, reads.Post) (given t)
 same-length t c = search needs
 
 returns : (t : ℕ) → lts.Need-returns (below t, reads.Post) (given t) reads.Post
-returns t c = rw (decimal-one (c .before .before .args .n) (omega arith)) (placed-byte _ _ _ (slice-write-out t c))
+returns t c = rw (decimal-one (c .before .before .args .n) (omega arith)) (byte-written _ _ _ (slice-write-out t c))
 
 put-decimal-requires : (t : ℕ) → lts.Need-put-decimal-requires (below t, reads.Post) (given t) reads.Post
 put-decimal-requires t c κs = omega (arith, length-last (c .before .before .before .args .n) (omega arith) (omega arith))
@@ -64,7 +64,7 @@ same-length-2 t c = simp length-set (omega arith)
 returns-2 : (t : ℕ) → lts.Need-returns-2 (below t, reads.Post) (given t) reads.Post
 returns-2 t c =
     let s = c .before .before .before .before .before .before .args in
-    rw (decimal-last (s .n) (omega arith) (omega arith)) (then (omega arith) (c .before .before .put-decimal .ensures) (placed-byte _ _ _ (slice-write-out-2 t c)))
+    rw (decimal-last (s .n) (omega arith) (omega arith)) (then (omega arith) (c .before .before .put-decimal .ensures) (byte-written _ _ _ (slice-write-out-2 t c)))
 
 pub +put-decimal-spec : {M : Type 1} → statement M
 +put-decimal-spec =

@@ -7,8 +7,8 @@ use native.Mathlib.Omega.{arith}
 use denote.Ref.{now}
 use lib.ListN.{length, take, getD, set, length-set}
 use lib.Seq.{take-all, take-suc, length-take-le}
-use Rattle.files.specs.Bytes.{over}
-use Rattle.files.proofs.Overwriting.{over-stores, over-store, over-next}
+use Rattle.files.specs.Bytes.{overwritten}
+use Rattle.files.proofs.Overwriting.{overwritten-stores, overwritten-store, overwritten-next}
 use borrow.Author.Needs.{needs}
 use Rattle.lines.proofs.text.put.Statement.{statement}
 use Rattle.lines.proofs.text.put.Tie as tie
@@ -16,7 +16,7 @@ use Rattle.lines.proofs.text.put.Tie as tie
 record Copied (out₀ : List ℕ) (at : ℕ) (word out : List ℕ) (i : ℕ) : Type 0 where
   within : i ≤ length word
   same : length out ≡ length out₀
-  bytes : out ≡ over out₀ at (take i word)
+  bytes : out ≡ overwritten out₀ at (take i word)
 
 abbrev Inv-loop : tie.InvT-loop
 Inv-loop out₀ at word i₀ out i = Copied out₀ at word out i
@@ -25,16 +25,16 @@ abbrev μ-loop : tie.MeasureT-loop
 μ-loop out₀ at word i₀ out i = length word - i
 
 copied-none : (out word : List ℕ) (at : ℕ) → at ≤ length out → Copied out at word out 0
-copied-none out word at h = record { within = omega arith; same = refl; bytes = over-stores out [] at (omega arith) }
+copied-none out word at h = record { within = omega arith; same = refl; bytes = overwritten-stores out [] at (omega arith) }
 
 copied-next : (out₀ word out : List ℕ) (at i : ℕ) → at + length word ≤ length out₀ → i < length word → Copied out₀ at word out i → Copied out₀ at word (set out (at + i) (getD word i 0)) (i + 1)
 copied-next out₀ word out at i h l v =
     let long = length-take-le i word (v .within) in
-    let stored = over-store out (at + i) (getD word i 0) (omega (arith, v .same)) in
+    let stored = overwritten-store out (at + i) (getD word i 0) (omega (arith, v .same)) in
     record {
       within = omega arith;
       same = length-set out (at + i) (getD word i 0) ∙ v .same;
-      bytes = rw (add-one i, take-suc word i 0 l) (over-next out₀ (take i word) (getD word i 0 ∷ []) at (at + i) (v .bytes) stored (omega arith) (omega (arith, long)));
+      bytes = rw (add-one i, take-suc word i 0 l) (overwritten-next out₀ (take i word) (getD word i 0 ∷ []) at (at + i) (v .bytes) stored (omega arith) (omega (arith, long)));
     }
 
 loop-holds : tie.Need-loop-holds Inv-loop μ-loop
@@ -69,7 +69,7 @@ returns c =
     let a = c .before .before .args in
     let i : ℕ = c .before .loop .i in
     let all : take i (now (a .word)) ≡ now (a .word) = take-all i (now (a .word)) (omega arith) in
-    record { next = omega arith; bytes = c .before .loop .inv .bytes ∙ ap (over (now (a .out)) (a .at)) all }
+    record { next = omega arith; bytes = c .before .loop .inv .bytes ∙ ap (overwritten (now (a .out)) (a .at)) all }
 
 pub put-spec : {M : Type 1} → statement M
 put-spec =

@@ -11,7 +11,7 @@ use mir.Val.{SFits, toZ, ofZ}
 use Rattle.field.proofs.Casts.{as-is, cast-asks}
 use Rattle.field.proofs.Parts.{not-negative, abs-of-sfits}
 use Rattle.lines.proofs.Digits.{length-decimal, below-minus-one, signed-below, signed-not-below}
-use Rattle.lines.proofs.Joining.{placed-byte, then}
+use Rattle.lines.proofs.Joining.{byte-written, then}
 use borrow.Author.Needs.{needs}
 use Rattle.lines.proofs.text.put_signed.Statement.{statement}
 use Rattle.lines.proofs.text.put_signed.Tie as tie
@@ -54,7 +54,7 @@ returns c =
     let s = c .before .before .before .before .before .before in
     let below = rw (toZ-ofZ (s .fits .z)) at (c .before .before .before .before .if1 .taken) in
     let digits = rw (read (c .before .before .before .before)) at (c .before .before .put-decimal .ensures) in
-    rw (signed-below (s .args .z) below) (then (omega arith) (placed-byte _ _ 45 (omega arith)) digits)
+    rw (signed-below (s .args .z) below) (then (omega arith) (byte-written _ _ 45 (omega arith)) digits)
 
 -- a number that is not below 0, as it is read back from its bits
 plain : (c : tie.Else1) → toZ w64 (ofZ w64 (c .before .before .args .z)) ≡ pos (natAbs (c .before .before .args .z))

@@ -9,7 +9,7 @@ use borrow.Author.Count.{below-more}
 use borrow.Author.Needs.{needs}
 use Rattle.field.proofs.Casts.{back}
 use Rattle.params.specs.declared.answers.Answer.the-variants.{Done}
-use Rattle.sketchfile.specs.Stored.{lowest, bucketJudged}
+use Rattle.sketchfile.specs.Reading.{lowest, bucketJudged}
 use Rattle.sketchfile.proofs.BucketRecords.{Reader, Found, reader-start, found-bucket, none-left, as-judged, bucket-refused, all-passed, next-lowest}
 use Rattle.sketchfile.proofs.reading.judge_records.Statement.{statement}
 use Rattle.sketchfile.proofs.reading.judge_records.Tie as tie
@@ -89,14 +89,14 @@ loop-again c =
       below-more _ _ (l .inv .2) (sym (judged (c .before .before)) ∙ c .enum-told2 .given .1),
     )
 
-end-requires : tie.Need-end-requires Inv-loop μ-loop
-end-requires c κs = search needs
+judge-end-requires : tie.Need-judge-end-requires Inv-loop μ-loop
+judge-end-requires c κs = search needs
 
 returns-2 : tie.Need-returns-2 Inv-loop μ-loop
 returns-2 c =
     let l = c .before .before .before .before .loop in
     let r = l .inv .0 in
-    c .end .ensures ∙ all-passed _ r (none-left r (c .before .before .before .bucket-at .ensures) (c .before .enum-told .given .1)) (l .inv .2)
+    c .judge-end .ensures ∙ all-passed _ r (none-left r (c .before .before .before .bucket-at .ensures) (c .before .enum-told .given .1)) (l .inv .2)
 
 pub judge-records-spec : {M : Type 1} → statement M
 judge-records-spec =
@@ -119,5 +119,5 @@ judge-records-spec =
     add-n
     loop-less
     loop-again
-    end-requires
+    judge-end-requires
     returns-2)

@@ -8,7 +8,7 @@ use denote.Ref.{now}
 use borrow.Author.Needs.{needs}
 use Rattle.field.proofs.Casts.{back}
 use Rattle.sketch.specs.Sketch.{sketch}
-use Rattle.sketchfile.specs.Stored.{stored}
+use Rattle.sketchfile.specs.Reading.{stored}
 use Rattle.sketchfile.proofs.BucketRecords.{Storing, Found, reader-start, found-bucket, none-left, next-stored}
 use Rattle.sketchfile.proofs.reading.store.Statement.{statement}
 use Rattle.sketchfile.proofs.reading.store.Tie as tie

@@ -14,26 +14,26 @@ use Rattle.params.specs.Params.{lentAnswer}
 use Rattle.sketch.specs.Sketch.{sketch, damagedAt}
 use Rattle.params.proofs.Judging.{first-refused, refuse-found, refuse-past}
 use Rattle.params.proofs.Rules.{lent-done, dimensions-small}
-use Rattle.sketchfile.specs.Writing.{sketchWriting}
+use Rattle.sketchfile.specs.Writing.{sketchWriteAnswer}
 use Rattle.sketchfile.proofs.Written.{sketch-short, sketch-passed}
 use Rattle.sketchfile.proofs.writing.judge.Statement.{statement}
 use Rattle.sketchfile.proofs.writing.judge.Tie as tie
 
 -- the parameters and the lengths of the slices were passed
-shaped : (c : tie.After-enum-told) → let a = c .before .before .before .before .args in lentAnswer (a .p) (length (now (a .counts))) (length (now (a .idsums))) ≡ Done
-shaped c = sym (c .before .before .judge-lent .ensures) ∙ c .enum-told .given .1
+lent-right : (c : tie.After-enum-told) → let a = c .before .before .before .before .args in lentAnswer (a .p) (length (now (a .counts))) (length (now (a .idsums))) ≡ Done
+lent-right c = sym (c .before .before .judge-lent .ensures) ∙ c .enum-told .given .1
 
 same : (c : tie.After-enum-told) → let a = c .before .before .before .before .args in length (now (a .counts)) ≡ length (now (a .idsums))
-same c = let h = lent-done _ _ _ (shaped c) in h .1 ∙ sym (h .2)
+same c = let h = lent-done _ _ _ (lent-right c) in h .1 ∙ sym (h .2)
 
 few : (c : tie.After-enum-told) → length (now (c .before .before .before .before .args .counts)) ≤ 65536
-few c = let h = lent-done _ _ _ (shaped c) in omega (arith, dimensions-small (h .0))
+few c = let h = lent-done _ _ _ (lent-right c) in omega (arith, dimensions-small (h .0))
 
 -- there is room, so that damage decides
 roomy : (c : tie.Else1) → let a = c .before .before .before .before .before .before .args in
     let S = sketch (now (a .counts)) (now (a .idsums)) in
-    refuseAt (length (now (a .counts))) (damagedAt S) Damage Done ≡ sketchWriting (a .p) S (a .room)
-roomy c = sketch-passed _ _ _ (shaped (c .before .before)) (omega arith)
+    refuseAt (length (now (a .counts))) (damagedAt S) Damage Done ≡ sketchWriteAnswer (a .p) S (a .room)
+roomy c = sketch-passed _ _ _ (lent-right (c .before .before)) (omega arith)
 
 searched : (c : tie.After-first-damaged) → let a = c .before .before .before .before .before .before .before .args in
     c .first-damaged .result ≡ least 0 (length (now (a .counts))) (damagedAt (sketch (now (a .counts)) (now (a .idsums))))
@@ -49,11 +49,11 @@ enum-told-2 : tie.Need-enum-told-2
 enum-told-2 c = search needs
 
 returns : tie.Need-returns
-unfolding sketchWriting
+unfolding sketchWriteAnswer
 returns c = first-refused _ _ _ (c .before .before .judge-lent .ensures) (c .before .match .keys2)
 
-used-requires : tie.Need-used-requires
-used-requires c κs = same c
+nonzero-buckets-requires : tie.Need-nonzero-buckets-requires
+nonzero-buckets-requires c κs = same c
 
 mul-if1 : tie.Need-mul-if1
 mul-if1 c = omega (arith, few (c .before))
@@ -61,8 +61,11 @@ mul-if1 c = omega (arith, few (c .before))
 add-if1 : tie.Need-add-if1
 add-if1 c = omega (arith, few (c .before))
 
+add-if1-2 : tie.Need-add-if1-2
+add-if1-2 c = omega (arith, few (c .before))
+
 returns-2 : tie.Need-returns-2
-returns-2 c = sketch-short _ _ _ (shaped (c .before .before)) (omega arith)
+returns-2 c = sketch-short _ _ _ (lent-right (c .before .before)) (omega arith)
 
 first-damaged-requires : tie.Need-first-damaged-requires
 first-damaged-requires c κs = search needs
@@ -81,9 +84,10 @@ judge-spec =
     enum-told
     enum-told-2
     returns
-    used-requires
+    nonzero-buckets-requires
     mul-if1
     add-if1
+    add-if1-2
     returns-2
     first-damaged-requires
     returns-3

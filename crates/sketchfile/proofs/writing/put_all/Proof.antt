@@ -11,12 +11,13 @@ use lib.ListN.{length}
 use mir.Syntax.{w32}
 use Rattle.field.proofs.Casts.{back}
 use Rattle.sketch.specs.Sketch.{sketch, countIn, idsumIn}
-use Rattle.files.specs.Bytes.{over, wordBytes}
+use Rattle.files.specs.Bytes.{overwritten, wordBytes}
 use Rattle.files.specs.Layout.{bucketBytes}
 use Rattle.files.specs.Writing.{written}
-use Rattle.files.proofs.Overwriting.{over-none, length-written, written-next}
+use Rattle.files.specs.Records.{headLength, bucketLength}
+use Rattle.files.proofs.Overwriting.{overwritten-none, length-written, written-next}
 use Rattle.sketchfile.specs.Writing.{zeroAt, bucketsBytes}
-use Rattle.sketchfile.proofs.Written.{buckets-long, all-left, none-left, zero-next, used-next}
+use Rattle.sketchfile.proofs.Written.{buckets-long, all-left, none-left, zero-next, nonzero-next}
 use Rattle.sketchfile.proofs.writing.put_all.Statement.{statement}
 use Rattle.sketchfile.proofs.writing.put_all.Tie as tie
 
@@ -24,8 +25,8 @@ abbrev Inv-loop : tie.InvT-loop
 Inv-loop out₀ counts idsums at₀ k₀ out at k =
     (k ≤ length counts)
     × (length out ≡ length out₀)
-    × (at + length (bucketsBytes k (length counts - k) (sketch counts idsums)) ≡ 38 + length (bucketsBytes 0 (length counts) (sketch counts idsums)))
-    × (over out at (bucketsBytes k (length counts - k) (sketch counts idsums)) ≡ over out₀ 38 (bucketsBytes 0 (length counts) (sketch counts idsums)))
+    × (at + length (bucketsBytes k (length counts - k) (sketch counts idsums)) ≡ headLength + length (bucketsBytes 0 (length counts) (sketch counts idsums)))
+    × (overwritten out at (bucketsBytes k (length counts - k) (sketch counts idsums)) ≡ overwritten out₀ headLength (bucketsBytes 0 (length counts) (sketch counts idsums)))
 
 abbrev μ-loop : tie.MeasureT-loop
 μ-loop out₀ counts idsums at₀ k₀ out at k = length counts - k
@@ -35,23 +36,23 @@ tested : (c : tie.After-all-zero Inv-loop μ-loop) → c .all-zero .result ≡ z
 tested c = rw (back w32 _ (c .before .before .all-zero-arg .given)) at (c .all-zero .ensures)
 
 -- one that has a record, and the room for it
-used : (c : tie.Then1 Inv-loop μ-loop) → let a = c .before .before .before .before .before .before .before .before .args in
+nonzero-here : (c : tie.Then1 Inv-loop μ-loop) → let a = c .before .before .before .before .before .before .before .before .args in
     let S = sketch (now (a .counts)) (now (a .idsums)) in
     let k = c .before .before .before .before .before .loop .k in
     bucketsBytes k (length (now (a .counts)) - k) S ≡ bucketBytes k (countIn S k) (idsumIn S k) ++ bucketsBytes (k + 1) (length (now (a .counts)) - (k + 1)) S
-used c = used-next _ _ _ (c .before .before .before .before .loop-test .taken) (sym (tested (c .before)) ∙ not-true _ (c .if1 .taken))
+nonzero-here c = nonzero-next _ _ _ (c .before .before .before .before .loop-test .taken) (sym (tested (c .before)) ∙ not-true _ (c .if1 .taken))
 
-room : (c : tie.Then1 Inv-loop μ-loop) → c .before .before .before .before .before .loop .at + 13 ≤ length (c .before .before .before .before .before .loop .out)
+room : (c : tie.Then1 Inv-loop μ-loop) → c .before .before .before .before .before .loop .at + bucketLength ≤ length (c .before .before .before .before .before .loop .out)
 unfolding bucketBytes wordBytes
 room c =
     let a = c .before .before .before .before .before .before .before .before .args in
-    omega (arith, ap length (used c), buckets-long (sketch (now (a .counts)) (now (a .idsums))) 0 (length (now (a .counts))))
+    omega (arith, ap length (nonzero-here c), buckets-long (sketch (now (a .counts)) (now (a .idsums))) 0 (length (now (a .counts))))
 
 loop-holds : tie.Need-loop-holds Inv-loop μ-loop
 loop-holds c =
     let a = c .before .before .args in
     let all = all-left (sketch (now (a .counts)) (now (a .idsums))) (length (now (a .counts))) in
-    (search needs, refl, omega (arith, ap length all), ap (over (now (a .out)) 38) all)
+    (search needs, refl, omega (arith, ap length all), ap (overwritten (now (a .out)) headLength) all)
 
 mul-all-zero : tie.Need-mul-all-zero Inv-loop μ-loop
 mul-all-zero c = search needs
@@ -108,15 +109,15 @@ loop-again c =
     let put : c .if1 .out ≡ written (l .out) (l .at) (bucketBytes (l .k) (countIn S (l .k)) (idsumIn S (l .k))) = w .7 ∙ rw (back w32 _ (w .2 .given)) at (w .4 .ensures) in (
       search needs,
       ap length put ∙ length-written _ _ _ ∙ l .inv .1,
-      omega (arith, w .8, ap length (used t)),
-      written-next _ _ _ _ _ _ (ap (over (l .out) (l .at)) (sym (used t)) ∙ l .inv .3) put (room t) (w .8),
+      omega (arith, w .8, ap length (nonzero-here t)),
+      written-next _ _ _ _ _ _ (ap (overwritten (l .out) (l .at)) (sym (nonzero-here t)) ∙ l .inv .3) put (room t) (w .8),
     ))
     (λ w.
     let next = zero-next S (length (now (a .counts))) (l .k) (b .before .before .before .loop-test .taken) (sym (tested b) ∙ not-false _ (w .0 .left)) in (
       search needs,
       ap length (w .1) ∙ l .inv .1,
       omega (arith, w .2, ap length next),
-      rw (w .1, w .2) (ap (over (l .out) (l .at)) (sym next) ∙ l .inv .3),
+      rw (w .1, w .2) (ap (overwritten (l .out) (l .at)) (sym next) ∙ l .inv .3),
     ))
     (c .if1 .came)
 
@@ -130,7 +131,7 @@ returns c =
     let S = sketch (now (a .counts)) (now (a .idsums)) in
     let n = length (now (a .counts)) in
     let none = none-left S n (l .k) (c .loop-test .left) in
-    (omega (arith, ap length none, buckets-long S 0 n), over-none (l .out) (l .at) ∙ ap (over (l .out) (l .at)) (sym none) ∙ l .inv .3)
+    (omega (arith, ap length none, buckets-long S 0 n), overwritten-none (l .out) (l .at) ∙ ap (overwritten (l .out) (l .at)) (sym none) ∙ l .inv .3)
 
 pub put-all-spec : {M : Type 1} → statement M
 put-all-spec =

@@ -1,4 +1,4 @@
--- `streamfile::reading::told_at` meets its contract.
+-- `streamfile::reading::at_offset` meets its contract.
 use borrow.Author.Needs.{needs}
 use Rattle.files.specs.Turns.{atOffset}
 use Rattle.streamfile.proofs.reading.at_offset.Statement.{statement}

@@ -9,12 +9,12 @@ use borrow.Author.Needs.{needs}
 use Rattle.sketch.specs.Sketch.{sketch}
 use Rattle.params.proofs.Judging.{kept-old, kept-new}
 use Rattle.sketch.proofs.ManyPackets.{stepped-long}
-use Rattle.files.specs.Records.{recordAt, isKind}
+use Rattle.files.specs.Records.{recordAt, isKind, packetsKind, headLength}
 use Rattle.files.specs.Layout.{packetsAt}
 use Rattle.files.specs.Turns.{packetPlace, endAnswer, atOffset}
 use Rattle.streamfile.specs.Streams.{packetsJudged}
 use Rattle.streamfile.proofs.Found.{There, packets-there, packets-not-there}
-use Rattle.streamfile.proofs.InTurn.{told-refusal, Gone, gone-none, gone-within, next-ends, gone-more, packet-refused, end-judged, gone-all}
+use Rattle.streamfile.proofs.InTurn.{at-offset-refuses, Gone, gone-none, gone-within, next-ends, gone-more, packet-refused, end-judged, gone-all}
 use Rattle.streamfile.proofs.reading.read_records.Statement.{statement}
 use Rattle.streamfile.proofs.reading.read_records.Tie as tie
 
@@ -23,13 +23,13 @@ Inv-loop p counts₀ idsums₀ bytes at₀ n₀ counts idsums at n =
     (at ≡ packetPlace n)
     × (length counts ≡ length counts₀)
     × (length idsums ≡ length idsums₀)
-    × Gone p 38 bytes (sketch counts₀ idsums₀) n (sketch counts idsums)
+    × Gone p headLength bytes (sketch counts₀ idsums₀) n (sketch counts idsums)
 
 abbrev μ-loop : tie.MeasureT-loop
 μ-loop p counts₀ idsums₀ bytes at₀ n₀ counts idsums at n = length bytes - at
 
 loop-holds : tie.Need-loop-holds Inv-loop μ-loop
-loop-holds c = (refl, refl, refl, gone-none _ 38 _ _)
+loop-holds c = (refl, refl, refl, gone-none _ headLength _ _)
 
 packets-at-requires : tie.Need-packets-at-requires Inv-loop μ-loop
 packets-at-requires c κs = search needs
@@ -56,11 +56,11 @@ there c = packets-there _ _ _ _ (sym (c .before .before .before .packets-at .ens
 
 -- none do
 none : (c : tie.After-enum-told Inv-loop μ-loop)
-    → isKind 2 (recordAt (now (c .before .before .before .before .before .before .args .bytes)) (packetPlace (c .before .before .before .loop .n))) ≡ false
+    → isKind packetsKind (recordAt (now (c .before .before .before .before .before .before .args .bytes)) (packetPlace (c .before .before .before .loop .n))) ≡ false
 none c = packets-not-there _ _ _ (c .before .before .packets-at .ensures ∙ ap (packetsAt _) (c .before .before .before .loop .inv .0)) (c .before .match .keys2)
 
 withdraw-packets-requires : tie.Need-withdraw-packets-requires Inv-loop μ-loop
-withdraw-packets-requires c κs = gone-within _ 38 _ _ _ _ (c .before .before .before .before .before .before .before .before .before .before .before .before .before .before .loop .inv .3)
+withdraw-packets-requires c κs = gone-within _ headLength _ _ _ _ (c .before .before .before .before .before .before .before .before .before .before .before .before .before .before .loop .inv .3)
 
 at-offset-requires : tie.Need-at-offset-requires Inv-loop μ-loop
 at-offset-requires c κs = search needs
@@ -83,20 +83,20 @@ returns : tie.Need-returns Inv-loop μ-loop
 returns c =
     let l = c .before .before .before .before .before .before .before .before .before .before .before .before .before .before .before .before .before .before .before .loop in
     let refused = c .before .before .before .before .before .before .before .before .match2 .keys2 in
-    let told = c .at-offset .ensures ∙ ap (λ a. atOffset a (c .before .before .before .before .before .before .before .before .before .before .before .before .put-in .result)) (l .inv .0) in
+    let returned = c .at-offset .ensures ∙ ap (λ a. atOffset a (c .before .before .before .before .before .before .before .before .before .before .before .before .put-in .result)) (l .inv .0) in
     record {
-      answer = told ∙ packet-refused _ _ _ _ _ (l .inv .3) _ _ (there (c .before .before .before .before .before .before .before .before .before .before .before .before .before .before .before)) _ (c .before .before .before .before .before .before .before .before .before .before .before .before .put-in .ensures .answer) refused;
-      after-all = restored (c .before .before .before .before) ∙ kept-old _ _ _ (rw (c .at-offset .ensures) (told-refusal _ (c .before .before .before .before .before .before .before .before .before .before .before .before .put-in .result) refused));
+      answer = returned ∙ packet-refused _ _ _ _ _ (l .inv .3) _ _ (there (c .before .before .before .before .before .before .before .before .before .before .before .before .before .before .before)) _ (c .before .before .before .before .before .before .before .before .before .before .before .before .put-in .ensures .answer) refused;
+      after-all = restored (c .before .before .before .before) ∙ kept-old _ _ _ (rw (c .at-offset .ensures) (at-offset-refuses _ (c .before .before .before .before .before .before .before .before .before .before .before .before .put-in .result) refused));
     }
 
 add-at : tie.Need-add-at Inv-loop μ-loop
-add-at c = let l = c .before .before .before .before .before .before .before .before .before .before .before .before .loop in omega (arith, l .inv .0, next-ends _ 38 _ _ _ _ (l .inv .3) _ _ (there (c .before .before .before .before .before .before .before .before)))
+add-at c = let l = c .before .before .before .before .before .before .before .before .before .before .before .before .loop in omega (arith, l .inv .0, next-ends _ headLength _ _ _ _ (l .inv .3) _ _ (there (c .before .before .before .before .before .before .before .before)))
 
 add-n : tie.Need-add-n Inv-loop μ-loop
-add-n c = let l = c .before .before .before .before .before .before .before .before .before .before .before .before .loop in omega (arith, l .inv .0, next-ends _ 38 _ _ _ _ (l .inv .3) _ _ (there (c .before .before .before .before .before .before .before .before)))
+add-n c = let l = c .before .before .before .before .before .before .before .before .before .before .before .before .loop in omega (arith, l .inv .0, next-ends _ headLength _ _ _ _ (l .inv .3) _ _ (there (c .before .before .before .before .before .before .before .before)))
 
 loop-less : tie.Need-loop-less Inv-loop μ-loop
-loop-less c = let l = c .before .before .before .before .before .before .before .before .before .before .before .before .loop in omega (arith, l .inv .0, next-ends _ 38 _ _ _ _ (l .inv .3) _ _ (there (c .before .before .before .before .before .before .before .before)))
+loop-less c = let l = c .before .before .before .before .before .before .before .before .before .before .before .before .loop in omega (arith, l .inv .0, next-ends _ headLength _ _ _ _ (l .inv .3) _ _ (there (c .before .before .before .before .before .before .before .before)))
 
 loop-again : tie.Need-loop-again Inv-loop μ-loop
 loop-again c =
@@ -107,11 +107,11 @@ loop-again c =
       omega (arith, l .inv .0),
       long .counts ∙ l .inv .1,
       long .idsums ∙ l .inv .2,
-      gone-more _ 38 _ _ _ _ (l .inv .3) _ _ (there (c .before .before .before .before .before .before .before .before)) _ (sym (z .answer) ∙ done) (z .after ∙ sym (kept-new _ _ _ done)),
+      gone-more _ headLength _ _ _ _ (l .inv .3) _ _ (there (c .before .before .before .before .before .before .before .before)) _ (sym (z .answer) ∙ done) (z .after ∙ sym (kept-new _ _ _ done)),
     )
 
-end-requires : tie.Need-end-requires Inv-loop μ-loop
-end-requires c κs = search needs
+judge-end-requires : tie.Need-judge-end-requires Inv-loop μ-loop
+judge-end-requires c κs = search needs
 
 enum-told-4 : tie.Need-enum-told-4 Inv-loop μ-loop
 enum-told-4 c = search needs
@@ -120,13 +120,13 @@ enum-told-5 : tie.Need-enum-told-5 Inv-loop μ-loop
 enum-told-5 c = search needs
 
 withdraw-packets-requires-2 : tie.Need-withdraw-packets-requires-2 Inv-loop μ-loop
-withdraw-packets-requires-2 c κs = gone-within _ 38 _ _ _ _ (c .before .before .before .before .before .before .before .before .loop .inv .3)
+withdraw-packets-requires-2 c κs = gone-within _ headLength _ _ _ _ (c .before .before .before .before .before .before .before .before .loop .inv .3)
 
 -- the end decides, and where it is refused the sketch is what it was
-ended : (c : tie.After-end Inv-loop μ-loop) → c .end .result ≡ packetsJudged (c .before .before .before .before .before .before .before .args .p) (now (c .before .before .before .before .before .before .before .args .bytes)) (sketch (now (c .before .before .before .before .before .before .before .args .counts)) (now (c .before .before .before .before .before .before .before .args .idsums)))
+ended : (c : tie.After-judge-end Inv-loop μ-loop) → c .judge-end .result ≡ packetsJudged (c .before .before .before .before .before .before .before .args .p) (now (c .before .before .before .before .before .before .before .args .bytes)) (sketch (now (c .before .before .before .before .before .before .before .args .counts)) (now (c .before .before .before .before .before .before .before .args .idsums)))
 ended c =
     let l = c .before .before .before .before .loop in
-    c .end .ensures ∙ ap (λ a. endAnswer (now (c .before .before .before .before .before .before .before .args .bytes)) a (l .n)) (l .inv .0) ∙ end-judged _ _ _ _ _ (l .inv .3) (none (c .before))
+    c .judge-end .ensures ∙ ap (λ a. endAnswer (now (c .before .before .before .before .before .before .before .args .bytes)) a (l .n)) (l .inv .0) ∙ end-judged _ _ _ _ _ (l .inv .3) (none (c .before))
 
 restored-at-end : (c : tie.After-withdraw-packets2 Inv-loop μ-loop)
     → sketch (c .withdraw-packets2 .last .1 .0) (c .withdraw-packets2 .last .1 .1 .0) ≡ sketch (now (c .before .before .before .before .before .before .before .before .before .before .before .before .args .counts)) (now (c .before .before .before .before .before .before .before .before .before .before .before .before .args .idsums))
@@ -156,7 +156,7 @@ returns-3 c =
     let l = c .before .before .before .before .before .before .loop in
     record {
       answer = ended (c .before .before);
-      after-all = gone-all _ 38 _ _ _ _ (l .inv .3) (none (c .before .before .before)) ∙ kept-new _ _ _ (c .enum-told4 .given .1);
+      after-all = gone-all _ headLength _ _ _ _ (l .inv .3) (none (c .before .before .before)) ∙ kept-new _ _ _ (c .enum-told4 .given .1);
     }
 
 pub read-records-spec : {M : Type 1} → statement M
@@ -181,7 +181,7 @@ read-records-spec =
     add-n
     loop-less
     loop-again
-    end-requires
+    judge-end-requires
     enum-told-4
     enum-told-5
     withdraw-packets-requires-2

@@ -10,6 +10,7 @@ use Rattle.sketch.specs.Sketch.{Sketch, sketch}
 use Rattle.sketch.specs.Packets.{after, Accepted}
 use Rattle.sketch.proofs.ManyPackets.{stepped-long, unwind}
 use Rattle.files.specs.Turns.{packetPlace}
+use Rattle.files.specs.Records.{packetsKind, headLength}
 use Rattle.files.proofs.Turning.{whole-within}
 use Rattle.streamfile.specs.Streams.{flowsIn, numbersIn, packetsIn}
 use Rattle.streamfile.proofs.Found.{packets-there, packets-not-there, packet-within, length-flows, length-numbers, flow-is, number-is}
@@ -37,10 +38,10 @@ earlier : (c : tie.In-loop Inv-loop μ-loop) → c .before .loop .i - 1 < packet
 earlier c = let l = c .before .loop in omega (arith, c .before .before .before .before .pre, l .inv .0, c .loop-test .taken)
 
 mul-packets-at : tie.Need-mul-packets-at Inv-loop μ-loop
-mul-packets-at c = omega (arith, packet-within 38 _ _ (earlier c))
+mul-packets-at c = omega (arith, packet-within headLength _ _ (earlier c))
 
 add-packets-at : tie.Need-add-packets-at Inv-loop μ-loop
-add-packets-at c = omega (arith, packet-within 38 _ _ (earlier c))
+add-packets-at c = omega (arith, packet-within headLength _ _ (earlier c))
 
 packets-at-requires : tie.Need-packets-at-requires Inv-loop μ-loop
 packets-at-requires c κs = search needs
@@ -55,7 +56,7 @@ enum-told c = search needs
 always-found : (c : tie.After-enum-told Inv-loop μ-loop) → ⊥
 always-found c =
     let at = c .before .before .before in
-    let whole = whole-within 2 packetPlace _ _ (earlier at) in
+    let whole = whole-within packetsKind packetPlace _ _ (earlier at) in
     let none = packets-not-there _ _ _ (c .before .before .packets-at .ensures) (c .before .match .keys2) in
     true≢false (sym whole ∙ none)
 
@@ -82,14 +83,14 @@ loop-again c =
     let l = test .before .loop in
     let within : i ≤ packetsIn bs = omega (arith, earlier test) in
     let there = packets-there bs (packetPlace (i - 1)) _ _ (sym (c .before .before .before .before .before .before .before .before .before .packets-at .ensures) ∙ c .before .before .before .before .before .before .before .found .given .1) in
-    let flow = there .flow ∙ flow-is 38 bs (i - 1) (earlier test) in
-    let number = there .number ∙ number-is 38 bs (i - 1) (earlier test) in
+    let flow = there .flow ∙ flow-is headLength bs (i - 1) (earlier test) in
+    let number = there .number ∙ number-is headLength bs (i - 1) (earlier test) in
     let z = c .before .before .before .step .ensures in
     let long = stepped-long z in (
       omega arith,
       long .counts ∙ l .inv .1,
       long .idsums ∙ l .inv .2,
-      (λ S a e. unwind _ _ _ S i _ _ _ (test .loop-test .taken) (rw (length-flows 38 bs) within) (rw (length-numbers 38 bs) within) (λ j m. a j (omega arith)) (l .inv .3 S a e) (rw (flow, number) at z)),
+      (λ S a e. unwind _ _ _ S i _ _ _ (test .loop-test .taken) (rw (length-flows headLength bs) within) (rw (length-numbers headLength bs) within) (λ j m. a j (omega arith)) (l .inv .3 S a e) (rw (flow, number) at z)),
     )
 
 same-length-3 : tie.Need-same-length-3 Inv-loop μ-loop

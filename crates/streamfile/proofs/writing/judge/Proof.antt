@@ -8,7 +8,7 @@ use denote.Ref.{now}
 use lib.ListN.{length}
 use Rattle.params.specs.Params.{goodParams}
 use Rattle.params.proofs.Searches.{test-held, test-failed}
-use Rattle.streamfile.specs.Writing.{streamBytes, streamWriting}
+use Rattle.streamfile.specs.Writing.{streamBytes, streamWriteAnswer}
 use Rattle.streamfile.proofs.Written.{Passed, stream-long, stream-passed}
 use Rattle.streamfile.proofs.writing.judge.Statement.{statement}
 use Rattle.streamfile.proofs.writing.judge.Tie as tie
@@ -28,15 +28,15 @@ check-requires : tie.Need-check-requires
 check-requires c κs = search needs
 
 returns : tie.Need-returns
-unfolding streamWriting
+unfolding streamWriteAnswer
 returns c = rw (test-failed (c .before .check .ensures) (c .if1 .taken))
 
 returns-2 : tie.Need-returns-2
-unfolding streamWriting
+unfolding streamWriteAnswer
 returns-2 c = rw (good (c .before), ne-eqb _ _ (c .if2 .taken))
 
 returns-3 : tie.Need-returns-3
-unfolding streamWriting
+unfolding streamWriteAnswer
 returns-3 c = rw (good (c .before .before), eq-eqb _ _ (c .before .if2 .left), lt-leb _ _ (c .if3 .taken))
 
 mul-if4 : tie.Need-mul-if4
@@ -45,8 +45,11 @@ mul-if4 c = search needs
 add-if4 : tie.Need-add-if4
 add-if4 c = search needs
 
+add-if4-2 : tie.Need-add-if4-2
+add-if4-2 c = search needs
+
 returns-4 : tie.Need-returns-4
-unfolding streamWriting
+unfolding streamWriteAnswer
 returns-4 c =
     let a = c .before .before .before .before .before .before .before .args in
     let long = stream-long (a .p) (now (a .flows)) (now (a .numbers)) (c .before .before .if2 .left) in
@@ -79,6 +82,7 @@ judge-spec =
     returns-3
     mul-if4
     add-if4
+    add-if4-2
     returns-4
     all-flows-requires
     returns-5

@@ -6,9 +6,10 @@ use native.Mathlib.Omega.{arith}
 use borrow.Author.Needs.{needs}
 use denote.Ref.{now}
 use lib.ListN.{length, drop, drop-of-length-le}
-use Rattle.files.specs.Bytes.{over, wordBytes}
+use Rattle.files.specs.Bytes.{overwritten, wordBytes}
 use Rattle.files.specs.Layout.{packetBytes}
-use Rattle.files.proofs.Overwriting.{over-none, written-next}
+use Rattle.files.specs.Records.{headLength, packetsLength}
+use Rattle.files.proofs.Overwriting.{overwritten-none, written-next}
 use Rattle.streamfile.specs.Writing.{packetsBytes}
 use Rattle.streamfile.proofs.Written.{packets-next}
 use Rattle.streamfile.proofs.writing.put_all.Statement.{statement}
@@ -17,9 +18,9 @@ use Rattle.streamfile.proofs.writing.put_all.Tie as tie
 abbrev Inv-loop : tie.InvT-loop
 Inv-loop out₀ flows numbers at₀ i₀ out at i =
     (i ≤ length flows)
-    × (at ≡ 38 + 9 * i)
+    × (at ≡ headLength + packetsLength * i)
     × (length out ≡ length out₀)
-    × (over out at (packetsBytes (drop i flows) (drop i numbers)) ≡ over out₀ 38 (packetsBytes flows numbers))
+    × (overwritten out at (packetsBytes (drop i flows) (drop i numbers)) ≡ overwritten out₀ headLength (packetsBytes flows numbers))
 
 abbrev μ-loop : tie.MeasureT-loop
 μ-loop out₀ flows numbers at₀ i₀ out at i = length flows - i
@@ -60,7 +61,7 @@ loop-again c =
       search needs,
       omega arith,
       search needs,
-      written-next _ _ _ _ _ _ (ap (over (l .out) (l .at)) (sym next) ∙ l .inv .3) (c .before .before .put-packets .ensures) (omega arith) refl,
+      written-next _ _ _ _ _ _ (ap (overwritten (l .out) (l .at)) (sym next) ∙ l .inv .3) (c .before .before .put-packets .ensures) (omega arith) refl,
     )
 
 same-length : tie.Need-same-length Inv-loop μ-loop
@@ -72,7 +73,7 @@ returns c =
     let l = c .before .loop in
     let s = c .before .before .before .before .before in
     let none : drop (l .i) (now (s .args .flows)) ≡ [] = drop-of-length-le _ {i = l .i} (omega arith) in
-    over-none (l .out) (l .at) ∙ rw none at (l .inv .3)
+    overwritten-none (l .out) (l .at) ∙ rw none at (l .inv .3)
 
 pub put-all-spec : {M : Type 1} → statement M
 put-all-spec =

@@ -5,11 +5,12 @@ use native.Mathlib.Omega.{arith}
 use borrow.Author.Needs.{needs}
 use denote.Ref.{now}
 use lib.ListN.{length}
-use Rattle.files.proofs.Overwriting.{over-file, told-bytes, told-why, held-new, held-old}
+use Rattle.files.proofs.Overwriting.{overwritten-file, returned-length, returned-refusal, held-new, held-old}
 use Rattle.streamfile.specs.Writing.{packetsBytes, streamBytes}
 use Rattle.streamfile.proofs.Written.{Passed, packets-long, stream-long, writing-passed}
 use Rattle.streamfile.proofs.writing.write_stream.Statement.{statement}
 use Rattle.streamfile.proofs.writing.write_stream.Tie as tie
+use Rattle.files.specs.Records.{headLength}
 
 passed : (c : tie.After-enum-told) → let a = c .before .before .before .before .before .before .args in Passed (a .p) (now (a .flows)) (now (a .numbers)) (length (now (a .out)))
 passed c = writing-passed _ _ _ _ (sym (c .before .before .judge .ensures) ∙ c .enum-told .given .1)
@@ -26,11 +27,11 @@ put-head-requires c κs = search needs
 put-all-requires : tie.Need-put-all-requires
 put-all-requires c κs = let h = passed (c .before .before .before .before .before) in (h .same, omega arith)
 
-mul-put-end : tie.Need-mul-put-end
-mul-put-end c = omega (arith, passed (c .before .before .before .before .before .before .before .before .before))
+mul-at : tie.Need-mul-at
+mul-at c = omega (arith, passed (c .before .before .before .before .before .before .before .before))
 
-add-put-end : tie.Need-add-put-end
-add-put-end c = omega (arith, passed (c .before .before .before .before .before .before .before .before .before))
+add-at : tie.Need-add-at
+add-at c = omega (arith, passed (c .before .before .before .before .before .before .before .before))
 
 cast-put-end : tie.Need-cast-put-end
 cast-put-end c = omega (arith, passed (c .before .before .before .before .before .before .before .before .before))
@@ -38,11 +39,8 @@ cast-put-end c = omega (arith, passed (c .before .before .before .before .before
 put-end-requires : tie.Need-put-end-requires
 put-end-requires c κs = search needs
 
-mul-t18 : tie.Need-mul-t18
-mul-t18 c = omega (arith, passed (c .before .before .before .before .before .before .before .before .before .before .before .before))
-
-add-t19 : tie.Need-add-t19
-add-t19 c = omega (arith, passed (c .before .before .before .before .before .before .before .before .before .before .before .before))
+add-t17 : tie.Need-add-t17
+add-t17 c = omega (arith, passed (c .before .before .before .before .before .before .before .before .before .before .before .before))
 
 enum-known-r : tie.Need-enum-known-r
 enum-known-r c = search needs
@@ -59,12 +57,12 @@ returns c =
     let long = packets-long (now (a .flows)) (now (a .numbers)) (h .same) in
     let judged = t .before .before .judge .ensures in
     let written =
-    over-file (a .p) (now (a .out)) (packetsBytes (now (a .flows)) (now (a .numbers))) (length (now (a .flows))) _ (h .good) (ap (λ n. 38 + n) (sym long)) (omega arith)
+    overwritten-file (a .p) (now (a .out)) (packetsBytes (now (a .flows)) (now (a .numbers))) (length (now (a .flows))) _ (h .good) (ap (λ n. headLength + n) (sym long)) (omega arith)
     (c .before .before .before .before .before .before .before .before .before .before .put-head .ensures)
     (c .before .before .before .before .before .before .put-all .ensures)
     (c .before .before .put-end .ensures) in
     record {
-      answer = told-bytes judged _ _ (t .enum-told .given .1) (sym (stream-long _ _ _ (h .same)));
+      answer = returned-length judged _ _ (t .enum-told .given .1) (omega (arith, stream-long (a .p) (now (a .flows)) (now (a .numbers)) (h .same)));
       bytes = written ∙ held-new judged _ _ (t .enum-told .given .1);
     }
 
@@ -72,7 +70,7 @@ returns-2 : tie.Need-returns-2
 returns-2 c =
     let judged = c .before .before .before .judge .ensures in
     record {
-      answer = told-why judged _ _ _ (c .before .r .given .1);
+      answer = returned-refusal judged _ _ _ (c .before .r .given .1);
       bytes = held-old judged _ _ _ _ (c .before .r .given .1);
     }
 
@@ -84,12 +82,11 @@ write-stream-spec =
     enum-told
     put-head-requires
     put-all-requires
-    mul-put-end
-    add-put-end
+    mul-at
+    add-at
     cast-put-end
     put-end-requires
-    mul-t18
-    add-t19
+    add-t17
     enum-known-r
     same-length
     returns
