@@ -27,7 +27,7 @@ pub fn is_number(n: u32) -> bool
 }
 
 // Whether a bucket lies within its limits.
-pub fn sound(c: i32, s: u32) -> bool
+pub fn undamaged(c: i32, s: u32) -> bool
     ensures { λ r. ⌜ r ≡ (inLimits c && ltb s prime) ⌝ }
 {
     if !within(c as i64) {
@@ -66,7 +66,7 @@ pub fn first_damaged(counts: &[i32], idsums: &[u32]) -> usize
     }
     let mut i = 0;
     while i < counts.len() {
-        if !sound(counts[i], idsums[i]) {
+        if !undamaged(counts[i], idsums[i]) {
             return i;
         }
         i += 1;

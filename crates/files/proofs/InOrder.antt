@@ -15,7 +15,9 @@ use Rattle.params.specs.declared.answers.Answer.the-variants.{Done, Refused}
 use Rattle.params.specs.Answers.{numberIn, indexIn, refuseIf, first, kept}
 use Rattle.params.specs.Params.{size, goodParams, sameParams, lengthsAnswer}
 use Rattle.params.proofs.Judging.{number-done}
-use Rattle.params.proofs.InOrder.{firstOf, refuse-number, first-refuse}
+use Rattle.params.specs.Faults.{firstOf}
+use Rattle.files.specs.Faults.{openingOrder, openingFault}
+use Rattle.params.proofs.InOrder.{refuse-number, first-refuse}
 use Rattle.files.specs.declared.records.Record.{Record}
 use Rattle.files.specs.declared.records.Record.the-variants.{Whole, Cut, Unknown, Missing}
 use Rattle.files.specs.declared.writing.Written.{Written}
@@ -27,20 +29,6 @@ use Rattle.files.specs.Turns.{endAnswer}
 use Rattle.files.specs.Writing.{writtenOf, writtenNumber, writtenIndex, writtenLength}
 use Rattle.files.proofs.HeadStages.{openingAnswer}
 use Rattle.files.specs.Fields.{recordsField}
-
--- what is judged before the records, in this order: the head, the parameters in it and those that are given, whether they differ, and the lent lengths
-abbrev pub openingOrder : List Refusal
-openingOrder = Form ∷ Param ∷ Mismatch ∷ Length ∷ []
-
-abbrev pub openingFault : Params → List ℕ → ℕ → ℕ → Refusal → Bool
-openingFault P bs c s Form = not (isHead (recordAt bs 0))
-openingFault P bs c s Param = not (goodParams (paramsIn bs) && goodParams P)
-openingFault P bs c s Mismatch = not (sameParams P (paramsIn bs))
-openingFault P bs c s Length = not (eqb c (size P) && eqb s (size P))
-openingFault P bs c s Flow = false
-openingFault P bs c s Count = false
-openingFault P bs c s Damage = false
-openingFault P bs c s Range = false
 
 -- a refusal with which 0 goes
 pub refuse-start : (b : Bool) (w : Refusal) (next : Answer) → indexIn next ≡ 0 → indexIn (refuseIf b w 0 next) ≡ 0

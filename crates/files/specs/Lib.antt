@@ -6,3 +6,4 @@ pub mod Heads
 pub mod Layout
 pub mod Turns
 pub mod Writing
+pub mod Faults

@@ -4,7 +4,7 @@ use mathlib.Core.List.{List}
 use mathlib.Core.Bool.{Bool, true, false, not, _&&_}
 use Prim.Native.Nat.{ℕ, _+_, _-_, _*_, _≤_, _<_}
 use native.Mathlib.Omega.{arith}
-use borrow.Author.Tests.{le-leb, leb-true, lt-ltb, eq-eqb, eqb-true, not-false}
+use borrow.Author.Tests.{le-leb, leb-true, lt-ltb, ltb-true, eq-eqb, eqb-true, not-false}
 use lib.Dec.{eqb, ltb, leb}
 use lib.ListN.{length}
 use Rattle.params.specs.declared.params.Params.{Params}
@@ -15,7 +15,7 @@ use Rattle.params.specs.declared.answers.Answer.the-variants.{Done, Refu
 use Rattle.params.specs.declared.answers.Located.the-variants.{At, Refused as NotLocated}
 use Rattle.params.specs.Answers.{refuseIf, locatedOf}
 use Rattle.params.specs.Lists.{below, touched}
-use Rattle.params.specs.Params.{size, Dimensions, goodDimensions, goodParams, samePair, sameParams, lengthsAnswer, dimensionsAnswer, lentAnswer}
+use Rattle.params.specs.Params.{primeOf, isFlow, size, Dimensions, goodDimensions, goodParams, samePair, sameParams, lengthsAnswer, dimensionsAnswer, lentAnswer}
 use Rattle.params.specs.Positions.{stand, positionAnswer, positionsIn, Positioned}
 use Rattle.params.proofs.Searches.{and-true, below-fails}
 use Rattle.params.proofs.Changes.{length-touched, getD-touched, touched-none, upTo}
@@ -59,6 +59,10 @@ pub last-apart : (t : ℕ → ℕ → Bool) {p q r s u v : Bool} → p ≡ t 1 0
     → s ≡ t 3 0 → s ≡ false → u ≡ t 3 1 → u ≡ false → v ≡ t 3 2 → not v ≡ below 4 (λ i. below i (λ j. not (t i j)))
 unfolding below
 last-apart t e e₁ h h₁ k k₁ l l₁ m m₁ n = simp (sym e ∙ e₁, sym h ∙ h₁, sym k ∙ k₁, sym l ∙ l₁, sym m ∙ m₁) (ap not n)
+
+-- a flow's number is below the prime
+pub flow-below : (P : Params) (f : ℕ) → isFlow P f ≡ true → f < primeOf P
+flow-below P f e = ltb-true f (primeOf P) e
 
 -- of the dimensions' tests the last is left
 pub last-size : (P : Params) → 2 ≤ P .d → P .d ≤ 4 → 1 ≤ P .m → leb (P .m) 16384 ≡ goodDimensions P

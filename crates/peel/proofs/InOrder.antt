@@ -15,25 +15,14 @@ use Rattle.params.specs.Lists.{least}
 use Rattle.params.specs.Answers.{numberOf, numberIn, indexIn, refuseIf, refuseAt, first}
 use Rattle.params.specs.Params.{size, goodParams, lengthsAnswer, lentAnswer}
 use Rattle.sketch.specs.Sketch.{Sketch, damagedAt}
-use Rattle.params.proofs.InOrder.{order, firstOf, lowest-first, some, refuse-number, refuse-at-number, first-refuse, cond-either}
-use Rattle.sketch.proofs.InOrder.{wrongLength}
+use Rattle.params.specs.Faults.{order, firstOf}
+use Rattle.peel.specs.Faults.{peelFault}
+use Rattle.params.proofs.InOrder.{lowest-first, refuse-number, refuse-at-number, first-refuse, cond-either}
 use Rattle.params.proofs.Lowest.{Lowest, least-lowest}
 use Rattle.peel.specs.declared.peeling.Peeled.{Peeled}
 use Rattle.peel.specs.Slices.{Slices, lentSketch}
 use Rattle.peel.specs.Peel.{walkLentAnswer, peelAnswer, judged, peeledNumber, peeledIndex, Peels}
 use Rattle.peel.proofs.Promised.{number-is, index-is}
-
--- which faults apply: flows, numbers, queue and marks are the lengths of what is lent beside the sketch
-abbrev pub peelFault : Params → Sketch → ℕ → ℕ → ℕ → ℕ → Refusal → Bool
-peelFault P S flows numbers queue marks Param = not (goodParams P)
-peelFault P S flows numbers queue marks Length =
-    wrongLength P S || not (eqb queue (size P) && eqb marks (size P) && eqb flows numbers && leb flows 65536)
-peelFault P S flows numbers queue marks Damage = some (size P) (damagedAt S)
-peelFault P S flows numbers queue marks Flow = false
-peelFault P S flows numbers queue marks Count = false
-peelFault P S flows numbers queue marks Range = false
-peelFault P S flows numbers queue marks Mismatch = false
-peelFault P S flows numbers queue marks Form = false
 
 -- an answer's index: with the number 5 the lowest below n that passes the test, else 0
 record Index (n : ℕ) (t : ℕ → Bool) (r : Answer) : Type 0 where

@@ -7,3 +7,4 @@ pub mod Table
 pub mod Nonzero
 pub mod Rep
 pub mod Peel
+pub mod Faults

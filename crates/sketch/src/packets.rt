@@ -15,7 +15,7 @@ use buckets::idsum_plus_minus;
 use buckets::is_number;
 use buckets::is_small;
 use buckets::plus_minus;
-use buckets::sound;
+use buckets::undamaged;
 use buckets::weight;
 use buckets::within;
 use params::Answer;
@@ -95,7 +95,7 @@ fn first_damaged(d: usize, m: usize, ks: &[usize; 4], counts: &[i32], idsums: &[
     let mut i = 0;
     while i < d {
         let k = i * m + ks[i];
-        if !sound(counts[k], idsums[k]) {
+        if !undamaged(counts[k], idsums[k]) {
             return k;
         }
         i += 1;

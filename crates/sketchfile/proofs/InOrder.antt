@@ -20,8 +20,9 @@ use Rattle.buckets.specs.Buckets.{allZero, damaged}
 use Rattle.sketch.specs.Sketch.{Sketch, damagedAt}
 use Rattle.params.proofs.Judging.{first-either}
 use Rattle.params.proofs.Lowest.{Lowest, least-lowest}
-use Rattle.params.proofs.InOrder.{order, firstOf, lowest-first, some, refuse-number, refuse-at-number, first-refuse, cond-either}
-use Rattle.sketch.proofs.InOrder.{wrongLength}
+use Rattle.params.specs.Faults.{order, firstOf}
+use Rattle.sketchfile.specs.Faults.{bucketFault, writeFault}
+use Rattle.params.proofs.InOrder.{lowest-first, refuse-number, refuse-at-number, first-refuse, cond-either}
 use Rattle.files.specs.declared.writing.Written.{Written}
 use Rattle.files.specs.declared.writing.Written.the-variants.{Refused as NotWritten}
 use Rattle.files.proofs.HeadStages.{openingAnswer}
@@ -29,21 +30,11 @@ use Rattle.files.specs.Turns.{inTurn, bucketPlace, endAnswer}
 use Rattle.files.specs.Writing.{writtenNumber, writtenIndex, writtenLength}
 use Rattle.files.proofs.HeadTrips.{Opened, opening-done}
 use Rattle.files.proofs.Turning.{Earliest, in-turn-earliest, done-in-turn}
-use Rattle.files.proofs.InOrder.{openingOrder, openingFault, opening-number, opening-index, EndFault, end-fault, written-number, written-index, written-length, refused-as-it-was}
+use Rattle.files.specs.Faults.{openingOrder, openingFault}
+use Rattle.files.proofs.InOrder.{opening-number, opening-index, EndFault, end-fault, written-number, written-index, written-length, refused-as-it-was}
 use Rattle.sketchfile.specs.Reading.{bucketsIn, bucketIndex, bucketCount, bucketIdsum, lowest, tooLarge, notRising, bucketAnswer, bucketJudged, bucketsJudged, sketchAnswer}
 use Rattle.sketchfile.specs.Writing.{sketchBytes, sketchWriteAnswer, SketchWritten}
 use Rattle.sketchfile.proofs.BucketRecords.{sketch-opening}
-
--- which faults the j-th record has, in a sketch of N buckets: damage, an index that is too large or does not rise, or a bucket that is all zero
-abbrev pub bucketFault : ℕ → List ℕ → ℕ → Refusal → Bool
-bucketFault N bs j Damage = damaged (bucketCount bs j) (bucketIdsum bs j)
-bucketFault N bs j Form = tooLarge N (bucketIndex bs j) || (notRising (lowest bs j) (bucketIndex bs j) || allZero (bucketCount bs j) (bucketIdsum bs j))
-bucketFault N bs j Param = false
-bucketFault N bs j Length = false
-bucketFault N bs j Flow = false
-bucketFault N bs j Count = false
-bucketFault N bs j Range = false
-bucketFault N bs j Mismatch = false
 
 module _ (N : ℕ) (bs : List ℕ) (j : ℕ) where
   bucket-number : numberIn (bucketJudged N bs j) ≡ firstOf order (bucketFault N bs j)
@@ -102,17 +93,6 @@ module _ (P : Params) (bs : List ℕ) (c s : ℕ) (w : Refusal) (k : ℕ) where
       (λ h. in-opening (sym (ap numberIn h) ∙ opening-number P bs c s) (sym (ap indexIn h) ∙ opening-index P bs c s))
       (λ h. records-fault (opening-done P bs c s (h .0)) (h .1))
       (first-either (openingAnswer P bs c s) (bucketsJudged (size P) bs) w k (sym (sketch-opening P bs c s) ∙ e))
-
--- which faults apply where a sketch is written into an output of o bytes
-abbrev pub writeFault : Params → Sketch → ℕ → Refusal → Bool
-writeFault P S o Param = not (goodParams P)
-writeFault P S o Length = wrongLength P S || ltb o (length (sketchBytes P S))
-writeFault P S o Damage = some (size P) (damagedAt S)
-writeFault P S o Flow = false
-writeFault P S o Count = false
-writeFault P S o Range = false
-writeFault P S o Mismatch = false
-writeFault P S o Form = false
 
 module _ (P : Params) (S : Sketch) (o : ℕ) where
   writing-number : numberIn (sketchWriteAnswer P S o) ≡ firstOf order (writeFault P S o)

@@ -5,7 +5,7 @@ ghost use lib.ListN.{length};
 ghost use Rattle.sketch.specs.Sketch.{sketch};
 ghost use Rattle.sketchfile.specs.Reading.{bucketsIn, bucketIndex, tooLarge, notRising, bucketAnswer, bucketsJudged, stored, SketchRead};
 use buckets::all_zero;
-use buckets::sound;
+use buckets::undamaged;
 use files::ends::judge_end;
 use files::fields::Bucket;
 use files::fields::bucket_at;
@@ -35,7 +35,7 @@ fn not_rising(low: usize, index: usize) -> bool
 fn judge_bucket(size: usize, low: usize, at: usize, index: usize, c: i32, s: u32) -> Answer
     ensures { λ r. ⌜ r ≡ bucketAnswer size low at index c s ⌝ }
 {
-    if !sound(c, s) {
+    if !undamaged(c, s) {
         return Answer::Refused(Refusal::Damage, at);
     }
     if too_large(size, index) {

@@ -20,8 +20,11 @@ use Rattle.sketch.specs.Packets.{stepAnswer, Accepted}
 use Rattle.params.proofs.Judging.{first-either}
 use Rattle.sketch.proofs.Steps.{move-good}
 use Rattle.params.proofs.Lowest.{Lowest, refuse-at}
-use Rattle.params.proofs.InOrder.{order, firstOf, lowest-first, refuse-number, cond-either}
-use Rattle.sketch.proofs.InOrder.{moveFault, move-number}
+use Rattle.params.specs.Faults.{order, firstOf}
+use Rattle.sketch.specs.Faults.{moveFault}
+use Rattle.streamfile.specs.Faults.{writeFault}
+use Rattle.params.proofs.InOrder.{lowest-first, refuse-number, cond-either}
+use Rattle.sketch.proofs.InOrder.{move-number}
 use Rattle.files.specs.declared.writing.Written.{Written}
 use Rattle.files.specs.declared.writing.Written.the-variants.{Refused as NotWritten}
 use Rattle.files.proofs.HeadStages.{openingAnswer}
@@ -29,7 +32,8 @@ use Rattle.files.specs.Turns.{atOffset, inTurn, packetPlace, endAnswer}
 use Rattle.files.specs.Writing.{writtenNumber, writtenIndex, writtenLength}
 use Rattle.files.proofs.HeadTrips.{Opened, opening-done}
 use Rattle.files.proofs.Turning.{Earliest, in-turn-earliest, done-in-turn}
-use Rattle.files.proofs.InOrder.{openingOrder, openingFault, opening-number, opening-index, EndFault, end-fault, refuse-start, written-number, written-index, written-length, refused-as-it-was}
+use Rattle.files.specs.Faults.{openingOrder, openingFault}
+use Rattle.files.proofs.InOrder.{opening-number, opening-index, EndFault, end-fault, refuse-start, written-number, written-index, written-length, refused-as-it-was}
 use Rattle.streamfile.specs.Streams.{packetsIn, packetFlow, packetNumber, flowsIn, numbersIn, afterFirst, packetJudged, packetsJudged, streamAnswer}
 use Rattle.streamfile.specs.Writing.{streamBytes, isFlowAt, isNumberAt, streamWriteAnswer, StreamWritten}
 use Rattle.streamfile.proofs.Stages.{stream-opening}
@@ -95,17 +99,6 @@ module _ (P : Params) (bs : List ℕ) (S : Sketch) (w : Refusal) (k : ℕ) where
       (λ h. in-opening (sym (ap numberIn h) ∙ opening-number P bs c s) (sym (ap indexIn h) ∙ opening-index P bs c s))
       (λ h. past-opening (opening-done P bs c s (h .0)) (h .1))
       (first-either (openingAnswer P bs c s) _ w k (sym (stream-opening P bs S) ∙ e))
-
--- which faults apply where packets are written into an output of o bytes
-abbrev pub writeFault : Params → List ℕ → List ℕ → ℕ → Refusal → Bool
-writeFault P fs ns o Param = not (goodParams P)
-writeFault P fs ns o Length = not (eqb (length fs) (length ns) && leb (length fs) 65536) || ltb o (length (streamBytes P fs ns))
-writeFault P fs ns o Flow = not (below (length fs) (isFlowAt P fs))
-writeFault P fs ns o Count = not (below (length ns) (isNumberAt ns))
-writeFault P fs ns o Damage = false
-writeFault P fs ns o Range = false
-writeFault P fs ns o Mismatch = false
-writeFault P fs ns o Form = false
 
 module _ (P : Params) (fs ns : List ℕ) (o : ℕ) where
   writing-number : numberIn (streamWriteAnswer P fs ns o) ≡ firstOf order (writeFault P fs ns o)

@@ -4,7 +4,7 @@ use mathlib.Core.Bool.{true, false, not}
 use mathlib.Core.List.{List, _++_, append-assoc}
 use Prim.Native.Nat.{ℕ, suc, _+_, _*_, _≤_, _<_}
 use native.Mathlib.Omega.{arith}
-use borrow.Author.Tests.{lt-ltb, ltb-true, le-leb, leb-true, eq-eqb, not-false}
+use borrow.Author.Tests.{eq-eqb, not-false}
 use lib.Dec.{eqb, leb}
 use lib.ListN.{length, getD, take, drop, length-append}
 use lib.Seq.{ext-getD, getD-at, length-take-le}
@@ -14,10 +14,12 @@ use Rattle.params.specs.declared.answers.Answer.{Answer}
 use Rattle.params.specs.declared.answers.Answer.the-variants.{Done}
 use Rattle.params.specs.Lists.{below}
 use Rattle.params.specs.Answers.{numberIn, refuseIf, refuseAt, first}
-use Rattle.params.specs.Params.{prime, size, goodParams, lentAnswer}
+use Rattle.params.specs.Params.{prime, isFlow, size, goodParams, lentAnswer}
 use Rattle.sketch.specs.Sketch.{Sketch, damagedAt}
 use Rattle.sketch.specs.Packets.{packetsAnswer, allAnswer}
-use Rattle.params.proofs.Searches.{and-true, below-at, all-below}
+use Rattle.params.proofs.Searches.{below-at, all-below}
+use Rattle.params.proofs.Rules.{flow-below}
+use Rattle.buckets.proofs.Limits.{number-within, number-back}
 use Rattle.sketch.proofs.Steps.{step-done}
 use Rattle.params.proofs.Judging.{first-end, first-number, refuse-done, refuse-none}
 use Rattle.files.specs.Bytes.{wordBytes}
@@ -42,7 +44,7 @@ pub record Sendable (P : Params) (fs ns : List ℕ) : Type 0 where
   pub good : goodParams P ≡ true
   pub same : length fs ≡ length ns
   pub few : length fs ≤ 65536
-  pub flows : (k : ℕ) → k < length fs → getD fs k 0 < prime
+  pub flows : (k : ℕ) → k < length fs → isFlow P (getD fs k 0) ≡ true
   pub numbers : (k : ℕ) → k < length ns → (1 ≤ getD ns k 0) × (getD ns k 0 < prime)
 
 pub sending-done : (P : Params) (fs ns : List ℕ) (o : ℕ) → streamWriteAnswer P fs ns o ≡ Done → Sendable P fs ns
@@ -55,18 +57,16 @@ sending-done P fs ns o e =
       good = passed .good;
       same = passed .same;
       few = passed .few;
-      flows = λ x i. ltb-true _ _ (below-at (length fs) x (isFlowAt P fs) (not-false _ (f .0)) i);
-      numbers = λ x i.
-          let q = and-true (leb 1 (getD ns x 0)) _ (below-at (length ns) x (isNumberAt ns) (not-false _ (n .0)) i) in
-          (leb-true _ _ (q .0), ltb-true _ _ (q .1));
+      flows = λ x i. below-at (length fs) x (isFlowAt P fs) (not-false _ (f .0)) i;
+      numbers = λ x i. number-within (getD ns x 0) (below-at (length ns) x (isNumberAt ns) (not-false _ (n .0)) i);
     }
 
 pub sendable-done : (P : Params) (fs ns : List ℕ) (o : ℕ) → Sendable P fs ns → length (streamBytes P fs ns) ≤ o → streamWriteAnswer P fs ns o ≡ Done
 unfolding isFlowAt isNumberAt
 sendable-done P fs ns o h l =
     let passed : Passed P fs ns o = record { good = h .good; same = h .same; few = h .few; room = omega (arith, stream-long P fs ns (h .same)) } in
-    let flows = all-below (length fs) (isFlowAt P fs) (λ k i. lt-ltb _ _ (h .flows k i)) in
-    let numbers = all-below (length ns) (isNumberAt ns) (λ k i. let n = h .numbers k i in rw (le-leb _ _ (n .0), lt-ltb _ _ (n .1))) in
+    let flows = all-below (length fs) (isFlowAt P fs) (h .flows) in
+    let numbers = all-below (length ns) (isNumberAt ns) (λ k i. let n = h .numbers k i in number-back (getD ns k 0) (n .0) (n .1)) in
     stream-passed P fs ns o passed ∙ rw (flows, numbers)
 
 -- so are those that were read from a stream, if they are not too many
@@ -112,7 +112,7 @@ module _ (P : Params) (fs ns : List ℕ) (able : Sendable P fs ns) where
       let fl : length (take k fs) ≡ k = length-take-le k fs (omega arith) in
       let nl : length (take k ns) ≡ k = length-take-le k ns (omega arith) in
       let long : length (headBytes P ++ sofar) ≡ packetPlace k = headed-long P sofar ∙ ap (λ (n : ℕ). headLength + n) (packets-long (take k fs) (take k ns) (fl ∙ sym nl) ∙ ap (λ (n : ℕ). packetsLength * n) fl) in
-      packet-written file (headBytes P ++ sofar) (rest ++ end) (packetPlace k) _ _ form long (omega (arith, able .flows k l)) (omega (arith, able .numbers k m .1))
+      packet-written file (headBytes P ++ sofar) (rest ++ end) (packetPlace k) _ _ form long (omega (arith, flow-below P (getD fs k 0) (able .flows k l))) (omega (arith, able .numbers k m .1))
 
   counted : packetsIn file ≡ length fs
   unfolding endBytes

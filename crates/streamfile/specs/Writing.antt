@@ -11,7 +11,8 @@ use Rattle.params.specs.declared.answers.Answer.{Answer}
 use Rattle.params.specs.declared.answers.Answer.the-variants.{Done}
 use Rattle.params.specs.Lists.{below}
 use Rattle.params.specs.Answers.{refuseIf, kept}
-use Rattle.params.specs.Params.{prime, isFlow, goodParams}
+use Rattle.params.specs.Params.{isFlow, goodParams}
+use Rattle.buckets.specs.Buckets.{isNumber}
 use Rattle.files.specs.declared.writing.Written.{Written}
 use Rattle.files.specs.Bytes.{overwritten}
 use Rattle.files.specs.Layout.{headBytes, packetBytes, endBytes}
@@ -31,7 +32,7 @@ unfoldable pub isFlowAt : Params → List ℕ → ℕ → Bool
 isFlowAt P fs k = isFlow P (getD fs k 0)
 
 unfoldable pub isNumberAt : List ℕ → ℕ → Bool
-isNumberAt ns k = leb 1 (getD ns k 0) && ltb (getD ns k 0) prime
+isNumberAt ns k = isNumber (getD ns k 0)
 
 -- the parameters, the lengths of the lists and of the output, o, then all flows and all numbers
 unfoldable pub streamWriteAnswer : Params → List ℕ → List ℕ → ℕ → Answer

@@ -6,6 +6,7 @@ ghost use Rattle.params.specs.Lists.{below};
 ghost use Rattle.files.specs.Bytes.{overwritten};
 ghost use Rattle.files.specs.Records.{headLength, packetsLength};
 ghost use Rattle.streamfile.specs.Writing.{packetsBytes, isFlowAt, isNumberAt, streamWriteAnswer, StreamWritten};
+use buckets::is_number;
 use files::records::END_LENGTH;
 use files::records::HEAD_LENGTH;
 use files::records::PACKETS_LENGTH;
@@ -14,7 +15,6 @@ use files::writing::put_end;
 use files::writing::put_head;
 use files::writing::put_packets;
 use params::Answer;
-use params::PRIME;
 use params::Params;
 use params::Refusal;
 
@@ -24,7 +24,7 @@ fn all_flows(p: Params, flows: &[u32]) -> bool
 {
     let mut i = 0;
     while i < flows.len() {
-        if PRIME <= flows[i] {
+        if !p.is_flow(flows[i]) {
             return false;
         }
         i += 1;
@@ -38,10 +38,7 @@ fn all_numbers(numbers: &[u32]) -> bool
 {
     let mut i = 0;
     while i < numbers.len() {
-        if numbers[i] < 1 {
-            return false;
-        }
-        if PRIME <= numbers[i] {
+        if !is_number(numbers[i]) {
             return false;
         }
         i += 1;

@@ -13,7 +13,7 @@ ghost use Rattle.sums.specs.Sums.{bothLentAnswer, eitherDamaged, leaves,
 use buckets::idsum_plus_minus;
 use buckets::is_small;
 use buckets::plus_minus;
-use buckets::sound;
+use buckets::undamaged;
 use buckets::within;
 use params::Answer;
 use params::Params;
@@ -51,10 +51,10 @@ fn first_damaged(
 {
     let mut i = 0;
     while i < counts.len() {
-        if !sound(counts[i], idsums[i]) {
+        if !undamaged(counts[i], idsums[i]) {
             return i;
         }
-        if !sound(other_counts[i], other_idsums[i]) {
+        if !undamaged(other_counts[i], other_idsums[i]) {
             return i;
         }
         i += 1;

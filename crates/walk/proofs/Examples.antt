@@ -12,7 +12,7 @@ use Rattle.params.specs.Lists.{below, least, mapFrom, touched, from}
 use Rattle.params.specs.Answers.{numberIn, indexIn, refuseAt, first, kept}
 use Rattle.params.specs.Params.{primeOf, pairAt, twins, goodDimensions, goodParams, lengthsAnswer, dimensionsAnswer}
 use Rattle.params.specs.Positions.{stand, position, standsIn}
-use Rattle.buckets.specs.Buckets.{inLimits}
+use Rattle.buckets.specs.Buckets.{inLimits, isNumber}
 use Rattle.sketch.specs.Sketch.{Sketch, sketch, Entry, by, countAt, weightAt, sketchOf, damagedIn, leavesIn, flowBucketsAnswer, changedIn}
 use Rattle.sketch.specs.Packets.{packetAnswer, entryAnswer, stepAnswer, changed, moveAnswer}
 use Rattle.walk.specs.declared.Found.{Found}
@@ -166,7 +166,7 @@ examples =
 
 -- every line of the table is right, and the walk of E3 goes on without end: it is spent whatever it is allowed
 pub all-right : (map (λ l. told (l .asked)) examples ≡ map (λ l. l .answer) examples) × ((n : ℕ) → endingNumber (walk (ruleOf K) 10 n S3 .ending) ≡ 3)
-unfolding residue inverseIn inverse flow below least mapFrom touched from refuseAt first kept pairAt twins goodDimensions goodParams lengthsAnswer dimensionsAnswer stand standsIn inLimits countAt weightAt sketchOf damagedIn leavesIn flowBucketsAnswer changedIn packetAnswer entryAnswer stepAnswer changed moveAnswer all any nothingRemains less has entryOf credited waits requeue inRange hasRoom taken takes follows popped before after run firstQueue walk close netFigure testIn pops
+unfolding residue inverseIn inverse flow below least mapFrom touched from refuseAt first kept pairAt twins goodDimensions goodParams lengthsAnswer dimensionsAnswer stand standsIn inLimits isNumber countAt weightAt sketchOf damagedIn leavesIn flowBucketsAnswer changedIn packetAnswer entryAnswer stepAnswer changed moveAnswer all any nothingRemains less has entryOf credited waits requeue inRange hasRoom taken takes follows popped before after run firstQueue walk close netFigure testIn pops
 all-right = (refl, without-end)
   where
     -- flow 7 goes in and comes out

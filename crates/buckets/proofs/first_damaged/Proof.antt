@@ -22,8 +22,8 @@ abbrev μ-loop : tie.MeasureT-loop
 μ-loop counts idsums i₀ i = length counts - i
 
 -- the bucket that a turn looks at
-judged : (c : tie.After-sound Inv-loop μ-loop) → damagedOf (now (c .before .before .before .before .before .before .before .args .counts)) (now (c .before .before .before .before .before .before .before .args .idsums)) (c .before .before .before .before .loop .i) ≡ not (c .sound .result)
-judged c = ap not (sym (rw (back w32 _ (c .before .before .sound-arg .given)) at (c .sound .ensures)))
+judged : (c : tie.After-undamaged Inv-loop μ-loop) → damagedOf (now (c .before .before .before .before .before .before .before .args .counts)) (now (c .before .before .before .before .before .before .before .args .idsums)) (c .before .before .before .before .loop .i) ≡ not (c .undamaged .result)
+judged c = ap not (sym (rw (back w32 _ (c .before .before .undamaged-arg .given)) at (c .undamaged .ensures)))
 
 returns : tie.Need-returns Inv-loop μ-loop
 returns c = rw (ne-eqb _ _ (c .if1 .taken))
@@ -31,20 +31,20 @@ returns c = rw (ne-eqb _ _ (c .if1 .taken))
 loop-holds : tie.Need-loop-holds Inv-loop μ-loop
 loop-holds c = (search needs, scan-start _ _)
 
-mul-sound : tie.Need-mul-sound Inv-loop μ-loop
-mul-sound c = search needs
+mul-undamaged : tie.Need-mul-undamaged Inv-loop μ-loop
+mul-undamaged c = search needs
 
-shared-slice-copy-out-sound : tie.Need-shared-slice-copy-out-sound Inv-loop μ-loop
-shared-slice-copy-out-sound c = search needs
+shared-slice-copy-out-undamaged : tie.Need-shared-slice-copy-out-undamaged Inv-loop μ-loop
+shared-slice-copy-out-undamaged c = search needs
 
-mul-sound-2 : tie.Need-mul-sound-2 Inv-loop μ-loop
-mul-sound-2 c = search needs
+mul-undamaged-2 : tie.Need-mul-undamaged-2 Inv-loop μ-loop
+mul-undamaged-2 c = search needs
 
-shared-slice-read-sound : tie.Need-shared-slice-read-sound Inv-loop μ-loop
-shared-slice-read-sound c = omega arith
+shared-slice-read-undamaged : tie.Need-shared-slice-read-undamaged Inv-loop μ-loop
+shared-slice-read-undamaged c = omega arith
 
-sound-requires : tie.Need-sound-requires Inv-loop μ-loop
-sound-requires c κs = search needs
+undamaged-requires : tie.Need-undamaged-requires Inv-loop μ-loop
+undamaged-requires c κs = search needs
 
 returns-2 : tie.Need-returns-2 Inv-loop μ-loop
 returns-2 c = rw (eq-eqb _ _ (c .before .before .before .before .before .before .if1 .left)) (scan-found _ _ _ _ (omega arith) (judged (c .before) ∙ c .if2 .taken) (c .before .before .before .before .before .loop .inv .1))
@@ -69,11 +69,11 @@ first-damaged-spec =
     μ-loop
     returns
     loop-holds
-    mul-sound
-    shared-slice-copy-out-sound
-    mul-sound-2
-    shared-slice-read-sound
-    sound-requires
+    mul-undamaged
+    shared-slice-copy-out-undamaged
+    mul-undamaged-2
+    shared-slice-read-undamaged
+    undamaged-requires
     returns-2
     add-i
     loop-less

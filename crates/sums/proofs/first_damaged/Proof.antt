@@ -38,52 +38,52 @@ module _ (S T : Sketch) (k : ℕ) (r : Bool) (one : r ≡ (inLimits (countIn S k
   first-passes h q two = rw (sym one ∙ not-false r h, ← two)
 
 -- the buckets that a turn looked at
-judged : (c : tie.After-sound2 Inv-loop μ-loop)
+judged : (c : tie.After-undamaged2 Inv-loop μ-loop)
     → let s = c .before .before .before .before .before .before .before .before in
     let t = s .before .before .before .args in
-    eitherDamaged (sketch (now (t .counts)) (now (t .idsums))) (sketch (now (t .other-counts)) (now (t .other-idsums))) (s .loop .i) ≡ not (c .sound2 .result)
+    eitherDamaged (sketch (now (t .counts)) (now (t .idsums))) (sketch (now (t .other-counts)) (now (t .other-idsums))) (s .loop .i) ≡ not (c .undamaged2 .result)
 judged c =
-    first-passes _ _ _ _ (rw (back w32 _ (c .before .before .before .before .before .before .sound-arg .given)) at (c .before .before .before .before .sound .ensures)) (c .before .before .before .if1 .left) _
-    (rw (back w32 _ (c .before .before .sound-arg2 .given)) at (c .sound2 .ensures))
+    first-passes _ _ _ _ (rw (back w32 _ (c .before .before .before .before .before .before .undamaged-arg .given)) at (c .before .before .before .before .undamaged .ensures)) (c .before .before .before .if1 .left) _
+    (rw (back w32 _ (c .before .before .undamaged-arg2 .given)) at (c .undamaged2 .ensures))
 
 loop-holds : tie.Need-loop-holds Inv-loop μ-loop
 loop-holds c = (search needs, scan-start _ _)
 
-mul-sound : tie.Need-mul-sound Inv-loop μ-loop
-mul-sound c = search needs
+mul-undamaged : tie.Need-mul-undamaged Inv-loop μ-loop
+mul-undamaged c = search needs
 
-shared-slice-copy-out-sound : tie.Need-shared-slice-copy-out-sound Inv-loop μ-loop
-shared-slice-copy-out-sound c = search needs
+shared-slice-copy-out-undamaged : tie.Need-shared-slice-copy-out-undamaged Inv-loop μ-loop
+shared-slice-copy-out-undamaged c = search needs
 
-mul-sound-2 : tie.Need-mul-sound-2 Inv-loop μ-loop
-mul-sound-2 c = search needs
+mul-undamaged-2 : tie.Need-mul-undamaged-2 Inv-loop μ-loop
+mul-undamaged-2 c = search needs
 
-shared-slice-read-sound : tie.Need-shared-slice-read-sound Inv-loop μ-loop
-shared-slice-read-sound c = search needs
+shared-slice-read-undamaged : tie.Need-shared-slice-read-undamaged Inv-loop μ-loop
+shared-slice-read-undamaged c = search needs
 
-sound-requires : tie.Need-sound-requires Inv-loop μ-loop
-sound-requires c κs = search needs
+undamaged-requires : tie.Need-undamaged-requires Inv-loop μ-loop
+undamaged-requires c κs = search needs
 
 returns : tie.Need-returns Inv-loop μ-loop
 returns c =
     scan-found _ _ _ _ (omega arith)
-    (first-fails _ _ _ _ (rw (back w32 _ (c .before .before .before .sound-arg .given)) at (c .before .sound .ensures)) (c .if1 .taken))
+    (first-fails _ _ _ _ (rw (back w32 _ (c .before .before .before .undamaged-arg .given)) at (c .before .undamaged .ensures)) (c .if1 .taken))
     (c .before .before .before .before .before .loop .inv .1)
 
-mul-sound-3 : tie.Need-mul-sound-3 Inv-loop μ-loop
-mul-sound-3 c = search needs
+mul-undamaged-3 : tie.Need-mul-undamaged-3 Inv-loop μ-loop
+mul-undamaged-3 c = search needs
 
-shared-slice-copy-out-sound-2 : tie.Need-shared-slice-copy-out-sound-2 Inv-loop μ-loop
-shared-slice-copy-out-sound-2 c = search needs
+shared-slice-copy-out-undamaged-2 : tie.Need-shared-slice-copy-out-undamaged-2 Inv-loop μ-loop
+shared-slice-copy-out-undamaged-2 c = search needs
 
-mul-sound-4 : tie.Need-mul-sound-4 Inv-loop μ-loop
-mul-sound-4 c = search needs
+mul-undamaged-4 : tie.Need-mul-undamaged-4 Inv-loop μ-loop
+mul-undamaged-4 c = search needs
 
-shared-slice-read-sound-2 : tie.Need-shared-slice-read-sound-2 Inv-loop μ-loop
-shared-slice-read-sound-2 c = search needs
+shared-slice-read-undamaged-2 : tie.Need-shared-slice-read-undamaged-2 Inv-loop μ-loop
+shared-slice-read-undamaged-2 c = search needs
 
-sound-requires-2 : tie.Need-sound-requires-2 Inv-loop μ-loop
-sound-requires-2 c κs = search needs
+undamaged-requires-2 : tie.Need-undamaged-requires-2 Inv-loop μ-loop
+undamaged-requires-2 c κs = search needs
 
 returns-2 : tie.Need-returns-2 Inv-loop μ-loop
 returns-2 c = scan-found _ _ _ _ (omega arith) (judged (c .before) ∙ c .if2 .taken) (c .before .before .before .before .before .before .before .before .before .loop .inv .1)
@@ -107,17 +107,17 @@ first-damaged-spec =
     Inv-loop
     μ-loop
     loop-holds
-    mul-sound
-    shared-slice-copy-out-sound
-    mul-sound-2
-    shared-slice-read-sound
-    sound-requires
+    mul-undamaged
+    shared-slice-copy-out-undamaged
+    mul-undamaged-2
+    shared-slice-read-undamaged
+    undamaged-requires
     returns
-    mul-sound-3
-    shared-slice-copy-out-sound-2
-    mul-sound-4
-    shared-slice-read-sound-2
-    sound-requires-2
+    mul-undamaged-3
+    shared-slice-copy-out-undamaged-2
+    mul-undamaged-4
+    shared-slice-read-undamaged-2
+    undamaged-requires-2
     returns-2
     add-i
     loop-less

@@ -27,9 +27,9 @@ abbrev μ-loop : tie.MeasureT-loop
 within : (c : tie.In-loop Inv-loop μ-loop) → Within (c .before .before .before .args .d) (c .before .before .before .args .m) (c .before .loop .i) (getD (now (c .before .before .before .args .ks)) (c .before .loop .i) 0)
 within c = reach (c .before .loop .i) (c .before .before .before .pre) (c .loop-test .taken)
 
-judged : (c : tie.After-sound Inv-loop μ-loop)
-    → damagedAt (sketch (now (c .before .before .before .before .before .before .before .args .counts)) (now (c .before .before .before .before .before .before .before .args .idsums))) (c .before .before .before .before .before .loop .i * c .before .before .before .before .before .before .before .args .m + getD (now (c .before .before .before .before .before .before .before .args .ks)) (c .before .before .before .before .before .loop .i) 0) ≡ not (c .sound .result)
-judged c = ap not (sym (rw (back w32 _ (c .before .before .sound-arg .given)) at (c .sound .ensures)))
+judged : (c : tie.After-undamaged Inv-loop μ-loop)
+    → damagedAt (sketch (now (c .before .before .before .before .before .before .before .args .counts)) (now (c .before .before .before .before .before .before .before .args .idsums))) (c .before .before .before .before .before .loop .i * c .before .before .before .before .before .before .before .args .m + getD (now (c .before .before .before .before .before .before .before .args .ks)) (c .before .before .before .before .before .loop .i) 0) ≡ not (c .undamaged .result)
+judged c = ap not (sym (rw (back w32 _ (c .before .before .undamaged-arg .given)) at (c .undamaged .ensures)))
 
 loop-holds : tie.Need-loop-holds Inv-loop μ-loop
 loop-holds c = (search needs, arrays-start _ _ _ _)
@@ -46,20 +46,20 @@ element-copy-out-k c = within c .few
 add-k : tie.Need-add-k Inv-loop μ-loop
 add-k c = omega (arith, within (c .before))
 
-mul-sound : tie.Need-mul-sound Inv-loop μ-loop
-mul-sound c = omega (arith, within (c .before))
+mul-undamaged : tie.Need-mul-undamaged Inv-loop μ-loop
+mul-undamaged c = omega (arith, within (c .before))
 
-shared-slice-copy-out-sound : tie.Need-shared-slice-copy-out-sound Inv-loop μ-loop
-shared-slice-copy-out-sound c = omega (arith, within (c .before), c .before .before .before .before .pre)
+shared-slice-copy-out-undamaged : tie.Need-shared-slice-copy-out-undamaged Inv-loop μ-loop
+shared-slice-copy-out-undamaged c = omega (arith, within (c .before), c .before .before .before .before .pre)
 
-mul-sound-2 : tie.Need-mul-sound-2 Inv-loop μ-loop
-mul-sound-2 c = omega (arith, within (c .before .before))
+mul-undamaged-2 : tie.Need-mul-undamaged-2 Inv-loop μ-loop
+mul-undamaged-2 c = omega (arith, within (c .before .before))
 
-shared-slice-read-sound : tie.Need-shared-slice-read-sound Inv-loop μ-loop
-shared-slice-read-sound c = omega (arith, within (c .before .before .before), c .before .before .before .before .before .before .pre)
+shared-slice-read-undamaged : tie.Need-shared-slice-read-undamaged Inv-loop μ-loop
+shared-slice-read-undamaged c = omega (arith, within (c .before .before .before), c .before .before .before .before .before .before .pre)
 
-sound-requires : tie.Need-sound-requires Inv-loop μ-loop
-sound-requires c κs = search needs
+undamaged-requires : tie.Need-undamaged-requires Inv-loop μ-loop
+undamaged-requires c κs = search needs
 
 returns : tie.Need-returns Inv-loop μ-loop
 unfolding damagedIn
@@ -100,11 +100,11 @@ first-damaged-spec =
     mul-k-2
     element-copy-out-k
     add-k
-    mul-sound
-    shared-slice-copy-out-sound
-    mul-sound-2
-    shared-slice-read-sound
-    sound-requires
+    mul-undamaged
+    shared-slice-copy-out-undamaged
+    mul-undamaged-2
+    shared-slice-read-undamaged
+    undamaged-requires
     returns
     add-i
     loop-less

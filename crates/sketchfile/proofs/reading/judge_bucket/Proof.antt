@@ -12,15 +12,15 @@ use Rattle.sketchfile.proofs.BucketRecords.{bucket-damaged, bucket-larg
 use Rattle.sketchfile.proofs.reading.judge_bucket.Statement.{statement}
 use Rattle.sketchfile.proofs.reading.judge_bucket.Tie as tie
 
-sound-requires : tie.Need-sound-requires
-sound-requires c κs = search needs
+undamaged-requires : tie.Need-undamaged-requires
+undamaged-requires c κs = search needs
 
 returns : tie.Need-returns
-returns c = bucket-damaged _ _ _ _ _ _ (rw (toZ-ofZ (c .before .before .fits .c)) at (test-failed (c .before .sound .ensures) (c .if1 .taken)))
+returns c = bucket-damaged _ _ _ _ _ _ (rw (toZ-ofZ (c .before .before .fits .c)) at (test-failed (c .before .undamaged .ensures) (c .if1 .taken)))
 
 -- the bucket is within its limits
 within : (c : tie.Else1) → (inLimits (c .before .before .args .c) && ltb (c .before .before .args .s) prime) ≡ true
-within c = rw (toZ-ofZ (c .before .before .fits .c)) at (test-held (c .before .sound .ensures) (c .if1 .left))
+within c = rw (toZ-ofZ (c .before .before .fits .c)) at (test-held (c .before .undamaged .ensures) (c .if1 .left))
 
 too-large-requires : tie.Need-too-large-requires
 too-large-requires c κs = search needs
@@ -54,4 +54,4 @@ returns-5 c =
 pub judge-bucket-spec : {M : Type 1} → statement M
 judge-bucket-spec =
     tie.close
-    (tie.spec sound-requires returns too-large-requires returns-2 not-rising-requires returns-3 all-zero-requires returns-4 returns-5)
+    (tie.spec undamaged-requires returns too-large-requires returns-2 not-rising-requires returns-3 all-zero-requires returns-4 returns-5)

@@ -5,9 +5,8 @@ use Prim.Native.Nat.{ℕ, _-_, _≤_, _<_}
 use native.Mathlib.Omega.{arith}
 use borrow.Author.Count.{below-more}
 use borrow.Author.Needs.{needs}
-use borrow.Author.Tests.{le-leb, lt-leb, lt-ltb, le-ltb}
 use lib.ListN.{length}
-use Rattle.params.proofs.Searches.{all-below, below-fails}
+use Rattle.params.proofs.Searches.{test-held, test-failed, all-below, below-fails}
 use Rattle.streamfile.specs.Writing.{isNumberAt}
 use Rattle.streamfile.proofs.writing.all_numbers.Statement.{statement}
 use Rattle.streamfile.proofs.writing.all_numbers.Tie as tie
@@ -21,26 +20,18 @@ abbrev μ-loop : tie.MeasureT-loop
 loop-holds : tie.Need-loop-holds Inv-loop μ-loop
 loop-holds c = (search needs, λ k h. absurd (omega arith))
 
-mul-if1 : tie.Need-mul-if1 Inv-loop μ-loop
-mul-if1 c = search needs
+mul-is-number : tie.Need-mul-is-number Inv-loop μ-loop
+mul-is-number c = search needs
 
-shared-slice-read-if1 : tie.Need-shared-slice-read-if1 Inv-loop μ-loop
-shared-slice-read-if1 c = search needs
+shared-slice-read-is-number : tie.Need-shared-slice-read-is-number Inv-loop μ-loop
+shared-slice-read-is-number c = search needs
+
+is-number-requires : tie.Need-is-number-requires Inv-loop μ-loop
+is-number-requires c κs = search needs
 
 returns : tie.Need-returns Inv-loop μ-loop
 unfolding isNumberAt
-returns c = sym (below-fails _ (c .before .before .before .loop .i) _ (c .before .before .loop-test .taken) (simp (lt-leb 1 _ (c .if1 .taken))))
-
-mul-if2 : tie.Need-mul-if2 Inv-loop μ-loop
-mul-if2 c = search needs
-
-shared-slice-read-if2 : tie.Need-shared-slice-read-if2 Inv-loop μ-loop
-shared-slice-read-if2 c = search needs
-
-returns-2 : tie.Need-returns-2 Inv-loop μ-loop
-unfolding isNumberAt
-returns-2 c =
-    sym (below-fails _ (c .before .before .before .before .before .loop .i) _ (c .before .before .before .before .loop-test .taken) (simp (le-leb 1 _ (c .before .before .if1 .left), le-ltb _ _ (c .if2 .taken))))
+returns c = sym (below-fails _ (c .before .before .before .before .loop .i) _ (c .before .before .before .loop-test .taken) (test-failed (c .before .is-number .ensures) (c .if1 .taken)))
 
 add-i : tie.Need-add-i Inv-loop μ-loop
 add-i c = search needs
@@ -50,11 +41,10 @@ loop-less c = search needs
 
 loop-again : tie.Need-loop-again Inv-loop μ-loop
 unfolding isNumberAt
-loop-again c =
-    (search needs, below-more _ _ (c .before .before .before .before .before .loop .inv .1) (simp (le-leb 1 _ (c .before .before .if1 .left), lt-ltb _ _ (c .if2 .left))))
+loop-again c = (search needs, below-more _ _ (c .before .before .before .before .loop .inv .1) (test-held (c .before .is-number .ensures) (c .if1 .left)))
 
-returns-3 : tie.Need-returns-3 Inv-loop μ-loop
-returns-3 c = sym (all-below _ _ (λ k h. c .before .loop .inv .1 k (omega arith)))
+returns-2 : tie.Need-returns-2 Inv-loop μ-loop
+returns-2 c = sym (all-below _ _ (λ k h. c .before .loop .inv .1 k (omega arith)))
 
 pub all-numbers-spec : {M : Type 1} → statement M
 all-numbers-spec =
@@ -63,13 +53,11 @@ all-numbers-spec =
     Inv-loop
     μ-loop
     loop-holds
-    mul-if1
-    shared-slice-read-if1
+    mul-is-number
+    shared-slice-read-is-number
+    is-number-requires
     returns
-    mul-if2
-    shared-slice-read-if2
-    returns-2
     add-i
     loop-less
     loop-again
-    returns-3)
+    returns-2)

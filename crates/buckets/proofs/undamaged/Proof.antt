@@ -1,11 +1,11 @@
--- `buckets::sound` meets its contract.
+-- `buckets::undamaged` meets its contract.
 use mathlib.Core.Path.{_≡_, sym, ap, _∙_}
 use borrow.Author.Needs.{needs}
 use borrow.Author.Tests.{not-true, not-false}
 use Rattle.field.proofs.Casts.{widened, widens}
 use Rattle.buckets.specs.Buckets.{inLimits}
-use Rattle.buckets.proofs.sound.Statement.{statement}
-use Rattle.buckets.proofs.sound.Tie as tie
+use Rattle.buckets.proofs.undamaged.Statement.{statement}
+use Rattle.buckets.proofs.undamaged.Tie as tie
 
 cast-within : tie.Need-cast-within
 cast-within c = widens (c .fits .c)
@@ -22,5 +22,5 @@ returns c = rw (sym (judged (c .before)) ∙ not-true _ (c .if1 .taken))
 returns-2 : tie.Need-returns-2
 returns-2 c = rw (sym (judged (c .before)) ∙ not-false _ (c .if1 .left))
 
-pub sound-spec : {M : Type 1} → statement M
-sound-spec = tie.close (tie.spec cast-within within-requires returns returns-2)
+pub undamaged-spec : {M : Type 1} → statement M
+undamaged-spec = tie.close (tie.spec cast-within within-requires returns returns-2)
