@@ -87,7 +87,8 @@ numbersOf (e ∷ es) = e .number ∷ numbersOf es
 unfoldable pub padded : {A : Type 0} → ℕ → A → List A → List A
 padded n z xs = xs ++ replicate (n - length xs) z
 
--- what is left in the slices L where nothing is refused: the remainder, the closed table with 0 in the slots past it, and no bucket waiting
+-- what the slices L hold after, where nothing is refused: the remainder, the closed table with 0 in the slots past it, and zeros for the
+-- queue and the marks
 abbrev pub closedSlices : Params → Outcome → Slices → Slices
 closedSlices P o L =
     slices (o .remainder .counts) (o .remainder .idsums)

@@ -1,5 +1,5 @@
 -- A rule whose test is narrowed is sound where the wider one is, and places flows as it does; so what holds of every walk by a sound rule holds of walks by it.
-use mathlib.Core.Path.{_≡_}
+use mathlib.Core.Path.{_≡_, refl, subst}
 use mathlib.Core.Bool.{Bool, true, false, cond}
 use Prim.Native.Nat.{ℕ}
 use native.Mathlib.Omega.{arith}
@@ -20,9 +20,21 @@ only-if-pure ok (Pure g) f e = go (ok g) e
     go true x = x
     go false x = absurd (let z : _≡_ {A = ℕ} 0 1 = cc in omega arith)
 
--- what is pure under the narrowed test is pure under the wider one
+only-if-passes : (ok : ℕ → Bool) (w : Found) (f : ℕ) → onlyIf ok w ≡ Pure f → ok f ≡ true
+only-if-passes ok Undefined f e = absurd (let z : _≡_ {A = ℕ} 0 1 = cc in omega arith)
+only-if-passes ok Impure f e = absurd (let z : _≡_ {A = ℕ} 0 1 = cc in omega arith)
+only-if-passes ok (Pure g) f e = go (ok g) refl e
+  where
+    go : (b : Bool) → ok g ≡ b → cond b (Pure g) Impure ≡ Pure f → ok f ≡ true
+    go true h x = let same : g ≡ f = cc in subst (λ (f : ℕ). ok f ≡ true) same h
+    go false h x = absurd (let z : _≡_ {A = ℕ} 0 1 = cc in omega arith)
+
+-- what is pure under the narrowed test is pure under the wider one, and its flow passes `ok`
 pub narrowed-pure-is-pure : (ok : ℕ → Bool) (R : Rule) (k : ℕ) (c : ℤ) (s f : ℕ) → narrowed ok R .test k c s ≡ Pure f → R .test k c s ≡ Pure f
 narrowed-pure-is-pure ok R k c s f e = only-if-pure ok (R .test k c s) f e
+
+pub narrowed-pure-passes : (ok : ℕ → Bool) (R : Rule) (k : ℕ) (c : ℤ) (s f : ℕ) → narrowed ok R .test k c s ≡ Pure f → ok f ≡ true
+narrowed-pure-passes ok R k c s f e = only-if-passes ok (R .test k c s) f e
 
 pub sound-narrowed : (ok : ℕ → Bool) (R : Rule) → Sound R → Sound (narrowed ok R)
 sound-narrowed ok R h =
