@@ -1,2 +1,2 @@
--- The laws of what a caller in C is told.
-pub mod Telling
+-- The laws of what a caller in C is returned.
+pub mod Returning

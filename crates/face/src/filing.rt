@@ -1,11 +1,11 @@
 // Stream files and sketch files, read and written, and the head of a file, for C.
 ghost use Rattle.sketch.specs.Sketch.{sketch};
-ghost use Rattle.face.specs.Told.{paramsOf};
+ghost use Rattle.face.specs.Returned.{paramsOf};
 ghost use Rattle.face.specs.Calls.{HeadReadFor, StreamReadFor, StreamWrittenFor, SketchReadFor, SketchWrittenFor};
-use crate::told::numbers_of;
-use crate::told::params_of;
-use crate::told::tell;
-use crate::told::tell_written;
+use crate::returned::numbers_of;
+use crate::returned::params_of;
+use crate::returned::return_answer;
+use crate::returned::return_written;
 use files::heads::head;
 use sketchfile::reading::read_sketch;
 use sketchfile::writing::write_sketch;
@@ -25,7 +25,7 @@ pub extern "C" fn gabunlitik_read_head(
     let answer = headed.answer;
     let p = headed.params;
     numbers_of(p, params);
-    tell(answer, place)
+    return_answer(answer, place)
 }
 
 // Inserts the packets of a stream file.
@@ -40,7 +40,7 @@ pub extern "C" fn gabunlitik_read_stream(
     ensures { λ r. ⌜ StreamReadFor (paramsOf (now (params .entry))) (now (bytes .entry)) (sketch (now (counts .entry)) (now (idsums .entry))) r (now (place .exit)) (sketch (now (counts .exit)) (now (idsums .exit))) ⌝ }
 {
     let inserted = read_stream(params_of(params), counts, idsums, bytes);
-    tell(inserted, place)
+    return_answer(inserted, place)
 }
 
 // Writes the stream file of these flows, each by its number.
@@ -56,7 +56,7 @@ pub extern "C" fn gabunlitik_write_stream(
     ensures { λ r. ⌜ StreamWrittenFor (paramsOf (now (params .entry))) (now (flows .entry)) (now (numbers .entry)) (now (out .entry)) r (now (place .exit)) (now (length .exit)) (now (out .exit)) ⌝ }
 {
     let stream = write_stream(params_of(params), flows, numbers, out);
-    tell_written(stream, length, place)
+    return_written(stream, length, place)
 }
 
 // Reads a sketch file in place of the lent sketch's content.
@@ -71,7 +71,7 @@ pub extern "C" fn gabunlitik_read_sketch(
     ensures { λ r. ⌜ SketchReadFor (paramsOf (now (params .entry))) (now (bytes .entry)) (sketch (now (counts .entry)) (now (idsums .entry))) r (now (place .exit)) (sketch (now (counts .exit)) (now (idsums .exit))) ⌝ }
 {
     let replaced = read_sketch(params_of(params), counts, idsums, bytes);
-    tell(replaced, place)
+    return_answer(replaced, place)
 }
 
 // Writes the file of a sketch.
@@ -87,5 +87,5 @@ pub extern "C" fn gabunlitik_write_sketch(
     ensures { λ r. ⌜ SketchWrittenFor (paramsOf (now (params .entry))) (sketch (now (counts .entry)) (now (idsums .entry))) (now (out .entry)) r (now (place .exit)) (now (length .exit)) (now (out .exit)) ⌝ }
 {
     let stored = write_sketch(params_of(params), counts, idsums, out);
-    tell_written(stored, length, place)
+    return_written(stored, length, place)
 }

@@ -1,10 +1,10 @@
 // Fresh sketches, packets put in and taken out, and sums and differences of two sketches, for C.
 ghost use mathlib.Core.Bool.{true, false};
 ghost use Rattle.sketch.specs.Sketch.{sketch};
-ghost use Rattle.face.specs.Told.{paramsOf};
+ghost use Rattle.face.specs.Returned.{paramsOf};
 ghost use Rattle.face.specs.Calls.{FreshenedFor, InsertedFor, WithdrawnFor, AllInsertedFor, CombinedFor};
-use crate::told::params_of;
-use crate::told::tell;
+use crate::returned::params_of;
+use crate::returned::return_answer;
 use sketch::packets::fresh;
 use sketch::packets::insert;
 use sketch::packets::insert_all;
@@ -23,7 +23,7 @@ pub extern "C" fn gabunlitik_fresh(
     ensures { λ r. ⌜ FreshenedFor (paramsOf (now (params .entry))) (sketch (now (counts .entry)) (now (idsums .entry))) r (now (place .exit)) (sketch (now (counts .exit)) (now (idsums .exit))) ⌝ }
 {
     let cleared = fresh(params_of(params), counts, idsums);
-    tell(cleared, place)
+    return_answer(cleared, place)
 }
 
 // Puts `number` packets of a flow in.
@@ -39,7 +39,7 @@ pub extern "C" fn gabunlitik_insert(
     ensures { λ r. ⌜ InsertedFor (paramsOf (now (params .entry))) flow number (sketch (now (counts .entry)) (now (idsums .entry))) r (now (place .exit)) (sketch (now (counts .exit)) (now (idsums .exit))) ⌝ }
 {
     let inserted = insert(params_of(params), counts, idsums, flow, number);
-    tell(inserted, place)
+    return_answer(inserted, place)
 }
 
 // Takes `number` packets of a flow out again.
@@ -55,7 +55,7 @@ pub extern "C" fn gabunlitik_withdraw(
     ensures { λ r. ⌜ WithdrawnFor (paramsOf (now (params .entry))) flow number (sketch (now (counts .entry)) (now (idsums .entry))) r (now (place .exit)) (sketch (now (counts .exit)) (now (idsums .exit))) ⌝ }
 {
     let withdrawn = withdraw(params_of(params), counts, idsums, flow, number);
-    tell(withdrawn, place)
+    return_answer(withdrawn, place)
 }
 
 // Puts many packets in, each flow by its number, or none of them.
@@ -71,7 +71,7 @@ pub extern "C" fn gabunlitik_insert_all(
     ensures { λ r. ⌜ AllInsertedFor (paramsOf (now (params .entry))) (now (flows .entry)) (now (numbers .entry)) (sketch (now (counts .entry)) (now (idsums .entry))) r (now (place .exit)) (sketch (now (counts .exit)) (now (idsums .exit))) ⌝ }
 {
     let all_inserted = insert_all(params_of(params), counts, idsums, flows, numbers);
-    tell(all_inserted, place)
+    return_answer(all_inserted, place)
 }
 
 // Adds the other sketch to the first, bucket by bucket.
@@ -90,7 +90,7 @@ pub extern "C" fn gabunlitik_add(
     let p = params_of(params);
     let q = params_of(other_params);
     let added = add(p, q, counts, idsums, other_counts, other_idsums);
-    tell(added, place)
+    return_answer(added, place)
 }
 
 // Takes the other sketch from the first, bucket by bucket.
@@ -109,5 +109,5 @@ pub extern "C" fn gabunlitik_subtract(
     let p = params_of(params);
     let q = params_of(other_params);
     let subtracted = subtract(p, q, counts, idsums, other_counts, other_idsums);
-    tell(subtracted, place)
+    return_answer(subtracted, place)
 }

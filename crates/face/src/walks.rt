@@ -1,12 +1,12 @@
 // Peeling, for C.
 ghost use Rattle.peel.specs.Slices.{slices};
-ghost use Rattle.face.specs.Told.{paramsOf};
+ghost use Rattle.face.specs.Returned.{paramsOf};
 ghost use Rattle.face.specs.Calls.{PeelsFor};
-use crate::told::params_of;
-use crate::told::tell_peeled;
+use crate::returned::params_of;
+use crate::returned::return_peeled;
 use peel::peeling::peel;
 
-// Peels a sketch into a table and tells the ending's number, the entries, the net figure and the pops, in this order.
+// Peels a sketch into a table and gives the ending's number, the entries, the net figure and the pops, in this order.
 #[no_mangle]
 pub extern "C" fn gabunlitik_peel(
     params: &[u32; 10],
@@ -32,5 +32,5 @@ pub extern "C" fn gabunlitik_peel(
         marks,
         allowance,
     );
-    tell_peeled(peeled, figures, place)
+    return_peeled(peeled, figures, place)
 }

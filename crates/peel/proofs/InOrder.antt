@@ -16,6 +16,7 @@ use Rattle.params.specs.Answers.{numberOf, numberIn, indexIn, refuseIf, refuseA
 use Rattle.params.specs.Params.{size, goodParams, lengthsAnswer, lentAnswer}
 use Rattle.sketch.specs.Sketch.{Sketch, damagedAt}
 use Rattle.params.specs.Faults.{order, firstOf}
+use Rattle.sketch.specs.Faults.{wrongLength}
 use Rattle.peel.specs.Faults.{peelFault}
 use Rattle.params.proofs.InOrder.{lowest-first, refuse-number, refuse-at-number, first-refuse, cond-either}
 use Rattle.params.proofs.Lowest.{Lowest, least-lowest}

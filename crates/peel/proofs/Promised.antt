@@ -24,23 +24,13 @@ use Rattle.walk.specs.Walk.{Outcome, closedTable, netFigure}
 use Rattle.walk.specs.Purity.{pureTest}
 use Rattle.walk.proofs.Promises as walks
 use Rattle.walk.proofs.Promises.{Whole, Nothing}
+use Rattle.params.proofs.Judging.{number-some}
 use Rattle.peel.specs.declared.peeling.Peeled.{Peeled}
 use Rattle.peel.specs.Slices.{Slices, lentSketch}
 use Rattle.peel.specs.Table.{row, tableOf}
 use Rattle.peel.specs.Peel.{peeledOf, peeledNumber, peeledIndex, peeledEnding, peeledPops, peeledNet, peeledEntries, flowsOf, numbersOf, padded, closedSlices, judged, walked, Peels}
 use Rattle.peel.proofs.Padding.{padded-past, flows-many, numbers-many, table-padded}
 use Rattle.peel.proofs.Judged.{judged-whole}
-
--- a refusal has a number
-number-some : (w : Refusal) → numberOf w ≡ 0 → ⊥
-number-some Param e = omega arith
-number-some Length e = omega arith
-number-some Flow e = omega arith
-number-some Count e = omega arith
-number-some Damage e = omega arith
-number-some OutOfRange e = omega arith
-number-some Mismatch e = omega arith
-number-some Form e = omega arith
 
 answer-done : (x : Answer) → numberIn x ≡ 0 → x ≡ Done
 answer-done Done e = refl

@@ -104,13 +104,13 @@ judged P L = peelAnswer P (lentSketch L) (length (L .flows)) (length (L .numbers
 abbrev pub walked : Params → ℕ → Slices → Outcome
 walked P allowance L = walk (ruleOf P) (length (L .flows)) allowance (lentSketch L)
 
-abbrev pub peelTells : Params → ℕ → Slices → Peeled
-peelTells P allowance L = peeledOf (judged P L) (walked P allowance L)
+abbrev pub peelReturns : Params → ℕ → Slices → Peeled
+peelReturns P allowance L = peeledOf (judged P L) (walked P allowance L)
 
 abbrev pub peelLeaves : Params → ℕ → Slices → Slices
 peelLeaves P allowance L = kept (judged P L) L (closedSlices P (walked P allowance L) L)
 
 -- L is what is lent, L' what it holds after
 pub record Peels (P : Params) (allowance : ℕ) (L : Slices) (r : Peeled) (L' : Slices) : Type 0 where
-  pub answer : r ≡ peelTells P allowance L
+  pub answer : r ≡ peelReturns P allowance L
   pub after : L' ≡ peelLeaves P allowance L

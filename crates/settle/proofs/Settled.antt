@@ -18,7 +18,7 @@ use Rattle.sums.specs.Sums.{combineAnswer, combined}
 use Rattle.peel.specs.declared.peeling.Peeled.{Peeled}
 use Rattle.peel.specs.declared.peeling.Peeled.the-variants.{Refused as NotPeeled}
 use Rattle.peel.specs.Slices.{Slices, lentSketch, withSketch}
-use Rattle.peel.specs.Peel.{walkLentAnswer, peelAnswer, unlessRefused, judged, peelTells, Peels}
+use Rattle.peel.specs.Peel.{walkLentAnswer, peelAnswer, unlessRefused, judged, peelReturns, Peels}
 use Rattle.peel.proofs.Judged.{lent-passed}
 use Rattle.settle.specs.Settling.{settleAnswer, settleJudged, lessDownstream, Settles}
 use Rattle.settle.proofs.Differences.{combined-long, combined-undamaged}
@@ -73,7 +73,7 @@ module _ (P : Params) (T : Sketch) (L : Slices) where
     not-settled w k h =
         let refused : Refused w k ≡ told = sym h ∙ e in
         record {
-          answer = ap (λ (x : Answer). unlessRefused x (peelTells P (8 * size P) (lessDownstream P T L))) refused;
+          answer = ap (λ (x : Answer). unlessRefused x (peelReturns P (8 * size P) (lessDownstream P T L))) refused;
           after = ap (λ (D : Sketch). withSketch D L) (l ∙ sym (kept-refused r S (combined true S T) (sym h))) ∙ kept-refused told L _ refused;
         }
 
@@ -82,7 +82,7 @@ module _ (P : Params) (T : Sketch) (L : Slices) where
         let done : told ≡ Done = sym e ∙ h in
         let p = subst (λ (D : Sketch). Peels P (8 * size P) (withSketch D L) x L') (l ∙ sym (kept-new r S (combined true S T) h)) peels in
         record {
-          answer = p .answer ∙ ap (λ (x : Answer). unlessRefused x (peelTells P (8 * size P) (lessDownstream P T L))) (sym done);
+          answer = p .answer ∙ ap (λ (x : Answer). unlessRefused x (peelReturns P (8 * size P) (lessDownstream P T L))) (sym done);
           after = p .after ∙ kept-new told L _ done;
         }
 
@@ -90,7 +90,7 @@ module _ (P : Params) (T : Sketch) (L : Slices) where
   pub settled-is-peeled : {x : Peeled} {L' : Slices} → told ≡ Done → Settles P T L x L' → Peels P (8 * size P) (lessDownstream P T L) x L'
   settled-is-peeled done s =
       record {
-        answer = s .answer ∙ ap (λ (x : Answer). unlessRefused x (peelTells P (8 * size P) (lessDownstream P T L))) done;
+        answer = s .answer ∙ ap (λ (x : Answer). unlessRefused x (peelReturns P (8 * size P) (lessDownstream P T L))) done;
         after = s .after ∙ sym (kept-new told L _ done);
       }
 

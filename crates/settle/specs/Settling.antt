@@ -11,7 +11,7 @@ use Rattle.sketch.specs.Sketch.{Sketch}
 use Rattle.sums.specs.Sums.{combineAnswer, combined}
 use Rattle.peel.specs.declared.peeling.Peeled.{Peeled}
 use Rattle.peel.specs.Slices.{Slices, lentSketch, withSketch}
-use Rattle.peel.specs.Peel.{walkLentAnswer, unlessRefused, peelTells, peelLeaves}
+use Rattle.peel.specs.Peel.{walkLentAnswer, unlessRefused, peelReturns, peelLeaves}
 
 -- the parameters and the lengths of all that the walk is lent, then what the difference of S and T answers
 unfoldable pub settleAnswer : Params → Sketch → Sketch → ℕ → ℕ → ℕ → ℕ → Answer
@@ -30,5 +30,5 @@ module _ (P : Params) (T : Sketch) (L : Slices) where
 
   -- unless it is refused, settling is peeling the difference with 8 * d * m pops; L' is what the slices hold after
   pub record Settles (r : Peeled) (L' : Slices) : Type 0 where
-    pub answer : r ≡ unlessRefused settleJudged (peelTells P (8 * size P) lessDownstream)
+    pub answer : r ≡ unlessRefused settleJudged (peelReturns P (8 * size P) lessDownstream)
     pub after : L' ≡ kept settleJudged L (peelLeaves P (8 * size P) lessDownstream)

@@ -21,6 +21,7 @@ use Rattle.sketch.specs.Sketch.{Sketch, damagedAt}
 use Rattle.params.proofs.Judging.{first-either}
 use Rattle.params.proofs.Lowest.{Lowest, least-lowest}
 use Rattle.params.specs.Faults.{order, firstOf}
+use Rattle.sketch.specs.Faults.{wrongLength}
 use Rattle.sketchfile.specs.Faults.{bucketFault, writeFault}
 use Rattle.params.proofs.InOrder.{lowest-first, refuse-number, refuse-at-number, first-refuse, cond-either}
 use Rattle.files.specs.declared.writing.Written.{Written}

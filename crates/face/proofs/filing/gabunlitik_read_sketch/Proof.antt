@@ -1,5 +1,5 @@
--- `face::filing::gabunlitik_read_sketch` meets its contract: what the library promises of the call, told in numbers.
-use Rattle.face.proofs.Telling.{told}
+-- `face::filing::gabunlitik_read_sketch` meets its contract: what the library promises of the call, returned in numbers.
+use Rattle.face.proofs.Returning.{returned}
 use borrow.Author.Needs.{needs}
 use Rattle.face.proofs.filing.gabunlitik_read_sketch.Statement.{statement}
 use Rattle.face.proofs.filing.gabunlitik_read_sketch.Tie as tie
@@ -10,8 +10,8 @@ params-of-requires c κs = search needs
 read-sketch-requires : tie.Need-read-sketch-requires
 read-sketch-requires c κs = search needs
 
-tell-requires : tie.Need-tell-requires
-tell-requires c κs = search needs
+return-answer-requires : tie.Need-return-answer-requires
+return-answer-requires c κs = search needs
 
 same-length : tie.Need-same-length
 same-length c = search needs
@@ -23,7 +23,7 @@ returns : tie.Need-returns
 returns c =
     let s = c .before .before .before .before .before in
     let held = rw (s .before .before .before .params-of .ensures) at (s .read-sketch .ensures) in
-    told _ (held .answer) held (c .tell .ensures)
+    returned _ (held .answer) held (c .return-answer .ensures)
 
 pub gabunlitik-read-sketch-spec : {M : Type 1} → statement M
 gabunlitik-read-sketch-spec =
@@ -31,7 +31,7 @@ gabunlitik-read-sketch-spec =
     (tie.spec
     params-of-requires
     read-sketch-requires
-    tell-requires
+    return-answer-requires
     same-length
     same-length-2
     returns)

@@ -1,5 +1,5 @@
--- `face::filing::gabunlitik_write_stream` meets its contract: what the library promises of the call, told in numbers.
-use Rattle.face.proofs.Telling.{told-length}
+-- `face::filing::gabunlitik_write_stream` meets its contract: what the library promises of the call, returned in numbers.
+use Rattle.face.proofs.Returning.{returned-length}
 use borrow.Author.Needs.{needs}
 use Rattle.face.proofs.filing.gabunlitik_write_stream.Statement.{statement}
 use Rattle.face.proofs.filing.gabunlitik_write_stream.Tie as tie
@@ -10,8 +10,8 @@ params-of-requires c κs = search needs
 write-stream-requires : tie.Need-write-stream-requires
 write-stream-requires c κs = search needs
 
-tell-written-requires : tie.Need-tell-written-requires
-tell-written-requires c κs = search needs
+return-written-requires : tie.Need-return-written-requires
+return-written-requires c κs = search needs
 
 same-length : tie.Need-same-length
 same-length c = search needs
@@ -20,9 +20,9 @@ returns : tie.Need-returns
 returns c =
     let s = c .before .before .before .before .before in
     let held = rw (s .before .before .params-of .ensures) at (s .write-stream .ensures) in
-    told-length _ (held .answer) held (c .tell-written .ensures)
+    returned-length _ (held .answer) held (c .return-written .ensures)
 
 pub gabunlitik-write-stream-spec : {M : Type 1} → statement M
 gabunlitik-write-stream-spec =
     tie.close
-    (tie.spec params-of-requires write-stream-requires tell-written-requires same-length returns)
+    (tie.spec params-of-requires write-stream-requires return-written-requires same-length returns)

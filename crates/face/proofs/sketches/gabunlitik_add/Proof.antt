@@ -1,5 +1,5 @@
--- `face::sketches::gabunlitik_add` meets its contract: what the library promises of the call, told in numbers.
-use Rattle.face.proofs.Telling.{told}
+-- `face::sketches::gabunlitik_add` meets its contract: what the library promises of the call, returned in numbers.
+use Rattle.face.proofs.Returning.{returned}
 use borrow.Author.Needs.{needs}
 use Rattle.face.proofs.sketches.gabunlitik_add.Statement.{statement}
 use Rattle.face.proofs.sketches.gabunlitik_add.Tie as tie
@@ -13,8 +13,8 @@ params-of-requires-2 c κs = search needs
 add-requires : tie.Need-add-requires
 add-requires c κs = search needs
 
-tell-requires : tie.Need-tell-requires
-tell-requires c κs = search needs
+return-answer-requires : tie.Need-return-answer-requires
+return-answer-requires c κs = search needs
 
 same-length : tie.Need-same-length
 same-length c = search needs
@@ -26,7 +26,7 @@ returns : tie.Need-returns
 returns c =
     let s = c .before .before .before .before .before in
     let held = rw (s .before .before .before .before .params-of .ensures, s .before .before .before .params-of2 .ensures) at (s .add .ensures) in
-    told _ (held .answer) held (c .tell .ensures)
+    returned _ (held .answer) held (c .return-answer .ensures)
 
 pub gabunlitik-add-spec : {M : Type 1} → statement M
 gabunlitik-add-spec =
@@ -35,7 +35,7 @@ gabunlitik-add-spec =
     params-of-requires
     params-of-requires-2
     add-requires
-    tell-requires
+    return-answer-requires
     same-length
     same-length-2
     returns)

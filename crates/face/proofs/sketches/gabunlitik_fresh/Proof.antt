@@ -1,5 +1,5 @@
--- `face::sketches::gabunlitik_fresh` meets its contract: what the library promises of the call, told in numbers.
-use Rattle.face.proofs.Telling.{told}
+-- `face::sketches::gabunlitik_fresh` meets its contract: what the library promises of the call, returned in numbers.
+use Rattle.face.proofs.Returning.{returned}
 use borrow.Author.Needs.{needs}
 use Rattle.face.proofs.sketches.gabunlitik_fresh.Statement.{statement}
 use Rattle.face.proofs.sketches.gabunlitik_fresh.Tie as tie
@@ -10,8 +10,8 @@ params-of-requires c κs = search needs
 fresh-requires : tie.Need-fresh-requires
 fresh-requires c κs = search needs
 
-tell-requires : tie.Need-tell-requires
-tell-requires c κs = search needs
+return-answer-requires : tie.Need-return-answer-requires
+return-answer-requires c κs = search needs
 
 same-length : tie.Need-same-length
 same-length c = search needs
@@ -23,9 +23,9 @@ returns : tie.Need-returns
 returns c =
     let s = c .before .before .before .before .before in
     let held = rw (s .before .before .before .params-of .ensures) at (s .fresh .ensures) in
-    told _ (held .answer) held (c .tell .ensures)
+    returned _ (held .answer) held (c .return-answer .ensures)
 
 pub gabunlitik-fresh-spec : {M : Type 1} → statement M
 gabunlitik-fresh-spec =
     tie.close
-    (tie.spec params-of-requires fresh-requires tell-requires same-length same-length-2 returns)
+    (tie.spec params-of-requires fresh-requires return-answer-requires same-length same-length-2 returns)

@@ -1,5 +1,5 @@
--- `face::sketches::gabunlitik_insert_all` meets its contract: what the library promises of the call, told in numbers.
-use Rattle.face.proofs.Telling.{told}
+-- `face::sketches::gabunlitik_insert_all` meets its contract: what the library promises of the call, returned in numbers.
+use Rattle.face.proofs.Returning.{returned}
 use borrow.Author.Needs.{needs}
 use Rattle.face.proofs.sketches.gabunlitik_insert_all.Statement.{statement}
 use Rattle.face.proofs.sketches.gabunlitik_insert_all.Tie as tie
@@ -10,8 +10,8 @@ params-of-requires c κs = search needs
 insert-all-requires : tie.Need-insert-all-requires
 insert-all-requires c κs = search needs
 
-tell-requires : tie.Need-tell-requires
-tell-requires c κs = search needs
+return-answer-requires : tie.Need-return-answer-requires
+return-answer-requires c κs = search needs
 
 same-length : tie.Need-same-length
 same-length c = search needs
@@ -23,7 +23,7 @@ returns : tie.Need-returns
 returns c =
     let s = c .before .before .before .before .before in
     let held = rw (s .before .before .before .params-of .ensures) at (s .insert-all .ensures) in
-    told _ (held .answer) held (c .tell .ensures)
+    returned _ (held .answer) held (c .return-answer .ensures)
 
 pub gabunlitik-insert-all-spec : {M : Type 1} → statement M
 gabunlitik-insert-all-spec =
@@ -31,7 +31,7 @@ gabunlitik-insert-all-spec =
     (tie.spec
     params-of-requires
     insert-all-requires
-    tell-requires
+    return-answer-requires
     same-length
     same-length-2
     returns)

@@ -1,5 +1,5 @@
--- `face::sketches::gabunlitik_subtract` meets its contract: what the library promises of the call, told in numbers.
-use Rattle.face.proofs.Telling.{told}
+-- `face::sketches::gabunlitik_subtract` meets its contract: what the library promises of the call, returned in numbers.
+use Rattle.face.proofs.Returning.{returned}
 use borrow.Author.Needs.{needs}
 use Rattle.face.proofs.sketches.gabunlitik_subtract.Statement.{statement}
 use Rattle.face.proofs.sketches.gabunlitik_subtract.Tie as tie
@@ -13,8 +13,8 @@ params-of-requires-2 c κs = search needs
 subtract-requires : tie.Need-subtract-requires
 subtract-requires c κs = search needs
 
-tell-requires : tie.Need-tell-requires
-tell-requires c κs = search needs
+return-answer-requires : tie.Need-return-answer-requires
+return-answer-requires c κs = search needs
 
 same-length : tie.Need-same-length
 same-length c = search needs
@@ -26,7 +26,7 @@ returns : tie.Need-returns
 returns c =
     let s = c .before .before .before .before .before in
     let held = rw (s .before .before .before .before .params-of .ensures, s .before .before .before .params-of2 .ensures) at (s .subtract .ensures) in
-    told _ (held .answer) held (c .tell .ensures)
+    returned _ (held .answer) held (c .return-answer .ensures)
 
 pub gabunlitik-subtract-spec : {M : Type 1} → statement M
 gabunlitik-subtract-spec =
@@ -35,7 +35,7 @@ gabunlitik-subtract-spec =
     params-of-requires
     params-of-requires-2
     subtract-requires
-    tell-requires
+    return-answer-requires
     same-length
     same-length-2
     returns)

@@ -1,5 +1,5 @@
--- `face::walks::gabunlitik_peel` meets its contract: what the library promises of the call, told in numbers.
-use Rattle.face.proofs.Telling.{told-figures, entries-few}
+-- `face::walks::gabunlitik_peel` meets its contract: what the library promises of the call, returned in numbers.
+use Rattle.face.proofs.Returning.{returned-figures, entries-few}
 use borrow.Author.Needs.{needs}
 use Rattle.face.proofs.walks.gabunlitik_peel.Statement.{statement}
 use Rattle.face.proofs.walks.gabunlitik_peel.Tie as tie
@@ -10,8 +10,8 @@ params-of-requires c κs = search needs
 peel-requires : tie.Need-peel-requires
 peel-requires c κs = search needs
 
-tell-peeled-requires : tie.Need-tell-peeled-requires
-tell-peeled-requires c κs = entries-few (c .before .before .before .before .before .before .before .before .before .before .before .before .peel .ensures)
+return-peeled-requires : tie.Need-return-peeled-requires
+return-peeled-requires c κs = entries-few (c .before .before .before .before .before .before .before .before .before .before .before .before .peel .ensures)
 
 same-length : tie.Need-same-length
 same-length c = search needs
@@ -35,7 +35,7 @@ returns : tie.Need-returns
 returns c =
     let s = c .before .before .before .before .before .before .before .before .before .before .before .before .before in
     let held = rw (s .before .before .before .before .before .before .before .params-of .ensures) at (s .peel .ensures) in
-    told-figures _ (held .answer) held (c .tell-peeled .ensures)
+    returned-figures _ (held .answer) held (c .return-peeled .ensures)
 
 pub gabunlitik-peel-spec : {M : Type 1} → statement M
 gabunlitik-peel-spec =
@@ -43,7 +43,7 @@ gabunlitik-peel-spec =
     (tie.spec
     params-of-requires
     peel-requires
-    tell-peeled-requires
+    return-peeled-requires
     same-length
     same-length-2
     same-length-3

@@ -1,0 +1,67 @@
+-- Ten numbers as parameters, and an answer as the numbers that a caller in C is returned.
+use mathlib.Core.Path.{_≡_}
+use mathlib.Core.List.{List, [], _∷_}
+use Prim.Native.Nat.{ℕ}
+use lib.IntN.{ℤ, pos}
+use lib.ListN.{getD}
+use Rattle.params.specs.declared.params.Params.{Params}
+use Rattle.params.specs.declared.answers.Answer.{Answer}
+use Rattle.params.specs.declared.answers.Located.{Located}
+use Rattle.params.specs.Answers.{numberIn, indexIn, locatedNumber, locatedIndex, locatedAt}
+use Rattle.files.specs.declared.heads.Headed.{Headed}
+use Rattle.files.specs.declared.writing.Written.{Written}
+use Rattle.files.specs.Writing.{writtenNumber, writtenIndex, writtenLength}
+use Rattle.peel.specs.declared.peeling.Peeled.{Peeled}
+use Rattle.peel.specs.Peel.{peeledNumber, peeledIndex, peeledEnding, peeledEntries, peeledNet, peeledPops}
+
+-- d, m, the four multipliers, the four offsets
+unfoldable pub paramsOf : List ℕ → Params
+paramsOf ns =
+    record {
+      d = getD ns 0 0;
+      m = getD ns 1 0;
+      a = getD ns 2 0 ∷ getD ns 3 0 ∷ getD ns 4 0 ∷ getD ns 5 0 ∷ [];
+      b = getD ns 6 0 ∷ getD ns 7 0 ∷ getD ns 8 0 ∷ getD ns 9 0 ∷ [];
+    }
+
+-- the same ten numbers of parameters
+unfoldable pub paramNumbers : Params → List ℕ
+paramNumbers P =
+    P .d ∷ P .m
+    ∷ getD (P .a) 0 0 ∷ getD (P .a) 1 0 ∷ getD (P .a) 2 0 ∷ getD (P .a) 3 0
+    ∷ getD (P .b) 0 0 ∷ getD (P .b) 1 0 ∷ getD (P .b) 2 0 ∷ getD (P .b) 3 0 ∷ []
+
+-- the ending's number, the entries, the net figure and the pops
+abbrev pub figuresIn : Peeled → List ℤ
+figuresIn x = pos (peeledEnding x) ∷ pos (peeledEntries x) ∷ peeledNet x ∷ pos (peeledPops x) ∷ []
+
+-- What a caller is returned of an answer, its number and its place, where `Contract` is what the library promises of a call that
+-- gives this answer; and the same with the length that a writer gives and with the figures of a walk.
+pub record Returned (answer : Answer) (Contract : Answer → Type 0) (number place : ℕ) : Type 0 where
+  pub number-returned : number ≡ numberIn answer
+  pub place-returned : place ≡ indexIn answer
+  pub call : Contract answer
+
+pub record ReturnedLength (written : Written) (Contract : Written → Type 0) (number place bytes : ℕ) : Type 0 where
+  pub number-returned : number ≡ writtenNumber written
+  pub place-returned : place ≡ writtenIndex written
+  pub length-returned : bytes ≡ writtenLength written
+  pub call : Contract written
+
+pub record ReturnedFigures (peeled : Peeled) (Contract : Peeled → Type 0) (number place : ℕ) (figures : List ℤ) : Type 0 where
+  pub number-returned : number ≡ peeledNumber peeled
+  pub place-returned : place ≡ peeledIndex peeled
+  pub figures-returned : figures ≡ figuresIn peeled
+  pub call : Contract peeled
+
+-- What a call that alters no lent memory returns: the number and the place with the position or the index that was found, or with the
+-- numbers of a head's parameters.
+pub record LocatedReturned (located : Located) (number place found : ℕ) : Type 0 where
+  pub number-returned : number ≡ locatedNumber located
+  pub place-returned : place ≡ locatedIndex located
+  pub found-returned : found ≡ locatedAt located
+
+pub record HeadReturned (headed : Headed) (number place : ℕ) (numbers : List ℕ) : Type 0 where
+  pub number-returned : number ≡ numberIn (headed .answer)
+  pub place-returned : place ≡ indexIn (headed .answer)
+  pub numbers-returned : numbers ≡ paramNumbers (headed .params)

@@ -1,0 +1,147 @@
+// Parameters from ten numbers, and answers as numbers: C knows neither our structs nor our enums.
+ghost use mathlib.Core.Path.{_≡_};
+ghost use Prim.Native.Nat.{_≤_};
+ghost use Rattle.params.specs.Answers.{numberIn, indexIn, locatedNumber, locatedIndex, locatedAt};
+ghost use Rattle.files.specs.Writing.{writtenNumber, writtenIndex, writtenLength};
+ghost use Rattle.walk.specs.Endings.{endingNumber};
+ghost use Rattle.peel.specs.Peel.{peeledNumber, peeledIndex, peeledEntries};
+ghost use Rattle.face.specs.Returned.{paramsOf, paramNumbers, figuresIn};
+use files::writing::Written;
+use params::Answer;
+use params::Params;
+use params::Located;
+use peel::peeling::Peeled;
+use walk::Ending;
+
+// A number passed by value is known to fit its type; an element behind a reference is not.
+pub(crate) fn wide(n: u32) -> usize
+    ensures { λ r. ⌜ r ≡ n ⌝ }
+{
+    n as usize
+}
+
+// d, m, the four multipliers, the four offsets.
+pub(crate) fn params_of(params: &[u32; 10]) -> Params
+    ensures { λ r. ⌜ r ≡ paramsOf (now (params .entry)) ⌝ }
+{
+    let a = [params[2], params[3], params[4], params[5]];
+    let b = [params[6], params[7], params[8], params[9]];
+    Params {
+        d: wide(params[0]),
+        m: wide(params[1]),
+        a,
+        b,
+    }
+}
+
+// The same ten numbers of parameters whose sizes are small.
+pub(crate) fn numbers_of(p: Params, numbers: &mut [u32; 10])
+    requires { ⌜ (p .d ≤ 4) × (p .m ≤ 16384) ⌝ }
+    ensures { λ r. ⌜ now (numbers .exit) ≡ paramNumbers p ⌝ }
+{
+    let a = p.a;
+    let b = p.b;
+    *numbers = [
+        p.d as u32,
+        p.m as u32,
+        a[0],
+        a[1],
+        a[2],
+        a[3],
+        b[0],
+        b[1],
+        b[2],
+        b[3],
+    ];
+}
+
+// Writes an answer's place and gives its number.
+pub(crate) fn return_answer(answer: Answer, place: &mut usize) -> u32
+    ensures { λ r. ⌜ (r ≡ numberIn answer) × (now (place .exit) ≡ indexIn answer) ⌝ }
+{
+    match answer {
+        Answer::Done => {
+            *place = 0;
+            0
+        }
+        Answer::Refused(refusal, index) => {
+            *place = index;
+            refusal.number()
+        }
+    }
+}
+
+// The same for a position or an index, which goes to `found`.
+pub(crate) fn return_located(located: Located, found: &mut usize, place: &mut usize) -> u32
+    ensures { λ r. ⌜ (r ≡ locatedNumber located) × (now (place .exit) ≡ locatedIndex located) × (now (found .exit) ≡ locatedAt located) ⌝ }
+{
+    match located {
+        Located::At(at) => {
+            *found = at;
+            *place = 0;
+            0
+        }
+        Located::Refused(refusal, index) => {
+            *found = 0;
+            *place = index;
+            refusal.number()
+        }
+    }
+}
+
+// The same for a writer, with the length of what was written.
+pub(crate) fn return_written(written: Written, length: &mut usize, place: &mut usize) -> u32
+    ensures { λ r. ⌜ (r ≡ writtenNumber written) × (now (place .exit) ≡ writtenIndex written) × (now (length .exit) ≡ writtenLength written) ⌝ }
+{
+    match written {
+        Written::Bytes(bytes) => {
+            *length = bytes;
+            *place = 0;
+            0
+        }
+        Written::Refused(refusal, index) => {
+            *length = 0;
+            *place = index;
+            refusal.number()
+        }
+    }
+}
+
+fn ending_number(ending: Ending) -> u32
+    ensures { λ r. ⌜ r ≡ endingNumber ending ⌝ }
+{
+    match ending {
+        Ending::Clean => 1,
+        Ending::Stuck => 2,
+        Ending::Spent => 3,
+        Ending::NoInverse => 4,
+        Ending::Range => 5,
+        Ending::Full => 6,
+    }
+}
+
+// The same for peeling, with what the walk found.
+pub(crate) fn return_peeled(peeled: Peeled, figures: &mut [i64; 4], place: &mut usize) -> u32
+    requires { ⌜ peeledEntries peeled ≤ 65536 ⌝ }
+    ensures { λ r. ⌜ (r ≡ peeledNumber peeled) × (now (place .exit) ≡ peeledIndex peeled) × (now (figures .exit) ≡ figuresIn peeled) ⌝ }
+{
+    match peeled {
+        Peeled::Ended(found) => {
+            let ending = found.ending;
+            let net = found.net;
+            *figures = [
+                ending_number(ending) as i64,
+                found.entries as i64,
+                net,
+                found.pops as i64,
+            ];
+            *place = 0;
+            0
+        }
+        Peeled::Refused(refusal, index) => {
+            *figures = [0; 4];
+            *place = index;
+            refusal.number()
+        }
+    }
+}
