@@ -1,4 +1,4 @@
-// One take: whether a flow's counts stay within their limits, and its buckets less what was found.
+// One take: whether a flow's counts stay within their limits, its buckets less what was found, and the take as a whole.
 ghost use mathlib.Core.Path.{_≡_};
 ghost use mathlib.Core.Bool.{true};
 ghost use Prim.Native.Nat.{ℕ, _+_, _*_, _<_};
