@@ -18,7 +18,8 @@
  * length is 0, and points to at least so many elements that may be read, and written where it is not const, until the call returns.
  * Memory that is lent holds numbers, of whatever value: it is initialised, save what `place`, `length`, `figures`, `position`,
  * `index` and the parameters of a head point to. Nothing that a call may write, these among it, overlaps anything else that is
- * handed to that call. What a call writes is not to be read or written by another thread meanwhile.
+ * handed to that call. Nothing that is handed to a call changes until it returns, except by the call: a capture buffer or a mapped file
+ * that another thread, process or device still writes to is copied first. What a call writes is not read by another thread meanwhile.
  *
  * A sketch is lent as two slices, counts and idsums, each d * m long; a slice of another length is LENGTH. The lengths are
  * parameters of their own, so that a slice which is too short is refused and not read past its end.
