@@ -1,11 +1,13 @@
 // report: reads an upstream stream file and, directly after it, a downstream one from standard input, and prints the flows that
 // were lost on the way, what remains unexplained, and how the walk ended; or where and why the input is refused.
-// A read that fails is the end of the input. A write that fails is the last: what is printed then lacks its end.
+// A read or a write that fails is named on standard error; where a read fails there is no report.
 // Tests of what always holds, as that a part lies within its slice, stand in place of proofs; parts that start at 0 mostly say so,
 // since the check then finds their length by itself.
-mod input; // records as they come, into two sketches
+mod input; // one read at a time; records as they come, into two sketches
 mod output; // the lines, all at once
 
+use crate::input::Got;
+use crate::input::Taken;
 use desk::heads::begin;
 use desk::states::finish;
 use params::Answer;
@@ -18,13 +20,25 @@ const MOST: usize = desk::heads::MOST_BUCKETS;
 
 fn main() {
     let mut buf = io::large_buffer();
-    let got = io::read_full(0, &mut buf);
-    let headed = begin(&buf[..got]);
-    let told = headed.answer;
+    open(&mut buf);
+}
+
+// Reads the first head and judges it.
+fn open(buf: &mut [u8]) {
+    let first = input::read_head(buf);
+    let Got::Bytes(got) = first else {
+        output::cannot_read();
+        return;
+    };
+    if buf.len() < got {
+        return;
+    }
+    let headed = begin(&buf[0..got]);
+    let answer = headed.answer;
     let p = headed.params;
-    match told {
+    match answer {
         Answer::Refused(refusal, at) => output::refusal(refusal, at),
-        Answer::Done => two_sketches(p, &mut buf, got),
+        Answer::Done => two_sketches(p, buf, got),
     }
 }
 
@@ -59,9 +73,13 @@ fn compare(
     buf: &mut [u8],
     got: usize,
 ) {
-    let s = input::read(p, up_counts, up_idsums, down_counts, down_idsums, buf, got);
-    let told = finish(s);
-    match told {
+    let taken = input::take(p, up_counts, up_idsums, down_counts, down_idsums, buf, got);
+    let Taken::All(s) = taken else {
+        output::cannot_read();
+        return;
+    };
+    let answer = finish(s);
+    match answer {
         Answer::Refused(refusal, at) => output::refusal(refusal, at),
         Answer::Done => a_table(p, up_counts, up_idsums, down_counts, down_idsums),
     }

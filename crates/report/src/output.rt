@@ -37,10 +37,20 @@ pub(crate) fn report(
     write_front(&out, n);
 }
 
-// Where a write fails, nothing follows it: the output then lacks its end.
+// The line where a read failed: what came before it is no whole input, and is not reported.
+pub(crate) fn cannot_read() {
+    io::write_all(libc::STDERR_FILENO, b"report: cannot read standard input\n");
+}
+
+// Where a write fails the output lacks its end, and a line on standard error says so.
 fn write_front(out: &[u8], n: usize) {
     if out.len() < n {
         return;
     }
-    io::write_all(1, &out[0..n]);
+    if !io::write_all(libc::STDOUT_FILENO, &out[0..n]) {
+        io::write_all(
+            libc::STDERR_FILENO,
+            b"report: cannot write standard output\n",
+        );
+    }
 }

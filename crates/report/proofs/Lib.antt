@@ -1,0 +1,2 @@
+-- The laws of the program's own part.
+pub mod Behind
