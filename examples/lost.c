@@ -26,11 +26,11 @@ static int refused(const char *call, uint32_t number, size_t place) {
 
 static int build(struct sketch *s, const uint32_t *flows, const uint32_t *numbers, size_t n) {
     size_t place;
-    uint32_t told = gabunlitik_fresh(params, s->counts, BUCKETS, s->idsums, BUCKETS, &place);
-    if (refused("fresh", told, place))
+    uint32_t refusal = gabunlitik_fresh(params, s->counts, BUCKETS, s->idsums, BUCKETS, &place);
+    if (refused("fresh", refusal, place))
         return 1;
-    told = gabunlitik_insert_all(params, s->counts, BUCKETS, s->idsums, BUCKETS, flows, n, numbers, n, &place);
-    return refused("insert_all", told, place);
+    refusal = gabunlitik_insert_all(params, s->counts, BUCKETS, s->idsums, BUCKETS, flows, n, numbers, n, &place);
+    return refused("insert_all", refusal, place);
 }
 
 int main(void) {
@@ -41,17 +41,17 @@ int main(void) {
         return 1;
 
     size_t place;
-    uint32_t told = gabunlitik_subtract(params, params, upstream.counts, BUCKETS, upstream.idsums, BUCKETS,
+    uint32_t refusal = gabunlitik_subtract(params, params, upstream.counts, BUCKETS, upstream.idsums, BUCKETS,
                                         downstream.counts, BUCKETS, downstream.idsums, BUCKETS, &place);
-    if (refused("subtract", told, place))
+    if (refused("subtract", refusal, place))
         return 1;
 
     uint32_t flows[SLOTS] = {0}, queue[BUCKETS] = {0}, marks[BUCKETS] = {0};
     int32_t counts[SLOTS] = {0};
     int64_t figures[GABUNLITIK_FIGURES];
-    told = gabunlitik_peel(params, upstream.counts, BUCKETS, upstream.idsums, BUCKETS, flows, SLOTS, counts, SLOTS,
+    refusal = gabunlitik_peel(params, upstream.counts, BUCKETS, upstream.idsums, BUCKETS, flows, SLOTS, counts, SLOTS,
                            queue, BUCKETS, marks, BUCKETS, 8 * BUCKETS, figures, &place);
-    if (refused("peel", told, place))
+    if (refused("peel", refusal, place))
         return 1;
     for (int64_t i = 0; i < figures[GABUNLITIK_ENTRIES]; i++)
         printf("loss %u %d\n", flows[i], counts[i]);

@@ -7,10 +7,10 @@
  * It ends, and it takes every input: what cannot be done is refused by number. It returns 0 where it is done and else one of the
  * refusals below. *place is then the lowest bucket at fault for DAMAGE and RANGE of the sketches that are lent; for every fault of a
  * record in a file that is read, the offset of its kind byte, or the file's length where a record is missing; and 0 for anything
- * else, as it is where nothing was refused. A refusal alters no lent memory but what the call tells through `place`, `length`,
- * `figures`, `position`, `index` and the parameters of a head. Where several things are wrong the lowest number is told, save that MISMATCH comes after PARAM and before LENGTH, that
- * of a list of packets that are inserted the first that is refused decides, and that a file is judged in its own order
- * (docs/FORMAT.md).
+ * else, as it is where nothing was refused. A refusal alters no lent memory. What a call returns through `place`, `length`, `figures`,
+ * `position`, `index` and the parameters of a head is written at every call, and is 0 where the call is refused, save for `place`.
+ * Where several things are wrong the lowest number is returned, save that MISMATCH comes after PARAM and before LENGTH, that of a list
+ * of packets that are inserted the first that is refused decides, and that a file is judged in its own order (docs/FORMAT.md).
  *
  * What the memory must be, which no call can check
  *
@@ -58,7 +58,7 @@ enum {
     GABUNLITIK_OFFSETS = 6
 };
 
-/* What a walk tells in `figures`: its ending, how many entries the table has, the sum of their counts, and the pops made. */
+/* What a walk returns in `figures`: its ending, how many entries the table has, the sum of their counts, and the pops made. */
 enum {
     GABUNLITIK_FIGURES = 4,
     GABUNLITIK_ENDING = 0,
@@ -90,14 +90,14 @@ uint32_t gabunlitik_insert(const uint32_t params[GABUNLITIK_PARAMS],
                            uint32_t flow, uint32_t number,
                            size_t *place);
 
-/* Takes `number` packets of `flow` out again, likewise; a flow of which there are none, or not so many, gets a count below 0. */
+/* Takes `number` packets of `flow` out again, likewise; its buckets' counts may fall below 0. */
 uint32_t gabunlitik_withdraw(const uint32_t params[GABUNLITIK_PARAMS],
                              int32_t *counts, size_t counts_len,
                              uint32_t *idsums, size_t idsums_len,
                              uint32_t flow, uint32_t number,
                              size_t *place);
 
-/* Puts numbers[i] packets of flows[i] in, for each i in turn, or none at all: the first that is refused is told, with its bucket where
+/* Puts numbers[i] packets of flows[i] in, for each i in turn, or none at all: the first that is refused decides, with its bucket where
  * one is at fault, and the sketch is as it was before the call. The two lists have one length, and it may be any. */
 uint32_t gabunlitik_insert_all(const uint32_t params[GABUNLITIK_PARAMS],
                                int32_t *counts, size_t counts_len,
@@ -124,7 +124,7 @@ uint32_t gabunlitik_subtract(const uint32_t params[GABUNLITIK_PARAMS],
                              const uint32_t *other_idsums, size_t other_idsums_len,
                              size_t *place);
 
-/* Peels the sketch into a table of flows and their counts with at most `allowance` pops, and tells the figures of the walk, all 0
+/* Peels the sketch into a table of flows and their counts with at most `allowance` pops, and returns the figures of the walk, all 0
  * where it is refused. The sketch then holds what remains: the table's own sketch added to it is the sketch that was lent, at every ending.
  * Table slots past the last entry, the queue and the marks are 0 afterwards; what they held before has no effect. The two table
  * slices have one length, 0 to 65536, which is how many flows the table takes; queue and marks are d * m long. */
@@ -154,20 +154,20 @@ uint32_t gabunlitik_index(const uint32_t params[GABUNLITIK_PARAMS],
 
 /* Writes the parameters in the head of a file of either kind, so that slices of the right lengths can be lent to the call that reads
  * it. All ten are 0 where it is refused: FORM where the bytes do not start with a whole head, PARAM where its parameters break a
- * rule. What stands after the head is not looked at. */
+ * rule. What stands after the head is not looked at. Parameters that are still wanted are not handed over to be written. */
 uint32_t gabunlitik_read_head(const uint8_t *bytes, size_t bytes_len,
                               uint32_t params[GABUNLITIK_PARAMS],
                               size_t *place);
 
 /* Inserts the packets of a stream file, whose head has these parameters, in turn. After a refusal the sketch is as it was. Damage
- * in the lent sketch is told at its bucket, RANGE of a packet at its record. */
+ * in the lent sketch has its bucket as the place, RANGE of a packet its record. */
 uint32_t gabunlitik_read_stream(const uint32_t params[GABUNLITIK_PARAMS],
                                 int32_t *counts, size_t counts_len,
                                 uint32_t *idsums, size_t idsums_len,
                                 const uint8_t *bytes, size_t bytes_len,
                                 size_t *place);
 
-/* Writes the stream file of these flows, each by its number, at the start of `out`, whose rest is not touched, and tells the file's
+/* Writes the stream file of these flows, each by its number, at the start of `out`, whose rest is not touched, and returns the file's
  * length, 0 where it is refused. A file of n flows has 43 + 9 * n bytes, and an `out` that is shorter is LENGTH; the two lists have
  * one length, 0 to 65536. */
 uint32_t gabunlitik_write_stream(const uint32_t params[GABUNLITIK_PARAMS],
@@ -184,7 +184,7 @@ uint32_t gabunlitik_read_sketch(const uint32_t params[GABUNLITIK_PARAMS],
                                 const uint8_t *bytes, size_t bytes_len,
                                 size_t *place);
 
-/* Writes the one file of the sketch at the start of `out`, whose rest is not touched, and tells its length, 0 where it is refused.
+/* Writes the one file of the sketch at the start of `out`, whose rest is not touched, and returns its length, 0 where it is refused.
  * A file of n buckets that are not all zero, damaged ones among them, has 43 + 13 * n bytes, and an `out` that is shorter is LENGTH. */
 uint32_t gabunlitik_write_sketch(const uint32_t params[GABUNLITIK_PARAMS],
                                  const int32_t *counts, size_t counts_len,

@@ -42,8 +42,8 @@ static struct slices nothing(void) {
     return s;
 }
 
-static struct told insert_four(const uint32_t *params, struct slices *s, uint32_t flow, uint32_t number) {
-    struct told t = untold();
+static struct returned insert_four(const uint32_t *params, struct slices *s, uint32_t flow, uint32_t number) {
+    struct returned t = nothing_yet();
     t.number = gabunlitik_insert(params, s->counts, SIZE, s->idsums, SIZE, flow, number, &t.place);
     return t;
 }
@@ -54,7 +54,7 @@ static void lost_and_doubled(void) {
     int32_t counts[2];
     int64_t figures[GABUNLITIK_FIGURES];
     struct slices s = nothing(), other = nothing(), expected = nothing(), zeros = nothing();
-    struct told t = untold();
+    struct returned t = nothing_yet();
     set(params);
     CHECK_DONE(insert_four(params, &s, FIRST, 3));
     CHECK_DONE(insert_four(params, &s, SECOND, 5));
@@ -69,7 +69,7 @@ static void lost_and_doubled(void) {
     CHECK_DONE(insert_four(params, &s, FIRST, 7));
     expect(&expected, FIRST, 7);
     CHECK(memcmp(&s, &expected, sizeof s) == 0);
-    t = untold();
+    t = nothing_yet();
     t.number = gabunlitik_subtract(params, params, s.counts, SIZE, s.idsums, SIZE, other.counts, SIZE, other.idsums,
                                    SIZE, &t.place);
     CHECK_DONE(t);
@@ -79,7 +79,7 @@ static void lost_and_doubled(void) {
     for (size_t i = 0; i < ARRAYS; i++)
         CHECK(position(i, FIRST) != position(i, SECOND));
     size_t first = position(0, FIRST) > position(0, SECOND), second = 1 - first;
-    t = untold();
+    t = nothing_yet();
     t.number = gabunlitik_peel(params, s.counts, SIZE, s.idsums, SIZE, flows, 2, counts, 2, queue, SIZE, marks, SIZE,
                                100, figures, &t.place);
     CHECK_DONE(t);
@@ -94,7 +94,7 @@ static void head(void) {
     uint32_t params[GABUNLITIK_PARAMS];
     uint8_t written[EMPTY], expected[EMPTY] = {1, ARRAYS, [HEAD] = 4};
     struct slices s = nothing();
-    struct told t = untold();
+    struct returned t = nothing_yet();
     size_t length;
     set(params);
     put(expected + 2, WIDTH);
@@ -108,7 +108,7 @@ static void head(void) {
     CHECK(length == EMPTY && memcmp(written, expected, EMPTY) == 0);
     uint32_t read[GABUNLITIK_PARAMS];
     memset(read, 0xa5, sizeof read);
-    t = untold();
+    t = nothing_yet();
     t.number = gabunlitik_read_head(written, EMPTY, read, &t.place);
     CHECK_DONE(t);
     CHECK(memcmp(read, params, sizeof read) == 0);
@@ -121,12 +121,12 @@ static void places(void) {
     for (size_t i = 0; i < 2 * ARRAYS; i++) {
         uint32_t array = (uint32_t)(i / 2 + 1), flow = i % 2 ? FIRST : SECOND;
         size_t wanted = position(array - 1, flow), found;
-        struct told t = untold();
+        struct returned t = nothing_yet();
         memset(&found, 0xa5, sizeof found);
         t.number = gabunlitik_position(params, array, flow, &found, &t.place);
         CHECK_DONE(t);
         CHECK(found == wanted);
-        t = untold();
+        t = nothing_yet();
         t.number = gabunlitik_index(params, array, flow, &found, &t.place);
         CHECK_DONE(t);
         CHECK(found == (array - 1) * WIDTH + wanted);
@@ -141,15 +141,15 @@ static void changed(void) {
     expect(&t, FIRST, 3);
     struct slices kept = t;
     for (size_t i = 0; i < GABUNLITIK_PARAMS; i++) {
-        struct told told = untold();
+        struct returned returned = nothing_yet();
         set(other);
         other[i]--;
         /* With three arrays the fourth pair is one too many; and the first multiplier becomes 0. */
         uint32_t number =
             i == GABUNLITIK_D || i == GABUNLITIK_MULTIPLIERS ? GABUNLITIK_PARAM : GABUNLITIK_MISMATCH;
-        told.number = gabunlitik_add(params, other, s.counts, SIZE, s.idsums, SIZE, t.counts, SIZE, t.idsums, SIZE,
-                                     &told.place);
-        CHECK_TOLD(told, number, 0);
+        returned.number = gabunlitik_add(params, other, s.counts, SIZE, s.idsums, SIZE, t.counts, SIZE, t.idsums, SIZE,
+                                     &returned.place);
+        CHECK_RETURNS(returned, number, 0);
         CHECK(memcmp(&s, &zeros, sizeof s) == 0 && memcmp(&t, &kept, sizeof t) == 0);
     }
 }

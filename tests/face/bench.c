@@ -34,21 +34,21 @@ void check(int held, const char *file, int line, const char *what) {
     printf("%s:%d: does not hold: %s\n", file, line, what);
 }
 
-void check_told(struct told told, uint32_t number, size_t place, const char *file, int line, const char *what) {
-    check(told.number == number && told.place == place, file, line, what);
-    if (told.number != number || told.place != place)
-        printf("    told %u at %zu, expected %u at %zu\n", told.number, told.place, number, place);
+void check_returns(struct returned returned, uint32_t number, size_t place, const char *file, int line, const char *what) {
+    check(returned.number == number && returned.place == place, file, line, what);
+    if (returned.number != number || returned.place != place)
+        printf("    returned %u at %zu, expected %u at %zu\n", returned.number, returned.place, number, place);
 }
 
-struct told untold(void) {
-    struct told t;
+struct returned nothing_yet(void) {
+    struct returned t;
     memset(&t, 0xa5, sizeof t);
     return t;
 }
 
 struct sketch fresh_sketch(void) {
     struct sketch s;
-    struct told t = untold();
+    struct returned t = nothing_yet();
     memset(&s, 0x80, sizeof s);
     s.counts_guard = GUARD;
     s.idsums_guard = (uint32_t)GUARD;
@@ -93,33 +93,33 @@ struct sketch e7(void) {
     return s;
 }
 
-struct told insert(struct sketch *s, uint32_t flow, uint32_t number) {
-    struct told t = untold();
+struct returned insert(struct sketch *s, uint32_t flow, uint32_t number) {
+    struct returned t = nothing_yet();
     t.number = gabunlitik_insert(K, s->counts, BUCKETS, s->idsums, BUCKETS, flow, number, &t.place);
     return t;
 }
 
-struct told withdraw(struct sketch *s, uint32_t flow, uint32_t number) {
-    struct told t = untold();
+struct returned withdraw(struct sketch *s, uint32_t flow, uint32_t number) {
+    struct returned t = nothing_yet();
     t.number = gabunlitik_withdraw(K, s->counts, BUCKETS, s->idsums, BUCKETS, flow, number, &t.place);
     return t;
 }
 
-struct told insert_all(struct sketch *s, const uint32_t *flows, const uint32_t *numbers, size_t n) {
-    struct told t = untold();
+struct returned insert_all(struct sketch *s, const uint32_t *flows, const uint32_t *numbers, size_t n) {
+    struct returned t = nothing_yet();
     t.number = gabunlitik_insert_all(K, s->counts, BUCKETS, s->idsums, BUCKETS, flows, n, numbers, n, &t.place);
     return t;
 }
 
-struct told add(struct sketch *s, const struct sketch *other) {
-    struct told t = untold();
+struct returned add(struct sketch *s, const struct sketch *other) {
+    struct returned t = nothing_yet();
     t.number = gabunlitik_add(K, K, s->counts, BUCKETS, s->idsums, BUCKETS, other->counts, BUCKETS, other->idsums,
                               BUCKETS, &t.place);
     return t;
 }
 
-struct told subtract(struct sketch *s, const struct sketch *other) {
-    struct told t = untold();
+struct returned subtract(struct sketch *s, const struct sketch *other) {
+    struct returned t = nothing_yet();
     t.number = gabunlitik_subtract(K, K, s->counts, BUCKETS, s->idsums, BUCKETS, other->counts, BUCKETS, other->idsums,
                                    BUCKETS, &t.place);
     return t;

@@ -26,28 +26,28 @@ struct sketch {
     uint32_t idsums_guard;
 };
 
-/* What a call told. */
-struct told {
+/* What a call returned. */
+struct returned {
     uint32_t number;
     size_t place;
 };
 
 /* Every byte is 0xa5, so that a call that tells nothing, or a part of a number alone, is seen. */
-struct told untold(void);
+struct returned nothing_yet(void);
 
 #define CHECK(held) check((held) != 0, __FILE__, __LINE__, #held)
-#define CHECK_TOLD(call, number, place) check_told((call), (number), (place), __FILE__, __LINE__, #call)
-#define CHECK_DONE(call) CHECK_TOLD(call, GABUNLITIK_DONE, 0)
+#define CHECK_RETURNS(call, number, place) check_returns((call), (number), (place), __FILE__, __LINE__, #call)
+#define CHECK_DONE(call) CHECK_RETURNS(call, GABUNLITIK_DONE, 0)
 
 /* A refusal leaves the sketch `s` as `kept`, a copy from before. */
 #define CHECK_REFUSED(call, number, place, s, kept) \
     do { \
-        CHECK_TOLD(call, number, place); \
+        CHECK_RETURNS(call, number, place); \
         CHECK(same(s, kept)); \
     } while (0)
 
 void check(int held, const char *file, int line, const char *what);
-void check_told(struct told told, uint32_t number, size_t place, const char *file, int line, const char *what);
+void check_returns(struct returned returned, uint32_t number, size_t place, const char *file, int line, const char *what);
 
 /* A sketch that `fresh` made of slices full of damage. */
 struct sketch fresh_sketch(void);
@@ -59,11 +59,11 @@ struct sketch e5(void); /* 2 by 1, 12 by -1 */
 struct sketch e6(void); /* 7 by -4 */
 struct sketch e7(void); /* 2147483646 by 2147483646 */
 
-struct told insert(struct sketch *s, uint32_t flow, uint32_t number);
-struct told withdraw(struct sketch *s, uint32_t flow, uint32_t number);
-struct told insert_all(struct sketch *s, const uint32_t *flows, const uint32_t *numbers, size_t n);
-struct told add(struct sketch *s, const struct sketch *other);
-struct told subtract(struct sketch *s, const struct sketch *other);
+struct returned insert(struct sketch *s, uint32_t flow, uint32_t number);
+struct returned withdraw(struct sketch *s, uint32_t flow, uint32_t number);
+struct returned insert_all(struct sketch *s, const uint32_t *flows, const uint32_t *numbers, size_t n);
+struct returned add(struct sketch *s, const struct sketch *other);
+struct returned subtract(struct sketch *s, const struct sketch *other);
 
 int same(const struct sketch *s, const struct sketch *t);
 int bucket_is(const struct sketch *s, size_t index, int32_t count, uint32_t idsum);

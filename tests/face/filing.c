@@ -12,7 +12,7 @@ static const uint8_t stream[STREAM] = {HEAD, 2, 0, 0, 0, 7, 0, 0, 0, 1, 2, 0, 0,
 static const uint8_t stored[SKETCH] = {HEAD, 3, 0, 0, 0, 2, 0, 0, 0, 3, 0, 0, 0, 31, 3, 0, 0, 0, 6, 0, 0, 0, 2,
                                        0, 0, 0, 24, 3, 0, 0, 0, 7, 0, 0, 0, 1, 0, 0, 0, 7, 4, 0, 0, 0, 3};
 
-/* An output, and the length that a writer told. */
+/* An output, and the length that a writer returned. */
 struct output {
     uint8_t bytes[ROOM];
     size_t length;
@@ -31,26 +31,26 @@ static int holds(const struct output *o, const uint8_t *file, size_t length) {
            memcmp(o->bytes + length, rest.bytes + length, ROOM - length) == 0;
 }
 
-static struct told read_stream(struct sketch *s, const uint8_t *bytes, size_t length) {
-    struct told t = untold();
+static struct returned read_stream(struct sketch *s, const uint8_t *bytes, size_t length) {
+    struct returned t = nothing_yet();
     t.number = gabunlitik_read_stream(K, s->counts, BUCKETS, s->idsums, BUCKETS, bytes, length, &t.place);
     return t;
 }
 
-static struct told read_sketch(struct sketch *s, const uint8_t *bytes, size_t length) {
-    struct told t = untold();
+static struct returned read_sketch(struct sketch *s, const uint8_t *bytes, size_t length) {
+    struct returned t = nothing_yet();
     t.number = gabunlitik_read_sketch(K, s->counts, BUCKETS, s->idsums, BUCKETS, bytes, length, &t.place);
     return t;
 }
 
-static struct told write_stream(struct output *o, size_t room, const uint32_t *of, size_t n, const uint32_t *by) {
-    struct told t = untold();
+static struct returned write_stream(struct output *o, size_t room, const uint32_t *of, size_t n, const uint32_t *by) {
+    struct returned t = nothing_yet();
     t.number = gabunlitik_write_stream(K, of, n, by, n, o->bytes, room, &o->length, &t.place);
     return t;
 }
 
-static struct told write_sketch(struct output *o, size_t room, const struct sketch *s) {
-    struct told t = untold();
+static struct returned write_sketch(struct output *o, size_t room, const struct sketch *s) {
+    struct returned t = nothing_yet();
     t.number = gabunlitik_write_sketch(K, s->counts, BUCKETS, s->idsums, BUCKETS, o->bytes, room, &o->length, &t.place);
     return t;
 }
@@ -84,34 +84,34 @@ static struct output changed(const uint8_t *file, size_t length, size_t at, uint
     return o;
 }
 
-static struct told read_changed_stream(struct sketch *s, size_t at, uint8_t byte) {
+static struct returned read_changed_stream(struct sketch *s, size_t at, uint8_t byte) {
     struct output o = changed(stream, STREAM, at, byte);
     return read_stream(s, o.bytes, o.length);
 }
 
-static struct told read_changed_sketch(struct sketch *s, size_t at, uint8_t byte) {
+static struct returned read_changed_sketch(struct sketch *s, size_t at, uint8_t byte) {
     struct output o = changed(stored, SKETCH, at, byte);
     return read_sketch(s, o.bytes, o.length);
 }
 
-/* What a call told of a head, and the parameters that it wrote. */
+/* What a call returned of a head, and the parameters that it wrote. */
 struct headed {
-    struct told told;
+    struct returned returned;
     uint32_t params[GABUNLITIK_PARAMS];
 };
 
 static struct headed read_head(const uint8_t *bytes, size_t length) {
     struct headed h;
-    h.told = untold();
+    h.returned = nothing_yet();
     memset(h.params, 0xa5, sizeof h.params);
-    h.told.number = gabunlitik_read_head(bytes, length, h.params, &h.told.place);
+    h.returned.number = gabunlitik_read_head(bytes, length, h.params, &h.returned.place);
     return h;
 }
 
 /* Every byte of the parameters is 0 after a refusal. */
 static void check_headless(struct headed h, uint32_t number) {
     static const uint32_t none[GABUNLITIK_PARAMS];
-    CHECK_TOLD(h.told, number, 0);
+    CHECK_RETURNS(h.returned, number, 0);
     CHECK(memcmp(h.params, none, sizeof none) == 0);
 }
 
@@ -119,16 +119,16 @@ static void check_headless(struct headed h, uint32_t number) {
 static void heads(void) {
     struct headed h = read_head(stream, STREAM);
     struct output o = changed(stream, STREAM, 38, 255);
-    CHECK_DONE(h.told);
+    CHECK_DONE(h.returned);
     CHECK(memcmp(h.params, K, sizeof K) == 0);
     h = read_head(stored, SKETCH);
-    CHECK_DONE(h.told);
+    CHECK_DONE(h.returned);
     CHECK(memcmp(h.params, K, sizeof K) == 0);
     h = read_head(stream, 38);
-    CHECK_DONE(h.told);
+    CHECK_DONE(h.returned);
     CHECK(memcmp(h.params, K, sizeof K) == 0);
     h = read_head(o.bytes, o.length);
-    CHECK_DONE(h.told);
+    CHECK_DONE(h.returned);
     for (size_t length = 0; length < 38; length++)
         check_headless(read_head(stream, length), GABUNLITIK_FORM);
     for (unsigned kind = 0; kind < 256; kind++)
@@ -151,13 +151,13 @@ static void heads(void) {
 static void refused_streams(void) {
     struct sketch s = e7(), kept = s;
     struct output longer = changed(stream, STREAM, STREAM, 0);
-    struct told t = untold();
+    struct returned t = nothing_yet();
     t.number = gabunlitik_read_stream(BAD, s.counts, BUCKETS, s.idsums, BUCKETS, stream, STREAM, &t.place);
     CHECK_REFUSED(t, GABUNLITIK_PARAM, 0, &s, &kept);
-    t = untold();
+    t = nothing_yet();
     t.number = gabunlitik_read_stream(OTHER, s.counts, BUCKETS, s.idsums, BUCKETS, stream, STREAM, &t.place);
     CHECK_REFUSED(t, GABUNLITIK_MISMATCH, 0, &s, &kept);
-    t = untold();
+    t = nothing_yet();
     t.number = gabunlitik_read_stream(K, s.counts, BUCKETS, s.idsums, BUCKETS - 1, stream, STREAM, &t.place);
     CHECK_REFUSED(t, GABUNLITIK_LENGTH, 0, &s, &kept);
     CHECK_REFUSED(read_stream(&s, stream, 0), GABUNLITIK_FORM, 0, &s, &kept);
@@ -184,13 +184,13 @@ static void refused_streams(void) {
 static void refused_sketches(void) {
     struct sketch s = e7(), kept = s;
     struct output longer = changed(stored, SKETCH, SKETCH, 4);
-    struct told t = untold();
+    struct returned t = nothing_yet();
     t.number = gabunlitik_read_sketch(BAD, s.counts, BUCKETS, s.idsums, BUCKETS, stored, SKETCH, &t.place);
     CHECK_REFUSED(t, GABUNLITIK_PARAM, 0, &s, &kept);
-    t = untold();
+    t = nothing_yet();
     t.number = gabunlitik_read_sketch(OTHER, s.counts, BUCKETS, s.idsums, BUCKETS, stored, SKETCH, &t.place);
     CHECK_REFUSED(t, GABUNLITIK_MISMATCH, 0, &s, &kept);
-    t = untold();
+    t = nothing_yet();
     t.number = gabunlitik_read_sketch(K, s.counts, BUCKETS - 1, s.idsums, BUCKETS, stored, SKETCH, &t.place);
     CHECK_REFUSED(t, GABUNLITIK_LENGTH, 0, &s, &kept);
     CHECK_REFUSED(read_sketch(&s, longer.bytes, SKETCH + 1), GABUNLITIK_FORM, SKETCH, &s, &kept);
@@ -215,25 +215,25 @@ static void refused_writing(void) {
     static const uint32_t no_flow[] = {7, 2147483647}, no_number[] = {0, 1};
     struct sketch s = e1(), kept = s;
     struct output o = unwritten();
-    struct told t = untold();
+    struct returned t = nothing_yet();
     t.number = gabunlitik_write_stream(BAD, flows, 2, numbers, 2, o.bytes, ROOM, &o.length, &t.place);
-    CHECK_TOLD(t, GABUNLITIK_PARAM, 0);
+    CHECK_RETURNS(t, GABUNLITIK_PARAM, 0);
     check_unwritten(&o);
-    t = untold();
+    t = nothing_yet();
     t.number = gabunlitik_write_stream(K, flows, 2, numbers, 1, o.bytes, ROOM, &o.length, &t.place);
-    CHECK_TOLD(t, GABUNLITIK_LENGTH, 0);
+    CHECK_RETURNS(t, GABUNLITIK_LENGTH, 0);
     check_unwritten(&o);
-    t = untold();
+    t = nothing_yet();
     t.number = gabunlitik_write_stream(K, flows, 1, numbers, 2, o.bytes, ROOM, &o.length, &t.place);
-    CHECK_TOLD(t, GABUNLITIK_LENGTH, 0);
+    CHECK_RETURNS(t, GABUNLITIK_LENGTH, 0);
     check_unwritten(&o);
-    CHECK_TOLD(write_stream(&o, STREAM - 1, flows, 2, numbers), GABUNLITIK_LENGTH, 0);
+    CHECK_RETURNS(write_stream(&o, STREAM - 1, flows, 2, numbers), GABUNLITIK_LENGTH, 0);
     check_unwritten(&o);
-    CHECK_TOLD(write_stream(&o, ROOM, no_flow, 2, no_number), GABUNLITIK_FLOW, 0);
+    CHECK_RETURNS(write_stream(&o, ROOM, no_flow, 2, no_number), GABUNLITIK_FLOW, 0);
     check_unwritten(&o);
-    CHECK_TOLD(write_stream(&o, ROOM, flows, 2, no_number), GABUNLITIK_COUNT, 0);
+    CHECK_RETURNS(write_stream(&o, ROOM, flows, 2, no_number), GABUNLITIK_COUNT, 0);
     check_unwritten(&o);
-    t = untold();
+    t = nothing_yet();
     t.number = gabunlitik_write_sketch(BAD, s.counts, BUCKETS, s.idsums, BUCKETS, o.bytes, ROOM, &o.length, &t.place);
     CHECK_REFUSED(t, GABUNLITIK_PARAM, 0, &s, &kept);
     check_unwritten(&o);
@@ -249,12 +249,12 @@ static void damaged_writing(void) {
     static uint8_t out[43 + 13 * BUCKETS], kept[43 + 13 * BUCKETS];
     struct sketch s = fresh_sketch();
     for (size_t room = sizeof out - 1; room <= sizeof out; room++) {
-        struct told t = untold();
+        struct returned t = nothing_yet();
         size_t length;
         memset(&length, 0xa5, sizeof length);
         memset(s.idsums, 0xff, sizeof s.idsums);
         t.number = gabunlitik_write_sketch(K, s.counts, BUCKETS, s.idsums, BUCKETS, out, room, &length, &t.place);
-        CHECK_TOLD(t, room == sizeof out ? GABUNLITIK_DAMAGE : GABUNLITIK_LENGTH, 0);
+        CHECK_RETURNS(t, room == sizeof out ? GABUNLITIK_DAMAGE : GABUNLITIK_LENGTH, 0);
         CHECK(length == 0 && memcmp(out, kept, sizeof out) == 0);
     }
 }

@@ -28,8 +28,8 @@ static int listed(void) {
     return 1;
 }
 
-static struct told write_stream(size_t flows_len, size_t numbers_len, size_t *length) {
-    struct told t = untold();
+static struct returned write_stream(size_t flows_len, size_t numbers_len, size_t *length) {
+    struct returned t = nothing_yet();
     memset(out, 0xa5, sizeof out);
     memset(length, 0xa5, sizeof *length);
     t.number = gabunlitik_write_stream(K, flows, flows_len, numbers, numbers_len, out, ROOM, length, &t.place);
@@ -39,14 +39,14 @@ static struct told write_stream(size_t flows_len, size_t numbers_len, size_t *le
 static void lists(void) {
     const size_t refused[][2] = {{OVER, OVER}, {MOST, MOST - 1}, {MOST - 1, MOST}, {OVER, MOST}, {MOST, OVER}};
     struct sketch s = fresh_sketch(), wanted = fresh_sketch();
-    struct told t = untold();
+    struct returned t = nothing_yet();
     size_t length;
     for (uint32_t i = 0; i < OVER; i++) {
         flows[i] = i;
         numbers[i] = i % 1000 + 1;
     }
     for (size_t i = 0; i < sizeof refused / sizeof refused[0]; i++) {
-        CHECK_TOLD(write_stream(refused[i][0], refused[i][1], &length), GABUNLITIK_LENGTH, 0);
+        CHECK_RETURNS(write_stream(refused[i][0], refused[i][1], &length), GABUNLITIK_LENGTH, 0);
         CHECK(length == 0 && all_are(0xa5, out, ROOM));
     }
     CHECK_DONE(write_stream(MOST, MOST, &length));
@@ -59,8 +59,8 @@ static void lists(void) {
     CHECK(listed());
 }
 
-static struct told peel(struct sketch *s, size_t flows_len, size_t counts_len, int64_t figures[GABUNLITIK_FIGURES]) {
-    struct told t = untold();
+static struct returned peel(struct sketch *s, size_t flows_len, size_t counts_len, int64_t figures[GABUNLITIK_FIGURES]) {
+    struct returned t = nothing_yet();
     memset(&walk, 0xa5, sizeof walk);
     memset(figures, 0xa5, GABUNLITIK_FIGURES * sizeof figures[0]);
     t.number = gabunlitik_peel(K, s->counts, BUCKETS, s->idsums, BUCKETS, walk.flows, flows_len, walk.counts, counts_len,

@@ -3,17 +3,17 @@
 
 typedef uint32_t finding(const uint32_t *params, uint32_t array, uint32_t flow, size_t *found, size_t *place);
 
-/* What a call told, and the position or the index that it found. */
+/* What a call returned, and the position or the index that it found. */
 struct found {
-    struct told told;
+    struct returned returned;
     size_t at;
 };
 
 static struct found find(finding *call, const uint32_t *params, uint32_t array, uint32_t flow) {
     struct found f;
-    f.told = untold();
+    f.returned = nothing_yet();
     memset(&f.at, 0xa5, sizeof f.at);
-    f.told.number = call(params, array, flow, &f.at, &f.told.place);
+    f.returned.number = call(params, array, flow, &f.at, &f.returned.place);
     return f;
 }
 
@@ -23,26 +23,26 @@ static void places(void) {
     static const size_t positions[] = {1, 2, 4, 1, 0};
     for (size_t i = 0; i < 5; i++) {
         struct found f = find(gabunlitik_position, K, 1, flows[i]);
-        CHECK_DONE(f.told);
+        CHECK_DONE(f.returned);
         CHECK(f.at == flows[i] % M);
         f = find(gabunlitik_index, K, 1, flows[i]);
-        CHECK_DONE(f.told);
+        CHECK_DONE(f.returned);
         CHECK(f.at == flows[i] % M);
         f = find(gabunlitik_position, K, 2, flows[i]);
-        CHECK_DONE(f.told);
+        CHECK_DONE(f.returned);
         CHECK(f.at == positions[i]);
         f = find(gabunlitik_index, K, 2, flows[i]);
-        CHECK_DONE(f.told);
+        CHECK_DONE(f.returned);
         CHECK(f.at == M + positions[i]);
     }
 }
 
 static void check_refused(const uint32_t *params, uint32_t array, uint32_t flow, uint32_t number) {
     struct found f = find(gabunlitik_position, params, array, flow);
-    CHECK_TOLD(f.told, number, 0);
+    CHECK_RETURNS(f.returned, number, 0);
     CHECK(f.at == 0);
     f = find(gabunlitik_index, params, array, flow);
-    CHECK_TOLD(f.told, number, 0);
+    CHECK_RETURNS(f.returned, number, 0);
     CHECK(f.at == 0);
 }
 

@@ -100,15 +100,15 @@ static void limits(void) {
         s.counts[buckets[i].index] = buckets[i].count;
         s.idsums[buckets[i].index] = buckets[i].idsum;
         kept = s;
-        CHECK_TOLD(insert(&s, 7, 1), buckets[i].inserted, buckets[i].inserted ? buckets[i].index : 0);
+        CHECK_RETURNS(insert(&s, 7, 1), buckets[i].inserted, buckets[i].inserted ? buckets[i].index : 0);
         CHECK(buckets[i].inserted == GABUNLITIK_DONE || same(&s, &kept));
         s = kept;
-        CHECK_TOLD(withdraw(&s, 7, 1), buckets[i].withdrawn, buckets[i].withdrawn ? buckets[i].index : 0);
+        CHECK_RETURNS(withdraw(&s, 7, 1), buckets[i].withdrawn, buckets[i].withdrawn ? buckets[i].index : 0);
         CHECK(buckets[i].withdrawn == GABUNLITIK_DONE || same(&s, &kept));
     }
 }
 
-/* Of several faults the lowest number is told, and of one number the lowest index. */
+/* Of several faults the lowest number is returned, and of one number the lowest index. */
 static void several_faults(void) {
     struct sketch s = fresh_sketch(), kept;
     s.counts[2] = s.counts[7] = 2147483646;
@@ -138,16 +138,16 @@ static void refused_lists(void) {
 static void refused_parameters(void) {
     static const uint32_t flow = 7, number = 1;
     struct sketch s = e1(), kept = s;
-    struct told t = untold();
+    struct returned t = nothing_yet();
     t.number = gabunlitik_fresh(BAD, s.counts, BUCKETS, s.idsums, BUCKETS, &t.place);
     CHECK_REFUSED(t, GABUNLITIK_PARAM, 0, &s, &kept);
-    t = untold();
+    t = nothing_yet();
     t.number = gabunlitik_insert(BAD, s.counts, BUCKETS, s.idsums, BUCKETS, flow, number, &t.place);
     CHECK_REFUSED(t, GABUNLITIK_PARAM, 0, &s, &kept);
-    t = untold();
+    t = nothing_yet();
     t.number = gabunlitik_withdraw(BAD, s.counts, BUCKETS, s.idsums, BUCKETS, flow, number, &t.place);
     CHECK_REFUSED(t, GABUNLITIK_PARAM, 0, &s, &kept);
-    t = untold();
+    t = nothing_yet();
     t.number = gabunlitik_insert_all(BAD, s.counts, BUCKETS, s.idsums, BUCKETS, &flow, 1, &number, 1, &t.place);
     CHECK_REFUSED(t, GABUNLITIK_PARAM, 0, &s, &kept);
 }
@@ -156,16 +156,16 @@ static void refused_parameters(void) {
 static void rules(void) {
     static const uint32_t apart[GABUNLITIK_PARAMS] = {D, M, 1, 1, 0, 0, 7, 8, 0, 0};
     struct sketch s = e1(), kept = s;
-    struct told t = untold();
+    struct returned t = nothing_yet();
     for (size_t i = 0; i < WAYS; i++) {
-        t = untold();
+        t = nothing_yet();
         t.number = gabunlitik_fresh(BROKEN[i], s.counts, BUCKETS - 1, s.idsums, BUCKETS, &t.place);
         CHECK_REFUSED(t, GABUNLITIK_PARAM, 0, &s, &kept);
-        t = untold();
+        t = nothing_yet();
         t.number = gabunlitik_withdraw(BROKEN[i], s.counts, BUCKETS, s.idsums, BUCKETS, 7, 1, &t.place);
         CHECK_REFUSED(t, GABUNLITIK_PARAM, 0, &s, &kept);
     }
-    t = untold();
+    t = nothing_yet();
     t.number = gabunlitik_fresh(apart, s.counts, BUCKETS, s.idsums, BUCKETS, &t.place);
     CHECK_DONE(t);
 }
@@ -173,22 +173,22 @@ static void rules(void) {
 static void refused_lengths(void) {
     static const uint32_t flows[] = {7, 12}, numbers[] = {1, 2};
     struct sketch s = e1(), kept = s;
-    struct told t = untold();
+    struct returned t = nothing_yet();
     t.number = gabunlitik_fresh(K, s.counts, BUCKETS - 1, s.idsums, BUCKETS, &t.place);
     CHECK_REFUSED(t, GABUNLITIK_LENGTH, 0, &s, &kept);
-    t = untold();
+    t = nothing_yet();
     t.number = gabunlitik_insert(K, s.counts, BUCKETS, s.idsums, BUCKETS - 1, 2147483647, 0, &t.place);
     CHECK_REFUSED(t, GABUNLITIK_LENGTH, 0, &s, &kept);
-    t = untold();
+    t = nothing_yet();
     t.number = gabunlitik_withdraw(K, s.counts, BUCKETS, s.idsums, BUCKETS - 1, 2147483647, 0, &t.place);
     CHECK_REFUSED(t, GABUNLITIK_LENGTH, 0, &s, &kept);
-    t = untold();
+    t = nothing_yet();
     t.number = gabunlitik_withdraw(K, s.counts, BUCKETS - 1, s.idsums, BUCKETS, 7, 1, &t.place);
     CHECK_REFUSED(t, GABUNLITIK_LENGTH, 0, &s, &kept);
-    t = untold();
+    t = nothing_yet();
     t.number = gabunlitik_insert_all(K, s.counts, BUCKETS, s.idsums, BUCKETS, flows, 2, numbers, 1, &t.place);
     CHECK_REFUSED(t, GABUNLITIK_LENGTH, 0, &s, &kept);
-    t = untold();
+    t = nothing_yet();
     t.number = gabunlitik_insert_all(K, s.counts, BUCKETS, s.idsums, BUCKETS, flows, 1, numbers, 2, &t.place);
     CHECK_REFUSED(t, GABUNLITIK_LENGTH, 0, &s, &kept);
 }

@@ -50,18 +50,18 @@ typedef uint32_t sum(const uint32_t *params, const uint32_t *other_params, int32
                      uint32_t *idsums, size_t idsums_len, const int32_t *other_counts, size_t other_counts_len,
                      const uint32_t *other_idsums, size_t other_idsums_len, size_t *place);
 
-/* Both sketches have damage and would leave the range, so that what is told comes before these; `slice` is lent too short. */
+/* Both sketches have damage and would leave the range, so that what is returned comes before these; `slice` is lent too short. */
 static void check_sum(sum *call, const uint32_t *params, const uint32_t *other_params, enum slice slice,
                       uint32_t number, const char *file, int line, const char *what) {
     struct sketch s = e7(), other = e7(), kept, other_kept;
-    struct told t = untold();
+    struct returned t = nothing_yet();
     s.counts[4] = other.counts[4] = -2147483647;
     kept = s;
     other_kept = other;
     t.number = call(params, other_params, s.counts, BUCKETS - (slice == COUNTS), s.idsums, BUCKETS - (slice == IDSUMS),
                     other.counts, BUCKETS - (slice == OTHER_COUNTS), other.idsums, BUCKETS - (slice == OTHER_IDSUMS),
                     &t.place);
-    check_told(t, number, 0, file, line, what);
+    check_returns(t, number, 0, file, line, what);
     check(same(&s, &kept) && same(&other, &other_kept), file, line, what);
 }
 

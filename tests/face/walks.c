@@ -19,8 +19,8 @@ static struct walk unwalked(void) {
     return w;
 }
 
-static struct told peel(struct sketch *s, struct walk *w, size_t slots, uint32_t allowance) {
-    struct told t = untold();
+static struct returned peel(struct sketch *s, struct walk *w, size_t slots, uint32_t allowance) {
+    struct returned t = nothing_yet();
     t.number = gabunlitik_peel(K, s->counts, BUCKETS, s->idsums, BUCKETS, w->flows, slots, w->counts, slots, w->queue,
                                BUCKETS, w->marks, BUCKETS, allowance, w->figures, &t.place);
     return t;
@@ -130,27 +130,27 @@ static void check_unwalked(struct walk *w) {
 static void refused(void) {
     struct sketch s = e1(), kept = s;
     struct walk w = unwalked();
-    struct told t = untold();
+    struct returned t = nothing_yet();
     t.number = gabunlitik_peel(BAD, s.counts, BUCKETS, s.idsums, BUCKETS, w.flows, 4, w.counts, 4, w.queue, BUCKETS,
                                w.marks, BUCKETS, 80, w.figures, &t.place);
     CHECK_REFUSED(t, GABUNLITIK_PARAM, 0, &s, &kept);
     check_unwalked(&w);
-    t = untold();
+    t = nothing_yet();
     t.number = gabunlitik_peel(K, s.counts, BUCKETS, s.idsums, BUCKETS, w.flows, 4, w.counts, 3, w.queue, BUCKETS,
                                w.marks, BUCKETS, 80, w.figures, &t.place);
     CHECK_REFUSED(t, GABUNLITIK_LENGTH, 0, &s, &kept);
     check_unwalked(&w);
-    t = untold();
+    t = nothing_yet();
     t.number = gabunlitik_peel(K, s.counts, BUCKETS, s.idsums, BUCKETS, w.flows, 4, w.counts, 4, w.queue, BUCKETS - 1,
                                w.marks, BUCKETS, 80, w.figures, &t.place);
     CHECK_REFUSED(t, GABUNLITIK_LENGTH, 0, &s, &kept);
     check_unwalked(&w);
-    t = untold();
+    t = nothing_yet();
     t.number = gabunlitik_peel(K, s.counts, BUCKETS, s.idsums, BUCKETS, w.flows, 4, w.counts, 4, w.queue, BUCKETS,
                                w.marks, BUCKETS - 1, 80, w.figures, &t.place);
     CHECK_REFUSED(t, GABUNLITIK_LENGTH, 0, &s, &kept);
     check_unwalked(&w);
-    t = untold();
+    t = nothing_yet();
     t.number = gabunlitik_peel(K, s.counts, BUCKETS - 1, s.idsums, BUCKETS, w.flows, 4, w.counts, 4, w.queue, BUCKETS,
                                w.marks, BUCKETS, 80, w.figures, &t.place);
     CHECK_REFUSED(t, GABUNLITIK_LENGTH, 0, &s, &kept);

@@ -26,10 +26,10 @@ use Rattle.peel.specs.declared.peeling.Peeled.{Peeled}
 use Rattle.peel.specs.Slices.{Slices, lentSketch}
 use Rattle.peel.specs.Peel.{peeledOf, peeledNumber, peeledIndex, peeledEntries, judged, walked, Peels}
 use Rattle.peel.proofs.Judged.{judged-peelable}
-use Rattle.face.specs.Returned.{paramsOf, paramNumbers, figuresIn, Returned, ReturnedLength, ReturnedFigures, LocatedReturned, HeadReturned}
+use Rattle.face.specs.Returned.{paramsOf, paramNumbers, figuresIn, AnswerReturned, WrittenReturned, PeeledReturned, LocatedReturned, HeadReturned}
 
 pub returned : {answer : Answer} {Contract : Answer → Type 0} {number place : ℕ} (x : Answer)
-    → x ≡ answer → Contract x → (number ≡ numberIn x) × (place ≡ indexIn x) → Returned answer Contract number place
+    → x ≡ answer → Contract x → (number ≡ numberIn x) × (place ≡ indexIn x) → AnswerReturned answer Contract number place
 returned {Contract} x e held t =
     record {
       number-returned = t .0 ∙ ap numberIn e;
@@ -37,10 +37,10 @@ returned {Contract} x e held t =
       call = subst Contract e held;
     }
 
-pub returned-length : {written : Written} {Contract : Written → Type 0} {number place long : ℕ} (x : Written)
+pub written-returned : {written : Written} {Contract : Written → Type 0} {number place long : ℕ} (x : Written)
     → x ≡ written → Contract x → (number ≡ writtenNumber x) × (place ≡ writtenIndex x) × (long ≡ writtenLength x)
-    → ReturnedLength written Contract number place long
-returned-length {Contract} x e held t =
+    → WrittenReturned written Contract number place long
+written-returned {Contract} x e held t =
     record {
       number-returned = t .0 ∙ ap writtenNumber e;
       place-returned = t .1 ∙ ap writtenIndex e;
@@ -48,10 +48,10 @@ returned-length {Contract} x e held t =
       call = subst Contract e held;
     }
 
-pub returned-figures : {peeled : Peeled} {Contract : Peeled → Type 0} {number place : ℕ} {figures : List ℤ} (x : Peeled)
+pub peeled-returned : {peeled : Peeled} {Contract : Peeled → Type 0} {number place : ℕ} {figures : List ℤ} (x : Peeled)
     → x ≡ peeled → Contract x → (number ≡ peeledNumber x) × (place ≡ peeledIndex x) × (figures ≡ figuresIn x)
-    → ReturnedFigures peeled Contract number place figures
-returned-figures {Contract} x e held t =
+    → PeeledReturned peeled Contract number place figures
+peeled-returned {Contract} x e held t =
     record {
       number-returned = t .0 ∙ ap peeledNumber e;
       place-returned = t .1 ∙ ap peeledIndex e;
@@ -93,7 +93,7 @@ module _ (bs : List ℕ) where
   unfoldable judgedParams : Bool → Bool → Params
   judgedParams h g = kept (refuseIf (not h) Form 0 (refuseIf (not g) Param 0 Done)) noParams (paramsIn bs)
 
-  -- a head that keeps the rules has small sizes, and one that is refused gives none
+  -- a head that keeps the rules has small dimensions, and one that is refused gives none
   pub head-small : (headOf bs .params .d ≤ 4) × (headOf bs .params .m ≤ 16384)
   unfolding headAnswer judgedParams kept
   head-small = go (isHead (recordAt bs 0)) (goodParams (paramsIn bs)) refl

@@ -37,18 +37,18 @@ figuresIn x = pos (peeledEnding x) ∷ pos (peeledEntries x) ∷ peeledNet x ∷
 
 -- What a caller is returned of an answer, its number and its place, where `Contract` is what the library promises of a call that
 -- gives this answer; and the same with the length that a writer gives and with the figures of a walk.
-pub record Returned (answer : Answer) (Contract : Answer → Type 0) (number place : ℕ) : Type 0 where
+pub record AnswerReturned (answer : Answer) (Contract : Answer → Type 0) (number place : ℕ) : Type 0 where
   pub number-returned : number ≡ numberIn answer
   pub place-returned : place ≡ indexIn answer
   pub call : Contract answer
 
-pub record ReturnedLength (written : Written) (Contract : Written → Type 0) (number place bytes : ℕ) : Type 0 where
+pub record WrittenReturned (written : Written) (Contract : Written → Type 0) (number place bytes : ℕ) : Type 0 where
   pub number-returned : number ≡ writtenNumber written
   pub place-returned : place ≡ writtenIndex written
   pub length-returned : bytes ≡ writtenLength written
   pub call : Contract written
 
-pub record ReturnedFigures (peeled : Peeled) (Contract : Peeled → Type 0) (number place : ℕ) (figures : List ℤ) : Type 0 where
+pub record PeeledReturned (peeled : Peeled) (Contract : Peeled → Type 0) (number place : ℕ) (figures : List ℤ) : Type 0 where
   pub number-returned : number ≡ peeledNumber peeled
   pub place-returned : place ≡ peeledIndex peeled
   pub figures-returned : figures ≡ figuresIn peeled

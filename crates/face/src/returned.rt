@@ -8,8 +8,8 @@ ghost use Rattle.peel.specs.Peel.{peeledNumber, peeledIndex, peeledEntries};
 ghost use Rattle.face.specs.Returned.{paramsOf, paramNumbers, figuresIn};
 use files::writing::Written;
 use params::Answer;
-use params::Params;
 use params::Located;
+use params::Params;
 use peel::peeling::Peeled;
 use walk::Ending;
 
@@ -34,7 +34,7 @@ pub(crate) fn params_of(params: &[u32; 10]) -> Params
     }
 }
 
-// The same ten numbers of parameters whose sizes are small.
+// The same ten numbers of parameters whose dimensions are small.
 pub(crate) fn numbers_of(p: Params, numbers: &mut [u32; 10])
     requires { ⌜ (p .d ≤ 4) × (p .m ≤ 16384) ⌝ }
     ensures { λ r. ⌜ now (numbers .exit) ≡ paramNumbers p ⌝ }

@@ -49,7 +49,7 @@ goodParams P =
     && below 4 (pairAt (primeOf P) (P .d) (P .a) (P .b))
     && below 4 (λ i. below i (λ j. not (twins (P .d) (P .a) (P .b) i j)))
 
--- what `goodSizes` says of the numbers
+-- what `goodDimensions` says of the numbers
 pub record Dimensions (P : Params) : Type 0 where
   pub d-low : 2 ≤ P .d
   pub d-high : P .d ≤ 4

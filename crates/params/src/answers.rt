@@ -31,7 +31,8 @@ impl Refusal {
     }
 }
 
-// The index is that of the lowest bucket at fault for Damage and Range, and 0 for the others.
+// The index is that of the lowest bucket at fault for Damage and Range of lent sketches, the offset of the record at fault for a
+// file that is read, and 0 for anything else.
 pub enum Answer {
     Done,
     Refused(Refusal, usize),

@@ -25,7 +25,7 @@ use Rattle.params.proofs.Judging.{first-done, first-passed, refuse-done, number
 use Rattle.params.proofs.InOrder.{GoesBy, goes-by, IndexZero, refuse-number, first-refuse, cond-either, done-index, refuse-index, first-index, lent-number, lent-index}
 use Rattle.sketch.proofs.InOrder.{move-number, move-index, move-lowest}
 use Rattle.sketch.proofs.Steps.{move-good}
-use Rattle.sketch.proofs.Lowest.{LowestOf, insert-lowest-damage, insert-lowest-range}
+use Rattle.sketch.proofs.Lowest.{LowestOf, move-lowest-damage, move-lowest-range}
 
 pub fresh-goes-by : {P : Params} {S S' : Sketch} {r : Answer} → Freshened P S r S' → GoesBy (lentFault P (length (S .counts)) (length (S .idsums))) r
 fresh-goes-by h = goes-by (h .answer) (lent-number _ _ _) (lent-index _ _ _)
@@ -41,10 +41,10 @@ module _ {minus : Bool} {P : Params} {f n : ℕ} {S S' : Sketch} where
 
   -- the index is that of the lowest of the flow's buckets at fault
   pub move-damage : {k : ℕ} → Moved minus P f n S (Refused Damage k) S' → LowestOf (size P) (stands P f) (λ j. damaged (countIn S j) (idsumIn S j)) k
-  move-damage {k} h = insert-lowest-damage P minus f n S k (sym (h .answer))
+  move-damage {k} h = move-lowest-damage P minus f n S k (sym (h .answer))
 
   pub move-range : {k : ℕ} → Moved minus P f n S (Refused Range k) S' → LowestOf (size P) (stands P f) (λ j. not (inLimits (plusMinus minus (countIn S j) (pos n)))) k
-  move-range {k} h = insert-lowest-range P minus f n S k (sym (h .answer)) .0
+  move-range {k} h = move-lowest-range P minus f n S k (sym (h .answer)) .0
 
 -- Many packets: all are accepted, or the answer is that of an insertion of the first that is refused, into the sketch that those before it left.
 pub data FirstRefused (P : Params) (fs ns : List ℕ) (S : Sketch) : Answer → Type 0 where

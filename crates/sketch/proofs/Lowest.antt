@@ -47,34 +47,34 @@ ofBucket Count = false
 ofBucket Mismatch = false
 ofBucket Form = false
 
-abbrev pub bucketsTold : Answer → Bool
-bucketsTold Done = false
-bucketsTold (Refused w k) = ofBucket w
+abbrev pub refusesBucket : Answer → Bool
+refusesBucket Done = false
+refusesBucket (Refused w k) = ofBucket w
 
-pub refuse-early : (b : Bool) (w : Refusal) (k : ℕ) (next : Answer) → ofBucket w ≡ false → bucketsTold next ≡ false → bucketsTold (refuseIf b w k next) ≡ false
+pub refuse-early : (b : Bool) (w : Refusal) (k : ℕ) (next : Answer) → ofBucket w ≡ false → refusesBucket next ≡ false → refusesBucket (refuseIf b w k next) ≡ false
 refuse-early true w k next e q = e
 refuse-early false w k next e q = q
 
-pub first-early : (r next : Answer) → bucketsTold r ≡ false → bucketsTold next ≡ false → bucketsTold (first r next) ≡ false
+pub first-early : (r next : Answer) → refusesBucket r ≡ false → refusesBucket next ≡ false → refusesBucket (first r next) ≡ false
 unfolding first
 first-early Done next e q = q
 first-early (Refused w k) next e q = e
 
 -- so a refusal for either comes from the buckets
 refuse-late : (b : Bool) (w v : Refusal) (j k : ℕ) (next : Answer) → ofBucket w ≡ false → ofBucket v ≡ true → refuseIf b w j next ≡ Refused v k → (b ≡ false) × (next ≡ Refused v k)
-refuse-late true w v j k next e q h = let same : ofBucket w ≡ ofBucket v = ap bucketsTold h in (cc, cc)
+refuse-late true w v j k next e q h = let same : ofBucket w ≡ ofBucket v = ap refusesBucket h in (cc, cc)
 refuse-late false w v j k next e q h = (refl, h)
 
-pub first-late : (r next : Answer) (v : Refusal) (k : ℕ) → bucketsTold r ≡ false → ofBucket v ≡ true → first r next ≡ Refused v k → (r ≡ Done) × (next ≡ Refused v k)
+pub first-late : (r next : Answer) (v : Refusal) (k : ℕ) → refusesBucket r ≡ false → ofBucket v ≡ true → first r next ≡ Refused v k → (r ≡ Done) × (next ≡ Refused v k)
 unfolding first
 first-late Done next v k e q h = (refl, h)
-first-late (Refused w j) next v k e q h = let same : ofBucket w ≡ ofBucket v = ap bucketsTold h in (cc, cc)
+first-late (Refused w j) next v k e q h = let same : ofBucket w ≡ ofBucket v = ap refusesBucket h in (cc, cc)
 
-pub lengths-early : (P : Params) (c s : ℕ) → bucketsTold (lengthsAnswer P c s) ≡ false
+pub lengths-early : (P : Params) (c s : ℕ) → refusesBucket (lengthsAnswer P c s) ≡ false
 unfolding lengthsAnswer
 lengths-early P c s = refuse-early (not (eqb c (size P) && eqb s (size P))) Length 0 Done refl refl
 
-entry-early : (P : Params) (c s f n : ℕ) → bucketsTold (entryAnswer P c s f n) ≡ false
+entry-early : (P : Params) (c s f n : ℕ) → refusesBucket (entryAnswer P c s f n) ≡ false
 unfolding entryAnswer dimensionsAnswer packetAnswer
 entry-early P c s f n =
     first-early _ _ (refuse-early (not (goodDimensions P)) Param 0 _ refl (lengths-early P c s))
@@ -100,14 +100,14 @@ module _ (P : Params) (minus : Bool) (f n : ℕ) (S : Sketch) (k : ℕ) where
       first-late _ _ w k (entry-early P (length (S .counts)) (length (S .idsums)) f n) q
       (refuse-late (not (goodParams P)) Param w 0 k _ refl q e .1) .1
 
-  pub insert-lowest-damage : moveAnswer P minus f n S ≡ Refused Damage k → LowestOf (size P) (stands P f) (λ j. damaged (countIn S j) (idsumIn S j)) k
+  pub move-lowest-damage : moveAnswer P minus f n S ≡ Refused Damage k → LowestOf (size P) (stands P f) (λ j. damaged (countIn S j) (idsumIn S j)) k
   unfolding flowBucketsAnswer damagedIn
-  insert-lowest-damage e = lowest-of _ (stands P f) _ k (damage-lowest (size P) _ _ k (move-late Damage refl e))
+  move-lowest-damage e = lowest-of _ (stands P f) _ k (damage-lowest (size P) _ _ k (move-late Damage refl e))
 
-  pub insert-lowest-range : moveAnswer P minus f n S ≡ Refused Range k
+  pub move-lowest-range : moveAnswer P minus f n S ≡ Refused Range k
       → LowestOf (size P) (stands P f) (λ j. not (inLimits (plusMinus minus (countIn S j) (pos n)))) k
       × ((j : ℕ) → j < size P → stands P f j ≡ true → damaged (countIn S j) (idsumIn S j) ≡ false)
   unfolding flowBucketsAnswer damagedIn leavesIn
-  insert-lowest-range e =
+  move-lowest-range e =
       let r = range-lowest (size P) _ _ k (move-late Range refl e) in
       (lowest-of _ (stands P f) _ k (r .0), λ j l s. and-rest (stands P f j) _ s (r .1 j l))

@@ -128,7 +128,7 @@ called-good : {minus : Bool} {P Q : Params} {S T S' : Sketch} → Combined minus
 unfolding combineAnswer
 called-good {minus} {P} {Q} c = both-lent-done P Q _ _ _ _ (first-done _ _ (sym (c .answer)) .0) .good
 
--- and what `subtract` leaves, in two calls that were not refused, over any histories and under the same parameters, each given by itself
+-- and what `subtract` leaves, in two calls that were not refused, over any histories; each call is given its own parameters, and these are the same
 pub difference-by-nets : {P Q P' Q' : Params} {es gs es' gs' : List Entry} {S T D S' T' D' : Sketch}
     → History P es S → History Q gs T → Combined true P Q S T Done D → History P' es' S' → History Q' gs' T' → Combined true P' Q' S' T' Done D'
     → sameParams P P' ≡ true → ((f : ℕ) → netCount es f -ℤ netCount gs f ≡ netCount es' f -ℤ netCount gs' f) → D ≡ D'

@@ -13,9 +13,9 @@ use Rattle.sketch.specs.Sketch.{Sketch, countIn, idsumIn}
 use Rattle.sums.specs.Sums.{bothLentAnswer, eitherDamaged, leaves, bucketsAnswer, combineAnswer}
 use Rattle.sums.proofs.TwoSketches.{both-lent-done}
 use Rattle.params.proofs.Lowest.{Lowest}
-use Rattle.sketch.proofs.Lowest.{damage-lowest, range-lowest, ofBucket, bucketsTold, refuse-early, first-early, first-late, lengths-early}
+use Rattle.sketch.proofs.Lowest.{damage-lowest, range-lowest, ofBucket, refusesBucket, refuse-early, first-early, first-late, lengths-early}
 
-both-lent-early : (P Q : Params) (c s e t : ℕ) → bucketsTold (bothLentAnswer P Q c s e t) ≡ false
+both-lent-early : (P Q : Params) (c s e t : ℕ) → refusesBucket (bothLentAnswer P Q c s e t) ≡ false
 unfolding bothLentAnswer
 both-lent-early P Q c s e t =
     refuse-early (not (goodParams P && goodParams Q)) Param 0 _ refl

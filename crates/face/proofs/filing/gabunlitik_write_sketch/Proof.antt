@@ -1,5 +1,5 @@
 -- `face::filing::gabunlitik_write_sketch` meets its contract: what the library promises of the call, returned in numbers.
-use Rattle.face.proofs.Returning.{returned-length}
+use Rattle.face.proofs.Returning.{written-returned}
 use borrow.Author.Needs.{needs}
 use Rattle.face.proofs.filing.gabunlitik_write_sketch.Statement.{statement}
 use Rattle.face.proofs.filing.gabunlitik_write_sketch.Tie as tie
@@ -20,7 +20,7 @@ returns : tie.Need-returns
 returns c =
     let s = c .before .before .before .before .before in
     let held = rw (s .before .before .params-of .ensures) at (s .write-sketch .ensures) in
-    returned-length _ (held .answer) held (c .return-written .ensures)
+    written-returned _ (held .answer) held (c .return-written .ensures)
 
 pub gabunlitik-write-sketch-spec : {M : Type 1} → statement M
 gabunlitik-write-sketch-spec =

@@ -1,5 +1,5 @@
 -- `face::walks::gabunlitik_peel` meets its contract: what the library promises of the call, returned in numbers.
-use Rattle.face.proofs.Returning.{returned-figures, entries-few}
+use Rattle.face.proofs.Returning.{peeled-returned, entries-few}
 use borrow.Author.Needs.{needs}
 use Rattle.face.proofs.walks.gabunlitik_peel.Statement.{statement}
 use Rattle.face.proofs.walks.gabunlitik_peel.Tie as tie
@@ -35,7 +35,7 @@ returns : tie.Need-returns
 returns c =
     let s = c .before .before .before .before .before .before .before .before .before .before .before .before .before in
     let held = rw (s .before .before .before .before .before .before .before .params-of .ensures) at (s .peel .ensures) in
-    returned-figures _ (held .answer) held (c .return-peeled .ensures)
+    peeled-returned _ (held .answer) held (c .return-peeled .ensures)
 
 pub gabunlitik-peel-spec : {M : Type 1} → statement M
 gabunlitik-peel-spec =

@@ -18,8 +18,8 @@ use Rattle.params.proofs.params.Params.positions.Tie as tie
 passed : (c : tie.Else1) → goodDimensions (c .before .before .args .self) ≡ true
 passed c = test-held (c .before .good-dimensions .ensures) (c .if1 .left)
 
-sizes : (c : tie.Else1) → Dimensions (c .before .before .args .self)
-sizes c = dimensions _ (passed c)
+bounds : (c : tie.Else1) → Dimensions (c .before .before .args .self)
+bounds c = dimensions _ (passed c)
 
 two-placed : (c : tie.After-position-by2) → let s = c .before .before .before .before .before .before .args in
     set (set (s .ks .now) 0 (c .before .position-by .result)) 1 (c .position-by2 .result) ≡ touched (upTo 2) (λ j k. stand (s .self) j (s .f)) (s .ks .now)
@@ -54,7 +54,7 @@ array-read-position-by-2 : tie.Need-array-read-position-by-2
 array-read-position-by-2 c = search needs
 
 position-by-requires : tie.Need-position-by-requires
-position-by-requires c κs = sizes (c .before .before) .m-low
+position-by-requires c κs = bounds (c .before .before) .m-low
 
 element-write-ks : tie.Need-element-write-ks
 element-write-ks c = search needs
@@ -101,7 +101,7 @@ returns-2 c =
     let s = c .before .before .before .before .before .before .before in
     let a = s .before .before .args in
     ⊎-elim
-    (λ w. all-positions _ _ _ 4 (passed s) (omega (arith, sizes s)) (store-next 0 (λ j. stand (a .self) j (a .f)) (a .ks .now) _ 3 (w .1) (c .position-by4 .ensures .0)))
+    (λ w. all-positions _ _ _ 4 (passed s) (omega (arith, bounds s)) (store-next 0 (λ j. stand (a .self) j (a .f)) (a .ks .now) _ 3 (w .1) (c .position-by4 .ensures .0)))
     (λ w. absurd (omega (arith, w .0)))
     (three-placed (c .before .before))
 
@@ -110,7 +110,7 @@ returns-3 c =
     let s = c .before .before .before .before .before .before in
     ⊎-elim
     (λ w. all-positions _ _ _ 3 (passed s) (omega (arith, w .0)) (w .1))
-    (λ w. all-positions _ _ _ 2 (passed s) (omega (arith, sizes s, w .0)) (w .1))
+    (λ w. all-positions _ _ _ 2 (passed s) (omega (arith, bounds s, w .0)) (w .1))
     (three-placed (c .before))
 
 pub positions-spec : {M : Type 1} → statement M

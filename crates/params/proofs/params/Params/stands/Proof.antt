@@ -14,8 +14,8 @@ use Rattle.params.proofs.params.Params.stands.Tie as tie
 passed : (c : tie.Else1) → goodDimensions (c .before .before .args .self) ≡ true
 passed c = test-held (c .before .good-dimensions .ensures) (c .if1 .left)
 
-sizes : (c : tie.Else1) → Dimensions (c .before .before .args .self)
-sizes c = dimensions _ (passed c)
+bounds : (c : tie.Else1) → Dimensions (c .before .before .args .self)
+bounds c = dimensions _ (passed c)
 
 good-dimensions-requires : tie.Need-good-dimensions-requires
 good-dimensions-requires c κs = search needs
@@ -36,10 +36,10 @@ returns-2 : tie.Need-returns-2
 unfolding stand
 returns-2 c =
     let s = c .before .before .before .before in
-    stands-in (s .before .before .args .self) _ _ 0 (passed s) (omega (arith, sizes s)) (omega arith) (omega arith) (omega (arith, c .position-by .ensures .0))
+    stands-in (s .before .before .args .self) _ _ 0 (passed s) (omega (arith, bounds s)) (omega arith) (omega arith) (omega (arith, c .position-by .ensures .0))
 
 mul-if3 : tie.Need-mul-if3
-mul-if3 c = omega (arith, sizes (c .before .before .before))
+mul-if3 c = omega (arith, bounds (c .before .before .before))
 
 array-read-position-by-3 : tie.Need-array-read-position-by-3
 array-read-position-by-3 c = search needs
@@ -51,13 +51,13 @@ position-by-requires-2 : tie.Need-position-by-requires-2
 position-by-requires-2 c κs = search needs
 
 add-result : tie.Need-add-result
-add-result c = omega (arith, sizes (c .before .before .before .before .before))
+add-result c = omega (arith, bounds (c .before .before .before .before .before))
 
 returns-3 : tie.Need-returns-3
 unfolding stand
 returns-3 c =
     let s = c .before .before .before .before .before in
-    stands-in (s .before .before .args .self) _ _ 1 (passed s) (omega (arith, sizes s)) (omega arith) (omega arith) (omega (arith, c .position-by2 .ensures .0))
+    stands-in (s .before .before .args .self) _ _ 1 (passed s) (omega (arith, bounds s)) (omega arith) (omega arith) (omega (arith, c .position-by2 .ensures .0))
 
 returns-4 : tie.Need-returns-4
 returns-4 c =
@@ -65,7 +65,7 @@ returns-4 c =
     stands-nowhere (s .before .before .args .self) _ _ 2 (passed s) (omega arith) (omega arith)
 
 mul-if5 : tie.Need-mul-if5
-mul-if5 c = omega (arith, sizes (c .before .before .before .before .before))
+mul-if5 c = omega (arith, bounds (c .before .before .before .before .before))
 
 mul-result : tie.Need-mul-result
 mul-result c = search needs
@@ -80,13 +80,13 @@ position-by-requires-3 : tie.Need-position-by-requires-3
 position-by-requires-3 c κs = search needs
 
 add-result-2 : tie.Need-add-result-2
-add-result-2 c = omega (arith, sizes (c .before .before .before .before .before .before .before))
+add-result-2 c = omega (arith, bounds (c .before .before .before .before .before .before .before))
 
 returns-5 : tie.Need-returns-5
 unfolding stand
 returns-5 c =
     let s = c .before .before .before .before .before .before .before in
-    stands-in (s .before .before .args .self) _ _ 2 (passed s) (omega (arith, sizes s)) (omega arith) (omega arith) (omega (arith, c .position-by3 .ensures .0))
+    stands-in (s .before .before .args .self) _ _ 2 (passed s) (omega (arith, bounds s)) (omega arith) (omega arith) (omega (arith, c .position-by3 .ensures .0))
 
 returns-6 : tie.Need-returns-6
 returns-6 c =
@@ -94,7 +94,7 @@ returns-6 c =
     stands-nowhere (s .before .before .args .self) _ _ 3 (passed s) (omega arith) (omega arith)
 
 mul-if7 : tie.Need-mul-if7
-mul-if7 c = omega (arith, sizes (c .before .before .before .before .before .before .before))
+mul-if7 c = omega (arith, bounds (c .before .before .before .before .before .before .before))
 
 mul-result-2 : tie.Need-mul-result-2
 mul-result-2 c = search needs
@@ -109,18 +109,18 @@ position-by-requires-4 : tie.Need-position-by-requires-4
 position-by-requires-4 c κs = search needs
 
 add-result-3 : tie.Need-add-result-3
-add-result-3 c = omega (arith, sizes (c .before .before .before .before .before .before .before .before .before))
+add-result-3 c = omega (arith, bounds (c .before .before .before .before .before .before .before .before .before))
 
 returns-7 : tie.Need-returns-7
 unfolding stand
 returns-7 c =
     let s = c .before .before .before .before .before .before .before .before .before in
-    stands-in (s .before .before .args .self) _ _ 3 (passed s) (omega (arith, sizes s)) (omega arith) (omega arith) (omega (arith, c .position-by4 .ensures .0))
+    stands-in (s .before .before .args .self) _ _ 3 (passed s) (omega (arith, bounds s)) (omega arith) (omega arith) (omega (arith, c .position-by4 .ensures .0))
 
 returns-8 : tie.Need-returns-8
 returns-8 c =
     let s = c .before .before .before .before .before .before .before .before in
-    stands-nowhere (s .before .before .args .self) _ _ 4 (passed s) (sizes s .d-high) (omega arith)
+    stands-nowhere (s .before .before .args .self) _ _ 4 (passed s) (bounds s .d-high) (omega arith)
 
 pub stands-spec : {M : Type 1} → statement M
 stands-spec =
