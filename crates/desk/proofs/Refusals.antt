@@ -3,10 +3,9 @@
 -- The input is the upstream's file and, directly after it, the downstream's. Where no first part of the input is a stream that the reader accepts
 -- into a fresh sketch, the desk's number and byte are those of the reader on the whole input (`upstream-refused`). Where a first part is, the
 -- rest is the downstream's file, and the desk answers what the reader answers for it, with its bytes counted from the start of the input
--- (`downstream-answered`); so it is refused for the same number as there, or nothing is. The one exception is a head that keeps the rules but has too
--- many buckets for a desk: that is PARAM, where the reader, which is given other parameters, says MISMATCH.
--- One of the two always holds (`either-stream`). A byte behind a right upstream end is FORM for the reader, which takes it for the same file, and the
--- downstream's first byte for the desk.
+-- (`downstream-answered`). The one exception is a head that keeps the rules but has too many buckets for a desk: that is PARAM, where the reader, which
+-- is given other parameters, says MISMATCH. One of the two always holds (`either-stream`), so every refusal is one of these (`refused-as`).
+-- A byte behind a right upstream end is FORM for the reader, which takes it for the same file, and the downstream's first byte for the desk.
 use mathlib.Core.Path.{_≡_, refl, sym, ap, ap₂, _∙_}
 use mathlib.Core.Bool.{Bool, true, false, not, cond, _&&_, true≢false}
 use mathlib.Core.Logic.{_⊎_, inl, inr, ⊎-elim}
@@ -94,6 +93,13 @@ shifted i (Refused w k) = Refused w (i + k)
 -- a downstream stream at the desk: as its reader answers it into a fresh sketch, save that a head which keeps the rules and has too many buckets is PARAM
 unfoldable pub downstreamAnswer : Params → List ℕ → Answer
 downstreamAnswer P bs = refuseIf (isHead (recordAt bs 0) && (goodParams (paramsIn bs) && not (fewEnough (paramsIn bs)))) Param 0 (streamAnswer P bs (zeros P))
+
+-- the upstream stream is accepted, and the downstream one refused at an offset of its own file
+pub record DownstreamRefused (P : Params) (input : List ℕ) (w : Refusal) (k : ℕ) : Type 0 where
+  pub upstream : AcceptedPart P input
+  pub offset : ℕ
+  pub reader-refuses : downstreamAnswer P (drop (upstream .split) input) ≡ Refused w offset
+  pub place : k ≡ upstream .split + offset
 
 -- a whole head is found
 head-here : (bs : List ℕ) → isKind headKind (recordAt bs 0) ≡ true → dueOf headKind bs ≡ Here
@@ -306,3 +312,13 @@ module _ (P : Params) (input : List ℕ) (r : Fed) (up down : Sketch) (head : be
         at true h true g false f a a' = at-first (head-answered Param 0 h (rw (g, f))) (rw (h, g, f))
         at true h true g true f false a = at-first (head-answered Mismatch 0 h (rw (g, f, a))) (rw (h, g, f, good-params P input b, a))
         at true h true g true f true a = let plain : streamAnswer P file (zeros P) ≡ downstreamAnswer P file = rw (h, g, f) in right-head h (rw (g, f, a)) ∙ ap (shifted i) plain
+
+  -- so a refusal is one of the upstream stream's reader, or one of the downstream's, further on by the upstream's bytes
+  pub refused-as : (w : Refusal) (k : ℕ) → deskAnswer ≡ Refused w k → (streamAnswer P input (zeros P) ≡ Refused w k) ⊎ DownstreamRefused P input w k
+  refused-as w k e =
+      ⊎-elim (λ h. inl (sym h ∙ e)) (λ p. inr (from-rest p (downstreamAnswer P (drop (p .split) input)) refl (sym (downstream-answered (p .split) (p .within) (p .reader)) ∙ e)))
+      either-stream
+    where
+      from-rest : (p : AcceptedPart P input) (a : Answer) → downstreamAnswer P (drop (p .split) input) ≡ a → shifted (p .split) a ≡ Refused w k → DownstreamRefused P input w k
+      from-rest p Done h q = absurd (let z : _≡_ {A = ℕ} 0 1 = cc in omega arith)
+      from-rest p (Refused v j) h q = record { upstream = p; offset = j; reader-refuses = h ∙ cc; place = cc }
