@@ -17,7 +17,7 @@ use Rattle.params.proofs.Searches.{and-true}
 use Rattle.params.proofs.SameParams.{same-itself}
 use Rattle.params.proofs.Judging.{first-done, refuse-done}
 use Rattle.files.specs.Bytes.{word}
-use Rattle.files.specs.Records.{recordAt, headKind, endKind, headLength, packetsLength, endLength}
+use Rattle.files.specs.Records.{recordAt, isKind, headKind, endKind, headLength, packetsLength, endLength}
 use Rattle.files.specs.Heads.{paramsIn, isHead, headAnswer}
 use Rattle.files.specs.Fields.{recordsField, arraysField, bucketsField, multiplierField, offsetField}
 use Rattle.files.proofs.RecordTrips.{record-whole}
@@ -26,7 +26,7 @@ use Rattle.streamfile.specs.Streams.{StreamRead}
 use Rattle.desk.specs.declared.states.Stage.{Stage}
 use Rattle.desk.specs.declared.states.Stage.the-variants.{UpstreamPackets, DownstreamHead, DownstreamPackets, Nothing, Refused as Stopped}
 use Rattle.desk.specs.declared.states.Fed.{Fed}
-use Rattle.desk.specs.Desk.{nothingDue, fewEnough, beginAnswer, beginOf, started, afterTaken, downstreamHeadAnswer, packetsSketch, offsetsFit, Feeds, finishAnswer}
+use Rattle.desk.specs.Desk.{nothingDue, fewEnough, beginAnswer, beginOf, started, taken, takenAnswer, afterTaken, downstreamHeadAnswer, packetsSketch, offsetsFit, Feeds, finishAnswer}
 use Rattle.desk.proofs.InTheRest.{whole-at, word-at}
 use Rattle.desk.proofs.Taking.{all-taken}
 use Rattle.desk.proofs.SameBytes.{fed-is-read}
@@ -65,12 +65,12 @@ pub record TwoStreams (P : Params) (input : List ℕ) (up down : Sketch) : Type 
   pub downstream-read : StreamRead P (drop split input) (zeros P) Done down
 
 -- the first head is one of a file, and gives the parameters
-record Begun (P : Params) (input : List ℕ) : Type 0 where
-  head : isHead (recordAt input 0) ≡ true
-  good : goodParams (paramsIn input) ≡ true
-  params : P ≡ paramsIn input
+pub record Begun (P : Params) (input : List ℕ) : Type 0 where
+  pub head : isHead (recordAt input 0) ≡ true
+  pub good : goodParams (paramsIn input) ≡ true
+  pub params : P ≡ paramsIn input
 
-begun : (P : Params) (input : List ℕ) → beginOf input ≡ record { answer = Done; params = P } → Begun P input
+pub begun : (P : Params) (input : List ℕ) → beginOf input ≡ record { answer = Done; params = P } → Begun P input
 unfolding beginAnswer headAnswer kept
 begun P input e =
     let done : beginAnswer input ≡ Done = ap (λ h. h .answer) e in
@@ -80,6 +80,42 @@ begun P input e =
       good = not-false _ (refuse-done (not (goodParams (paramsIn input))) Param 0 Done (h .1) .0);
       params = sym (ap (λ h. h .params) e) ∙ rw done;
     }
+
+module _ (P : Params) (input : List ℕ) (b : Begun P input) where
+  pub good-params : goodParams P ≡ true
+  good-params = rw (b .params) (b .good)
+
+  pub input-long : headLength ≤ length input
+  input-long = omega (arith, whole-record input 0 headKind (b .head) .1)
+
+  -- the first stream: as many packets behind the head as are taken, and an end that says so
+  abbrev pub firstNumber : ℕ
+  firstNumber = taken P (drop headLength input) (zeros P)
+
+  abbrev pub atFirstEnd : List ℕ
+  atFirstEnd = drop (packetsLength * firstNumber) (drop headLength input)
+
+  abbrev pub firstLength : ℕ
+  firstLength = headLength + (packetsLength * firstNumber + endLength)
+
+  module _ (done : takenAnswer P (drop headLength input) (zeros P) ≡ Done) (end : isKind endKind (recordAt atFirstEnd 0) ≡ true) (said : word atFirstEnd recordsField ≡ firstNumber) where
+    first-long : packetsLength * firstNumber + endLength ≤ length (drop headLength input)
+    first-long = omega (arith, whole-record atFirstEnd 0 endKind end .1, length-drop (packetsLength * firstNumber) (drop headLength input))
+
+    pub split-within : firstLength ≤ length input
+    split-within = omega (arith, first-long, input-long, length-drop headLength input)
+
+    pub first-file : StreamRead P (take firstLength input) (zeros P) Done (afterTaken P (drop headLength input) (zeros P))
+    first-file =
+        let e : ℕ = firstLength in
+        let xs : List ℕ = drop headLength input in
+        let long : length (take e input) ≡ e = length-take-le e input split-within in
+        let w = whole-record input 0 headKind (b .head) in
+        let params : paramsIn (take e input) ≡ paramsIn input = params-in-part input e (omega arith) in
+        fed-is-read P (take e input) xs firstNumber long first-long (λ j l. getD-take e input (headLength + j) 0 (omega arith) ∙ sym (getD-drop headLength input j 0))
+        (sym (all-taken P xs (zeros P) done .number)) (whole-at xs (packetsLength * firstNumber) endKind (omega arith) end) (sym (word-at xs (packetsLength * firstNumber) recordsField) ∙ said)
+        (record-whole (take e input) 0 headKind (getD-take e input 0 0 (omega arith) ∙ w .0) (omega arith) (omega arith))
+        good-params (ap goodParams params ∙ b .good) (ap (sameParams P) (params ∙ sym (b .params)) ∙ same-itself P) done
 
 module _ (P : Params) (input : List ℕ) (b : Begun P input) (p : Passed P (drop headLength input) (zeros P) (zeros P)) where
   abbrev xs : List ℕ
@@ -97,29 +133,6 @@ module _ (P : Params) (input : List ℕ) (b : Begun P input) (p : Passed P (drop
   abbrev m : ℕ
   m = downstreamNumber P xs (zeros P) (zeros P)
 
-  good-params : goodParams P ≡ true
-  good-params = rw (b .params) (b .good)
-
-  input-long : headLength ≤ length input
-  input-long = omega (arith, whole-record input 0 headKind (b .head) .1)
-
-  first-long : packetsLength * n + endLength ≤ length xs
-  first-long = omega (arith, whole-record (drop (packetsLength * n) xs) 0 endKind (p .first-end) .1, length-drop (packetsLength * n) xs)
-
-  split-within : headLength + (packetsLength * n + endLength) ≤ length input
-  split-within = omega (arith, first-long, input-long, length-drop headLength input)
-
-  first-file : StreamRead P (take (headLength + (packetsLength * n + endLength)) input) (zeros P) Done (afterTaken P xs (zeros P))
-  first-file =
-      let e : ℕ = headLength + (packetsLength * n + endLength) in
-      let long : length (take e input) ≡ e = length-take-le e input split-within in
-      let w = whole-record input 0 headKind (b .head) in
-      let params : paramsIn (take e input) ≡ paramsIn input = params-in-part input e (omega arith) in
-      fed-is-read P (take e input) xs n long first-long (λ j l. getD-take e input (headLength + j) 0 (omega arith) ∙ sym (getD-drop headLength input j 0))
-      (sym (all-taken P xs (zeros P) (p .first-done) .number)) (whole-at xs (packetsLength * n) endKind (omega arith) (p .first-end)) (sym (word-at xs (packetsLength * n) recordsField) ∙ p .first-said)
-      (record-whole (take e input) 0 headKind (getD-take e input 0 0 (omega arith) ∙ w .0) (omega arith) (omega arith))
-      good-params (ap goodParams params ∙ b .good) (ap (sameParams P) (params ∙ sym (b .params)) ∙ same-itself P) (p .first-done)
-
   second-long : length file ≡ headLength + (packetsLength * m + endLength)
   second-long =
       let w = whole-record (drop (packetsLength * m) body) 0 endKind (p .second-end) .1 in
@@ -132,14 +145,14 @@ module _ (P : Params) (input : List ℕ) (b : Begun P input) (p : Passed P (drop
       let k = refuse-done (not (sameParams P (paramsIn file))) Mismatch 0 Done (h .1) in
       fed-is-read P file body m second-long (omega (arith, second-long, length-drop headLength file)) (λ j l. sym (getD-drop headLength file j 0))
       (sym (all-taken P body (zeros P) (p .second-done) .number)) (whole-at body (packetsLength * m) endKind (omega arith) (p .second-end)) (sym (word-at body (packetsLength * m) recordsField) ∙ p .second-said)
-      (p .second-head) good-params (and-true (goodParams (paramsIn file)) (fewEnough (paramsIn file)) (not-false _ (h .0)) .0) (not-false _ (k .0)) (p .second-done)
+      (p .second-head) (good-params P input b) (and-true (goodParams (paramsIn file)) (fewEnough (paramsIn file)) (not-false _ (h .0)) .0) (not-false _ (k .0)) (p .second-done)
 
   two-streams : TwoStreams P input (afterTaken P xs (zeros P)) (afterTaken P body (zeros P))
   two-streams =
       record {
         split = headLength + (packetsLength * n + endLength);
-        within = split-within;
-        upstream-read = first-file;
+        within = split-within P input b (p .first-done) (p .first-end) (p .first-said);
+        upstream-read = first-file P input b (p .first-done) (p .first-end) (p .first-said);
         downstream-read = rw (← drop-drop (packetsLength * n + endLength) headLength input) second-file;
       }
 

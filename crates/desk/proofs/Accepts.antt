@@ -130,7 +130,7 @@ module _ (P : Params) (bs : List ℕ) (up down : Sketch) (p : Passed P bs up dow
 
 -- a is a stream that was read into a fresh sketch: how long it is, and what its head says
 module _ {P : Params} {a : List ℕ} {S : Sketch} (read : StreamRead P a (zeros P) Done S) where
-  file-long : length a ≡ headLength + (packetsLength * packetsIn a + endLength)
+  pub file-long : length a ≡ headLength + (packetsLength * packetsIn a + endLength)
   file-long =
       let e = end-said-done a (packetPlace (packetsIn a)) (packetsIn a) (stream-done P a (zeros P) (sym (read .answer)) .ended) in
       omega (arith, e .last, whole-record a (packetPlace (packetsIn a)) endKind (e .kind) .1)

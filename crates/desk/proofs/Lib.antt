@@ -1,4 +1,4 @@
--- The laws of the desk, which the proofs of its functions cite, and its theorems: `Accepted`, `Accepts`, `FirstHead`, `Pieces`, `AnyPieces` and `Unfinished`.
+-- The laws of the desk, which the proofs of its functions cite, and its theorems: `Accepted`, `Accepts`, `Refusals`, `FirstHead`, `Pieces`, `AnyPieces` and `Unfinished`.
 pub mod Whole
 pub mod Taking
 pub mod HeadAnswers
@@ -13,6 +13,8 @@ pub mod Accepted
 pub mod MoreBytes
 pub mod FirstHead
 pub mod Accepts
+pub mod AsRead
+pub mod Refusals
 pub mod OneRecord
 pub mod Reaching
 pub mod StagesReach

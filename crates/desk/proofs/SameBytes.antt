@@ -46,6 +46,14 @@ module _ (P : Params) where
   unfolding zeros inLimits
   fresh-sound k l = rw (getD-replicate (size P) k (pos 0) (pos 0) l, getD-replicate {A = ℕ} (size P) k 0 0 l)
 
+-- so where the head is right, the records decide
+pub opened-judged : (P : Params) (fs : List ℕ) → isHead (recordAt fs 0) ≡ true → goodParams P ≡ true → goodParams (paramsIn fs) ≡ true → sameParams P (paramsIn fs) ≡ true
+    → streamAnswer P fs (zeros P) ≡ packetsJudged P fs (zeros P)
+unfolding streamAnswer parametersAnswer
+opened-judged P fs head good goods alike =
+    let right : parametersAnswer P fs ≡ Done = rw (head, goods, good, alike) in
+    first-passed _ _ right ∙ first-passed _ _ (fresh-lengths P) ∙ refuse-none (size P) (damagedAt (zeros P)) Damage _ (fresh-sound P)
+
 -- an end that is accepted
 pub record EndSaid (bs : List ℕ) (at n : ℕ) : Type 0 where
   pub kind : isKind endKind (recordAt bs at) ≡ true
@@ -126,12 +134,11 @@ module _ (P : Params) (fs xs : List ℕ) (n : ℕ) (long : length fs ≡ headLen
     -- so a head with the given parameters makes fs a stream that is read into a fresh sketch
     pub fed-is-read : isHead (recordAt fs 0) ≡ true → goodParams P ≡ true → goodParams (paramsIn fs) ≡ true → sameParams P (paramsIn fs) ≡ true
         → takenAnswer P xs (zeros P) ≡ Done → StreamRead P fs (zeros P) Done (afterTaken P xs (zeros P))
-    unfolding streamAnswer parametersAnswer kept
+    unfolding kept
     fed-is-read head good goods alike done =
         let all = all-taken P xs (zeros P) done in
-        let right : parametersAnswer P fs ≡ Done = rw (head, goods, good, alike) in
         record {
-          answer = sym (first-passed _ _ right ∙ first-passed _ _ (fresh-lengths P) ∙ refuse-none (size P) (damagedAt (zeros P)) Damage _ (fresh-sound P) ∙ records-done (zeros P) all);
+          answer = sym (opened-judged P fs head good goods alike ∙ records-done (zeros P) all);
           after-all = all-same (zeros P) all;
         }
 

@@ -1,0 +1,324 @@
+-- What the desk answers at the end of the input, refusals too, by what the stream's reader answers.
+--
+-- The input is the upstream's file and, directly after it, the downstream's. Where no first part of the input is a stream that the reader accepts
+-- into a fresh sketch, the desk's number and byte are those of the reader on the whole input (`upstream-refused`). Where a first part is, the
+-- rest is the downstream's file, and the desk answers what the reader answers for it, with its bytes counted from the start of the input
+-- (`downstream-answered`). The one exception is a head that keeps the rules but has too many buckets for a desk: that is PARAM, where the reader, which
+-- is given other parameters, says MISMATCH. One of the two always holds (`either-stream`), so every refusal is one of these (`refused-as`).
+-- A byte behind a right upstream end is FORM for the reader, which takes it for the same file, and the downstream's first byte for the desk.
+use mathlib.Core.Path.{_≡_, refl, sym, ap, ap₂, _∙_}
+use mathlib.Core.Bool.{Bool, true, false, not, cond, _&&_, true≢false}
+use mathlib.Core.Logic.{_⊎_, inl, inr, ⊎-elim}
+use mathlib.Core.List.{List}
+use Prim.Native.Nat.{ℕ, _+_, _-_, _*_, _≤_, _<_}
+use native.Mathlib.Nat.{zero-add}
+use native.Mathlib.Omega.{arith}
+use borrow.Author.Tests.{lt-leb, le-leb, leb-true, leb-false, not-false}
+use lib.Dec.{leb}
+use lib.ListN.{length, getD, take, drop, length-drop}
+use lib.Seq.{length-take-le, getD-take, getD-drop, drop-drop}
+use Rattle.params.specs.declared.params.Params.{Params}
+use Rattle.params.specs.declared.answers.Refusal.{Refusal}
+use Rattle.params.specs.declared.answers.Refusal.the-variants.{Param, Mismatch, Form}
+use Rattle.params.specs.declared.answers.Answer.{Answer}
+use Rattle.params.specs.declared.answers.Answer.the-variants.{Done, Refused}
+use Rattle.params.specs.Answers.{refuseIf, first, kept}
+use Rattle.params.specs.Params.{goodParams, sameParams}
+use Rattle.params.proofs.Searches.{and-true}
+use Rattle.params.proofs.Judging.{refuse-done}
+use Rattle.params.proofs.SameParams.{same-itself}
+use Rattle.sketch.specs.Sketch.{Sketch, zeros}
+use Rattle.sketch.specs.Packets.{after}
+use Rattle.files.specs.Bytes.{word}
+use Rattle.files.specs.Records.{recordAt, isKind, headKind, endKind, headLength, packetsLength, endLength}
+use Rattle.files.specs.Heads.{paramsIn, isHead, parametersAnswer}
+use Rattle.files.specs.Turns.{packetPlace}
+use Rattle.files.specs.Fields.{recordsField}
+use Rattle.streamfile.specs.Streams.{packetsFrom, packetsIn, flowsIn, numbersIn, packetsJudged, streamAnswer, StreamRead}
+use Rattle.desk.specs.declared.states.Stage.the-variants.{DownstreamHead, DownstreamPackets, Nothing}
+use Rattle.desk.specs.declared.stages.Due.{Due}
+use Rattle.desk.specs.declared.stages.Due.the-variants.{Here, NotYet, Other}
+use Rattle.desk.specs.declared.states.State.{State}
+use Rattle.desk.specs.declared.states.Fed.{Fed}
+use Rattle.desk.specs.Desk.{fewEnough, beginOf, started, stopped, taken, takenAnswer, dueOf, downstreamHeadAnswer, isDue, packetsDue, headDue, nothingDue, packetsStage, endStage, headStage, nothingStage, rest, offsetsFit, upstreamEnded, downstreamHeaded, downstreamTaken, downstreamEnded, fedState, Feeds, finishAnswer}
+use Rattle.desk.proofs.Accepted.{Begun, begun, good-params, input-long, firstNumber, atFirstEnd, firstLength, split-within, first-file}
+use Rattle.desk.proofs.Whole.{whole-record}
+use Rattle.desk.proofs.InTheRest.{word-at, whole-left}
+use Rattle.desk.proofs.WhatIsDue.{here-whole}
+use Rattle.desk.proofs.Taking.{all-taken}
+use Rattle.desk.proofs.SameBytes.{opened-judged, all-back, end-back, said-back}
+use Rattle.desk.proofs.Accepts.{file-long}
+use Rattle.desk.proofs.AsRead.{Came, refused-there, unfinished, passed-by, came, streamEnded, taken-at, ends-right, all-read, more-behind}
+
+-- a stage that is not due leaves the state
+packets-skip : (downstream : _) (P : Params) (bs : List ℕ) (S : Sketch) (s : State) → isDue downstream (s .stage) ≡ false → packetsStage downstream P bs S s ≡ s
+unfolding packetsStage
+packets-skip downstream P bs S s e = rw e
+
+end-skips : (bs : List ℕ) (s : State) → packetsDue (s .stage) ≡ false → endStage bs s ≡ s
+unfolding endStage
+end-skips bs s e = rw e
+
+head-skips : (P : Params) (bs : List ℕ) (s : State) → headDue (s .stage) ≡ false → headStage P bs s ≡ s
+unfolding headStage
+head-skips P bs s e = rw e
+
+nothing-skips : (bs : List ℕ) (s : State) → nothingDue (s .stage) ≡ false → nothingStage bs s ≡ s
+unfolding nothingStage
+nothing-skips bs s e = rw e
+
+module _ (P : Params) (bs : List ℕ) (up down : Sketch) (s t : State) where
+  -- the downstream stream did not begin
+  after-head-stay : downstreamHeaded P bs up down s ≡ t → isDue true (t .stage) ≡ false → endStage (rest s t bs) t ≡ t → nothingDue (t .stage) ≡ false → fedState P bs up down s ≡ t
+  after-head-stay e d again q =
+      let b : downstreamTaken P bs up down s ≡ t = ap (λ u. packetsStage true P (rest s u bs) down u) e ∙ packets-skip true P (rest s t bs) down t d in
+      let c : downstreamEnded P bs up down s ≡ t = ap (λ u. endStage (rest s u bs) u) b ∙ again in
+      ap (λ u. nothingStage (rest s u bs) u) c ∙ nothing-skips (rest s t bs) t q
+
+  -- the upstream one did not end
+  after-end-stay : upstreamEnded P bs up down s ≡ t → headDue (t .stage) ≡ false → isDue true (t .stage) ≡ false → endStage (rest s t bs) t ≡ t → nothingDue (t .stage) ≡ false → fedState P bs up down s ≡ t
+  after-end-stay e h d again q = after-head-stay (ap (λ u. headStage P (rest s u bs) u) e ∙ head-skips P (rest s t bs) t h) d again q
+
+-- a first part of the input that the reader accepts as a stream
+pub record AcceptedPart (P : Params) (input : List ℕ) : Type 0 where
+  pub split : ℕ
+  pub within : split ≤ length input
+  pub reader : streamAnswer P (take split input) (zeros P) ≡ Done
+
+-- an answer with its offset counted from further ahead
+abbrev pub shifted : ℕ → Answer → Answer
+shifted i Done = Done
+shifted i (Refused w k) = Refused w (i + k)
+
+-- a downstream stream at the desk: as its reader answers it into a fresh sketch, save that a head which keeps the rules and has too many buckets is PARAM
+unfoldable pub downstreamAnswer : Params → List ℕ → Answer
+downstreamAnswer P bs = refuseIf (isHead (recordAt bs 0) && (goodParams (paramsIn bs) && not (fewEnough (paramsIn bs)))) Param 0 (streamAnswer P bs (zeros P))
+
+-- the upstream stream is accepted, and the downstream one refused at an offset of its own file
+pub record DownstreamRefused (P : Params) (input : List ℕ) (w : Refusal) (k : ℕ) : Type 0 where
+  pub upstream : AcceptedPart P input
+  pub offset : ℕ
+  pub reader-refuses : downstreamAnswer P (drop (upstream .split) input) ≡ Refused w offset
+  pub place : k ≡ upstream .split + offset
+
+-- a whole head is found
+head-here : (bs : List ℕ) → isKind headKind (recordAt bs 0) ≡ true → dueOf headKind bs ≡ Here
+unfolding dueOf
+head-here bs whole = rw (lt-leb (length bs) 0 (omega (arith, whole-record bs 0 headKind whole .1)), whole)
+
+-- the first head is accepted with the parameters P, and what follows it is fed to two fresh sketches, with all offsets within 64 bits
+module _ (P : Params) (input : List ℕ) (r : Fed) (up down : Sketch) (head : beginOf input ≡ record { answer = Done; params = P })
+    (near : offsetsFit (drop headLength input) started ≡ true) (fed : Feeds P (drop headLength input) (zeros P) (zeros P) started r up down) where
+  abbrev xs : List ℕ
+  xs = drop headLength input
+
+  -- what the end of the input then answers
+  abbrev pub deskAnswer : Answer
+  deskAnswer = finishAnswer (r .state .stage) (r .state .at)
+
+  b : Begun P input
+  b = begun P input head
+
+  opening : streamAnswer P input (zeros P) ≡ packetsJudged P input (zeros P)
+  opening = opened-judged P input (b .head) (good-params P input b) (b .good) (ap (sameParams P) (sym (b .params)) ∙ same-itself P)
+
+  state-is : r .state ≡ fedState P xs (zeros P) (zeros P) started
+  state-is = rw near at (fed .state)
+
+  -- a right end stands behind the upstream's packets
+  abbrev RightEnd : Type 0
+  RightEnd = (takenAnswer P xs (zeros P) ≡ Done) × (isKind endKind (recordAt (atFirstEnd P input b) 0) ≡ true) × (word (atFirstEnd P input b) recordsField ≡ firstNumber P input b)
+
+  upstream-came : Came P input (input-long P input b) (zeros P) false 0 started refl refl refl → (deskAnswer ≡ streamAnswer P input (zeros P)) ⊎ RightEnd
+  upstream-came (refused-there w k judged stage at) =
+      let t : State = upstreamEnded P xs (zeros P) (zeros P) started in
+      let stays = after-end-stay P xs (zeros P) (zeros P) started t refl (ap headDue stage) (ap (isDue true) stage) (end-skips (rest started t xs) t (ap packetsDue stage)) (ap nothingDue stage) in
+      inl (ap (λ s. finishAnswer (s .stage) (s .at)) (state-is ∙ stays) ∙ ap₂ finishAnswer stage (at ∙ zero-add k) ∙ sym (opening ∙ judged))
+  upstream-came (unfinished k judged same stage at) =
+      let t : State = upstreamEnded P xs (zeros P) (zeros P) started in
+      let stays = after-end-stay P xs (zeros P) (zeros P) started t refl (ap headDue stage) (ap (isDue true) stage) (ap (λ u. endStage (rest started u xs) u) same) (ap nothingDue stage) in
+      inl (ap (λ s. finishAnswer (s .stage) (s .at)) (state-is ∙ stays) ∙ ap₂ finishAnswer stage (at ∙ zero-add k) ∙ sym (opening ∙ judged))
+  upstream-came (passed-by done whole said) = inr (done, whole, said)
+
+  -- the upstream stream is refused as its reader refuses the input
+  pub upstream-refused : ((i : ℕ) → streamAnswer P (take i input) (zeros P) ≡ Done → ⊥) → deskAnswer ≡ streamAnswer P input (zeros P)
+  upstream-refused none =
+      ⊎-elim (λ e. e) (λ p. absurd (none (firstLength P input b) (sym (first-file P input b (p .0) (p .1) (p .2) .answer))))
+      (upstream-came (came P input (input-long P input b) (zeros P) false 0 started refl refl refl))
+
+  -- one or the other
+  pub either-stream : (deskAnswer ≡ streamAnswer P input (zeros P)) ⊎ AcceptedPart P input
+  either-stream =
+      ⊎-elim inl (λ p. inr (record { split = firstLength P input b; within = split-within P input b (p .0) (p .1) (p .2); reader = sym (first-file P input b (p .0) (p .1) (p .2) .answer) }))
+      (upstream-came (came P input (input-long P input b) (zeros P) false 0 started refl refl refl))
+
+  -- the first i bytes are a stream that the reader accepts
+  module _ (i : ℕ) (within : i ≤ length input) (reader : streamAnswer P (take i input) (zeros P) ≡ Done) where
+    abbrev file : List ℕ
+    file = drop i input
+
+    abbrev n : ℕ
+    n = packetsIn (take i input)
+
+    read : StreamRead P (take i input) (zeros P) Done (after P (flowsIn (take i input)) (numbersIn (take i input)) (zeros P))
+    unfolding kept
+    read = record { answer = sym reader; after-all = refl }
+
+    i-long : i ≡ headLength + (packetsLength * n + endLength)
+    i-long = sym (length-take-le i input within) ∙ file-long read
+
+    room : packetsLength * n + endLength ≤ length xs
+    room = omega (arith, i-long, length-drop headLength input)
+
+    bytes-same : (j : ℕ) → j < packetsLength * n + endLength → getD (take i input) (headLength + j) 0 ≡ getD xs j 0
+    bytes-same j l = getD-take i input (headLength + j) 0 (omega (arith, i-long)) ∙ sym (getD-drop headLength input j 0)
+
+    taken-back : (taken P xs (zeros P) ≡ n) × (takenAnswer P xs (zeros P) ≡ Done)
+    taken-back = all-back P (take i input) xs n (file-long read) room bytes-same read refl
+
+    right-kind : isKind endKind (recordAt (atFirstEnd P input b) 0) ≡ true
+    right-kind = rw (taken-back .0) (whole-left xs (packetsLength * n) endKind (omega arith) (end-back P (take i input) xs n (file-long read) room bytes-same read refl))
+
+    right-word : word (atFirstEnd P input b) recordsField ≡ firstNumber P input b
+    right-word = rw (taken-back .0) (word-at xs (packetsLength * n) recordsField ∙ said-back P (take i input) xs n (file-long read) room bytes-same read refl)
+
+    -- so the upstream ends there
+    abbrev headState : State
+    headState = record { stage = DownstreamHead; at = i; records = 0 }
+
+    at-head : upstreamEnded P xs (zeros P) (zeros P) started ≡ headState
+    at-head =
+        ends-right P input (input-long P input b) (zeros P) false 0 started refl refl refl (taken-back .1) right-kind right-word
+        ∙ ap (λ (k : ℕ). record { stage = DownstreamHead; at = k; records = 0 }) {x = headLength + packetsLength * taken P xs (zeros P) + endLength} {y = i} (omega (arith, i-long, taken-back .0))
+
+    -- and what is left of the bytes is what is left of the input
+    left-of : (t : State) → headLength ≤ t .at → rest started t xs ≡ drop (t .at) input
+    left-of t h = drop-drop (t .at - headLength) headLength input ∙ ap (λ (k : ℕ). drop k input) {x = headLength + (t .at - headLength)} {y = t .at} (omega arith)
+
+    headed-is : downstreamHeaded P xs (zeros P) (zeros P) started ≡ headStage P file headState
+    headed-is = ap (λ u. headStage P (rest started u xs) u) at-head ∙ ap (λ ys. headStage P ys headState) (left-of headState (omega (arith, i-long)))
+
+    -- the head is refused, or more of it is waited for
+    head-stops : (t : State) → headStage P file headState ≡ t → isDue true (t .stage) ≡ false → packetsDue (t .stage) ≡ false → nothingDue (t .stage) ≡ false → deskAnswer ≡ finishAnswer (t .stage) (t .at)
+    head-stops t e d q z =
+        ap (λ s. finishAnswer (s .stage) (s .at))
+        (state-is ∙ after-head-stay P xs (zeros P) (zeros P) started t (headed-is ∙ e) d (end-skips (rest started t xs) t q) z)
+
+    no-head : isKind headKind (recordAt file 0) ≡ false → deskAnswer ≡ Refused Form i
+    unfolding headStage
+    no-head e = at (dueOf headKind file) refl
+      where
+        at : (d : Due) → dueOf headKind file ≡ d → deskAnswer ≡ Refused Form i
+        at Here q = absurd (true≢false (sym (here-whole headKind file q) ∙ e))
+        at NotYet q = head-stops headState (rw q) refl refl refl
+        at Other q = head-stops (stopped Form headState) (rw q) refl refl refl
+
+    head-answered : (w : Refusal) (k : ℕ) → isKind headKind (recordAt file 0) ≡ true → downstreamHeadAnswer P (paramsIn file) ≡ Refused w k → deskAnswer ≡ Refused w i
+    unfolding headStage
+    head-answered w k e q = head-stops (stopped w headState) (rw (head-here file e, q)) refl refl refl
+
+    -- the head is right
+    module _ (whole : isKind headKind (recordAt file 0) ≡ true) (same : downstreamHeadAnswer P (paramsIn file) ≡ Done) where
+      abbrev s : State
+      s = record { stage = DownstreamPackets; at = i + headLength; records = 0 }
+
+      abbrev body : List ℕ
+      body = drop headLength file
+
+      at-packets : downstreamHeaded P xs (zeros P) (zeros P) started ≡ s
+      unfolding headStage
+      at-packets = headed-is ∙ rw (head-here file whole, same)
+
+      body-left : rest started s xs ≡ body
+      body-left = left-of s (omega arith) ∙ sym (drop-drop headLength i input)
+
+      into-body : (t : State) → i + headLength ≤ t .at → rest started t xs ≡ rest s t body
+      into-body t h =
+          left-of t (omega arith)
+          ∙ ap (λ (k : ℕ). drop k input) {x = t .at} {y = i + headLength + (t .at - (i + headLength))} (omega arith)
+          ∙ sym (drop-drop (t .at - (i + headLength)) (i + headLength) input)
+          ∙ ap (drop (t .at - (i + headLength))) (sym (drop-drop headLength i input))
+
+      file-whole : headLength ≤ length file
+      file-whole = omega (arith, whole-record file 0 headKind whole .1)
+
+      at-taken : downstreamTaken P xs (zeros P) (zeros P) started ≡ packetsStage true P body (zeros P) s
+      at-taken = ap (λ u. packetsStage true P (rest started u xs) (zeros P) u) at-packets ∙ ap (λ ys. packetsStage true P ys (zeros P) s) body-left
+
+      abbrev last : State
+      last = streamEnded P file file-whole (zeros P) true i s refl refl refl
+
+      at-last : downstreamEnded P xs (zeros P) (zeros P) started ≡ last
+      at-last =
+          let t : State = packetsStage true P body (zeros P) s in
+          ap (λ u. endStage (rest started u xs) u) at-taken
+          ∙ ap (λ ys. endStage ys t) (into-body t (omega (arith, taken-at P file file-whole (zeros P) true i s refl refl refl)))
+
+      ends-by : (t u : State) → last ≡ t → nothingStage (rest started t xs) t ≡ u → deskAnswer ≡ finishAnswer (u .stage) (u .at)
+      ends-by t u e q = ap (λ s. finishAnswer (s .stage) (s .at)) (state-is ∙ ap (λ u. nothingStage (rest started u xs) u) (at-last ∙ e) ∙ q)
+
+      good-same : (goodParams (paramsIn file) && fewEnough (paramsIn file) ≡ true) × (sameParams P (paramsIn file) ≡ true)
+      unfolding downstreamHeadAnswer
+      good-same =
+          let h = refuse-done (not (goodParams (paramsIn file) && fewEnough (paramsIn file))) Param 0 _ same in
+          (not-false _ (h .0), not-false _ (refuse-done (not (sameParams P (paramsIn file))) Mismatch 0 Done (h .1) .0))
+
+      judged-so : streamAnswer P file (zeros P) ≡ packetsJudged P file (zeros P)
+      judged-so = opened-judged P file whole (good-params P input b) (and-true (goodParams (paramsIn file)) _ (good-same .0) .0) (good-same .1)
+
+      by-records : Came P file file-whole (zeros P) true i s refl refl refl → deskAnswer ≡ shifted i (streamAnswer P file (zeros P))
+      unfolding nothingStage
+      by-records (refused-there w k judged stage at) =
+          ends-by last last refl (nothing-skips (rest started last xs) last (ap nothingDue stage)) ∙ ap₂ finishAnswer stage at ∙ ap (shifted i) (sym (judged-so ∙ judged))
+      by-records (unfinished k judged here stage at) =
+          ends-by last last refl (nothing-skips (rest started last xs) last (ap nothingDue stage)) ∙ ap₂ finishAnswer stage at ∙ ap (shifted i) (sym (judged-so ∙ judged))
+      by-records (passed-by done kind said) = at (leb (length (rest started t xs)) 0) refl
+        where
+          t : State
+          t = record { stage = Nothing; at = i + headLength + packetsLength * taken P body (zeros P) + endLength; records = 0 }
+
+          ends : last ≡ t
+          ends = ends-right P file file-whole (zeros P) true i s refl refl refl done kind said
+
+          over : length (rest started t xs) ≡ length input - t .at
+          over = ap length (left-of t (omega arith)) ∙ length-drop (t .at) input
+
+          at : (b : Bool) → leb (length (rest started t xs)) 0 ≡ b → deskAnswer ≡ shifted i (streamAnswer P file (zeros P))
+          at true q =
+              let short : length file ≤ packetPlace (packetsFrom 0 body) + endLength = omega (arith, leb-true (length (rest started t xs)) 0 q, over, all-taken P body (zeros P) done .number, length-drop i input) in
+              ends-by t t ends (rw q) ∙ ap (shifted i) (sym (judged-so ∙ all-read P file file-whole (zeros P) true i s refl refl refl done kind said short))
+          at false q =
+              let long : packetPlace (packetsFrom 0 body) + endLength < length file = omega (arith, leb-false (length (rest started t xs)) 0 q, over, all-taken P body (zeros P) done .number, length-drop i input) in
+              ends-by t (stopped Form t) ends (rw q)
+              ∙ ap (Refused Form) {x = t .at} {y = i + (packetPlace (packetsFrom 0 body) + endLength)} (omega (arith, all-taken P body (zeros P) done .number))
+              ∙ ap (shifted i) (sym (judged-so ∙ more-behind P file file-whole (zeros P) true i s refl refl refl done kind said long))
+
+      right-head : deskAnswer ≡ shifted i (streamAnswer P file (zeros P))
+      right-head = by-records (came P file file-whole (zeros P) true i s refl refl refl)
+
+    -- no sooner: at the first byte of the downstream's file
+    at-first : {w : Refusal} → deskAnswer ≡ Refused w i → downstreamAnswer P file ≡ Refused w 0 → deskAnswer ≡ shifted i (downstreamAnswer P file)
+    at-first {w} e q = e ∙ ap (Refused w) {x = i} {y = i + 0} (omega arith) ∙ ap (shifted i) (sym q)
+
+    -- the downstream stream is answered as its reader answers it
+    pub downstream-answered : deskAnswer ≡ shifted i (downstreamAnswer P (drop i input))
+    unfolding downstreamAnswer downstreamHeadAnswer streamAnswer parametersAnswer first
+    downstream-answered = at (isKind headKind (recordAt file 0)) refl (goodParams (paramsIn file)) refl (fewEnough (paramsIn file)) refl (sameParams P (paramsIn file)) refl
+      where
+        at : (h : Bool) → isKind headKind (recordAt file 0) ≡ h → (g : Bool) → goodParams (paramsIn file) ≡ g → (f : Bool) → fewEnough (paramsIn file) ≡ f → (a : Bool) → sameParams P (paramsIn file) ≡ a
+            → deskAnswer ≡ shifted i (downstreamAnswer P file)
+        at false h g g' f f' a a' = at-first (no-head h) (rw h)
+        at true h false g f f' a a' = at-first (head-answered Param 0 h (rw g)) (rw (h, g))
+        at true h true g false f a a' = at-first (head-answered Param 0 h (rw (g, f))) (rw (h, g, f))
+        at true h true g true f false a = at-first (head-answered Mismatch 0 h (rw (g, f, a))) (rw (h, g, f, good-params P input b, a))
+        at true h true g true f true a = let plain : streamAnswer P file (zeros P) ≡ downstreamAnswer P file = rw (h, g, f) in right-head h (rw (g, f, a)) ∙ ap (shifted i) plain
+
+  -- so a refusal is one of the upstream stream's reader, or one of the downstream's, further on by the upstream's bytes
+  pub refused-as : (w : Refusal) (k : ℕ) → deskAnswer ≡ Refused w k → (streamAnswer P input (zeros P) ≡ Refused w k) ⊎ DownstreamRefused P input w k
+  refused-as w k e =
+      ⊎-elim (λ h. inl (sym h ∙ e)) (λ p. inr (from-rest p (downstreamAnswer P (drop (p .split) input)) refl (sym (downstream-answered (p .split) (p .within) (p .reader)) ∙ e)))
+      either-stream
+    where
+      from-rest : (p : AcceptedPart P input) (a : Answer) → downstreamAnswer P (drop (p .split) input) ≡ a → shifted (p .split) a ≡ Refused w k → DownstreamRefused P input w k
+      from-rest p Done h q = absurd (let z : _≡_ {A = ℕ} 0 1 = cc in omega arith)
+      from-rest p (Refused v j) h q = record { upstream = p; offset = j; reader-refuses = h ∙ cc; place = cc }
