@@ -1,5 +1,6 @@
--- The laws of settling: its stages, differences that are whole, and two streams, which are never refused.
+-- The laws of settling: its stages, what a caller may rely on, differences that are whole, and two streams, which are never refused.
 pub mod Differences
 pub mod Settled
+pub mod AtTheCall
 pub mod TwoStreams
 pub mod Reported
