@@ -30,6 +30,23 @@ void make_packets(struct packets *packets, uint64_t *seed, size_t length, uint32
     }
 }
 
+static uint32_t power(uint32_t base, uint32_t exponent) {
+    uint64_t result = 1;
+    for (uint64_t square = base; exponent > 0; exponent /= 2, square = square * square % PRIME)
+        if (exponent % 2)
+            result = result * square % PRIME;
+    return (uint32_t)result;
+}
+
+// A flow's value in array 1 is a * f + b modulo the prime; those at place 0 are the multiples of m.
+void gather(struct packets *packets, uint64_t *seed, const struct params *params) {
+    uint64_t inverse = power(params->a[0], PRIME - 2);
+    for (size_t i = 0; i < packets->length; i++) {
+        uint64_t value = (uint64_t)params->m * number_below(seed, PRIME / params->m);
+        packets->flows[i] = (uint32_t)((value + PRIME - params->b[0]) % PRIME * inverse % PRIME);
+    }
+}
+
 static uint8_t *put_word(uint8_t *at, uint32_t word) {
     for (int shift = 24; shift >= 0; shift -= 8)
         *at++ = (uint8_t)(word >> shift);

@@ -23,6 +23,9 @@ struct params make_params(uint64_t *seed, uint32_t d, uint32_t m);
 // Flows anywhere among all flow numbers, each by 1 to most_number packets.
 void make_packets(struct packets *packets, uint64_t *seed, size_t length, uint32_t most_number);
 
+// Puts other flows in their stead that all stand at one place of array 1.
+void gather(struct packets *packets, uint64_t *seed, const struct params *params);
+
 void make_stream(struct stream *stream, const struct params *params, const struct packets *packets);
 
 #endif

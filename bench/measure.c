@@ -28,12 +28,13 @@ static const struct shape {
 } shapes[] = {{3, 341}, {3, 1365}, {3, 5461}, {3, 16384}, {4, 16384}};
 
 // What is measured: an operation under parameters of a shape. A walk has so many lost flows in a hundred buckets, each by up to
-// most_lost packets.
+// most_lost packets, which stand anywhere or all at one place of array 1.
 struct plan {
     const struct operation *operation;
     struct shape shape;
     uint32_t load;
     uint32_t most_lost;
+    uint32_t one_place;
 };
 
 struct plans {
@@ -52,11 +53,13 @@ static struct plans all_plans(void) {
     struct plans all = {0};
     for (size_t i = 0; i < sizeof plain / sizeof *plain; i++)
         for (size_t j = 0; j < shape_count; j++)
-            all.plans[all.length++] = (struct plan){plain[i], shapes[j], 0, 0};
+            all.plans[all.length++] = (struct plan){plain[i], shapes[j], 0, 0, 0};
     for (size_t k = 0; k < 2; k++)
         for (size_t i = 0; i < sizeof loads / sizeof *loads; i++)
             for (size_t j = 0; j < shape_count; j++)
-                all.plans[all.length++] = (struct plan){&peel, shapes[j], loads[i], most_lost[k]};
+                all.plans[all.length++] = (struct plan){&peel, shapes[j], loads[i], most_lost[k], 0};
+    for (size_t j = 0; j < shape_count; j++)
+        all.plans[all.length++] = (struct plan){&peel, shapes[j], loads[0], most_lost[1], 1};
     return all;
 }
 
@@ -77,6 +80,8 @@ static void prepare(const struct plan *plan, size_t packets) {
         make_packets(&given.packets, &seed, size * plan->load / 100, plan->most_lost);
     else
         make_packets(&given.packets, &seed, packets, MOST_NUMBER);
+    if (plan->one_place)
+        gather(&given.packets, &seed, &given.params);
     make_stream(&given.stream, &given.params, &given.packets);
     int begins_full = plan->operation == &subtract || plan->operation == &peel;
     put_in(given.start_counts, given.start_idsums, begins_full ? given.packets.length : 0);
@@ -162,8 +167,8 @@ static double median(double *numbers, size_t length) {
 }
 
 static void print_plan(size_t number, const struct plan *plan) {
-    printf("%zu\t%s\t%u\t%u\t%u\t%u", number, plan->operation->name, plan->shape.d * plan->shape.m, plan->shape.d, plan->load,
-           plan->most_lost);
+    printf("%zu\t%s\t%u\t%u\t%u\t%u\t%u", number, plan->operation->name, plan->shape.d * plan->shape.m, plan->shape.d,
+           plan->load, plan->most_lost, plan->one_place);
 }
 
 // Behind the plan: how the walk ended, the rounds, the nanoseconds a packet or a bucket of ours and of the baseline, the ratio.

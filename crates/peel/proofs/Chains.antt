@@ -3,13 +3,25 @@ use mathlib.Core.Path.{_≡_, refl, sym, ap, _∙_}
 use mathlib.Core.List.{List}
 use Prim.Native.Nat.{ℕ, _+_, _*_, _-_, _/_, _%_, _<_, _≤_, min}
 use native.Mathlib.Decide.{ℕ-discrete, decLt}
+use native.Mathlib.Nat.{mul-le-mul}
 use native.Mathlib.Omega.{arith}
 use lib.ListN.{length, getD, set}
 use lib.Seq.{getD-set-same, getD-set-other}
+use Rattle.params.specs.declared.params.Params.{Params}
+use Rattle.params.specs.Params.{Dimensions}
 use Rattle.peel.specs.Ring.{SameAbove}
-use Rattle.peel.specs.Chains.{Newest, Chains, Chained, Linked, Relinked}
+use Rattle.peel.specs.Chains.{chainBy, chainKey, Newest, Chains, Chained, Linked, Relinked}
 use Rattle.peel.specs.Table.{Finds, FindsFrom}
+use Rattle.peel.proofs.Begins.{size-some}
 use Rattle.peel.proofs.Rings.{store-keeps}
+
+-- a flow's key is that of a chain
+scaled-below : (x n : ℕ) → x ≤ 65535 → 0 < n → x * n / 65536 < n
+scaled-below x n h some = omega (arith, mul-le-mul {n₁ = x} {m₁ = n} {n₂ = 65535} {m₂ = n} h (omega arith))
+
+pub key-below : {P : Params} (f : ℕ) → Dimensions P → chainKey P f < P .d * P .m
+unfolding chainBy
+key-below f s = scaled-below _ _ (omega arith) (size-some s)
 
 module _ {key : ℕ → ℕ} {size : ℕ} {fs q ms : List ℕ} where
   pub chains-none : ((k : ℕ) → getD ms k 0 / 2 ≡ 0) → Chains key size fs q ms 0

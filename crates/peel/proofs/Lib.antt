@@ -19,3 +19,4 @@ pub mod Begins
 pub mod Peeled
 pub mod Promised
 pub mod InOrder
+pub mod Examples

@@ -7,21 +7,23 @@ use native.Mathlib.Nat.{zero-add}
 use native.Mathlib.Omega.{arith}
 use lib.IntN.{pos}
 use lib.ListN.{length, getD, replicate}
+use Rattle.field.specs.Flow.{flow}
 use Rattle.params.specs.declared.params.Params.{Params}
 use Rattle.params.specs.declared.answers.Refusal.{Refusal}
 use Rattle.params.specs.declared.answers.Refusal.the-variants.{Param, Length, Flow, Count, Damage, Range as OutOfRange, Mismatch, Form}
 use Rattle.params.specs.declared.answers.Answer.{Answer}
 use Rattle.params.specs.declared.answers.Answer.the-variants.{Done, Refused}
 use Rattle.params.specs.Answers.{numberOf, numberIn, indexIn, kept}
-use Rattle.params.specs.Params.{size, isFlow}
+use Rattle.params.specs.Params.{primeOf, size, isFlow}
+use Rattle.params.specs.Positions.{stands}
 use Rattle.buckets.specs.Buckets.{inLimits}
 use Rattle.sketch.specs.Sketch.{Sketch, Entry, by, countIn, idsumIn, sketchOf}
 use Rattle.sums.specs.Sums.{combined}
 use Rattle.sketch.proofs.Tables.{getD-from}
-use Rattle.walk.specs.declared.Found.the-variants.{Pure}
 use Rattle.walk.specs.Endings.{endingNumber}
 use Rattle.walk.specs.Walk.{Outcome, closedTable, netFigure}
-use Rattle.walk.specs.Purity.{pureTest}
+use Rattle.walk.specs.Purity.{pureTest, foundNumber}
+use Rattle.walk.proofs.Numbers.{pure-by-number}
 use Rattle.walk.proofs.Promises as walks
 use Rattle.walk.proofs.Promises.{Whole, Nothing}
 use Rattle.params.proofs.Judging.{number-some}
@@ -141,10 +143,20 @@ module _ {P : Params} {a : ℕ} {L : Slices} {r : Peeled} {L' : Slices} (h : Pee
     pub stuck-remains : peeledEnding r ≡ 2 → Nothing S' → ⊥
     stuck-remains e n = walks.stuck-remains P (length (L .flows)) a S (sym ending-is ∙ e) (subst (λ (T : Sketch). Nothing T) remainder-is n)
 
-    pub stuck-only : peeledEnding r ≡ 2 → (k f : ℕ) → k < size P → pureTest P k (countIn S' k) (idsumIn S' k) ≡ Pure f → ⊥
-    stuck-only e k f l t =
-        walks.stuck-only P (length (L .flows)) a S sound-input (sym ending-is ∙ e) k f l
-        (subst (λ (T : Sketch). pureTest P k (countIn T k) (idsumIn T k) ≡ Pure f) remainder-is t)
+    pub stuck-only : peeledEnding r ≡ 2 → (k : ℕ) → k < size P → foundNumber (pureTest P k (countIn S' k) (idsumIn S' k)) ≡ 1 → ⊥
+    stuck-only e k l t =
+        walks.stuck-only P (length (L .flows)) a S sound-input (sym ending-is ∙ e) k _ l
+        (pure-by-number _ (subst (λ (T : Sketch). foundNumber (pureTest P k (countIn T k) (idsumIn T k)) ≡ 1) remainder-is t))
+
+    -- so where a count remains, the one flow of its bucket does not stand there
+    pub stuck-stands : peeledEnding r ≡ 2 → (k : ℕ) → k < size P → (countIn S' k ≡ pos 0 → ⊥) → stands P (flow (primeOf P) (countIn S' k) (idsumIn S' k)) k ≡ false
+    stuck-stands e k l d =
+        subst (λ (T : Sketch). stands P (flow (primeOf P) (countIn T k) (idsumIn T k)) k ≡ false) (sym remainder-is)
+        (walks.stuck-stands P (length (L .flows)) a S sound-input (sym ending-is ∙ e) k l (λ z. d (ap (λ (T : Sketch). countIn T k) remainder-is ∙ z)))
+
+    -- the end is never no inverse
+    pub no-inverse-never : peeledEnding r ≡ 4 → ⊥
+    no-inverse-never e = walks.no-inverse-never P (length (L .flows)) a S sound-input (sym ending-is ∙ e)
 
     -- never more pops than allowed, and all of them where the end is spent
     pops-are : peeledPops r ≡ o .pops

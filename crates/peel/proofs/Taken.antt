@@ -15,7 +15,7 @@ use Rattle.field.proofs.Residues.{residue-below}
 use Rattle.params.specs.declared.params.Params.{Params}
 use Rattle.params.specs.Lists.{touched}
 use Rattle.params.specs.Params.{prime}
-use Rattle.params.specs.Positions.{stand, index, standsIn, Positioned}
+use Rattle.params.specs.Positions.{index, standsIn, Positioned}
 use Rattle.buckets.specs.Buckets.{inLimits}
 use Rattle.sketch.specs.Sketch.{Sketch, Entry, sketch, changedIn}
 use Rattle.params.proofs.Searches.{and-true}
@@ -26,7 +26,7 @@ use Rattle.walk.specs.Purity.{ruleOf}
 use Rattle.walk.proofs.Purity.{index-next}
 use Rattle.peel.specs.Slices.{Slices}
 use Rattle.peel.specs.Ring.{ring, Requeued}
-use Rattle.peel.specs.Chains.{Relinked}
+use Rattle.peel.specs.Chains.{chainKey, Relinked}
 use Rattle.peel.specs.Table.{Credited}
 use Rattle.peel.specs.Nonzero.{Sane, Applied}
 use Rattle.peel.specs.Rep.{fitsAt, Takes, Took}
@@ -78,13 +78,10 @@ same-state : {S T : Sketch} {q r : List ℕ} {t u : List Entry} → S ≡ T → 
 same-state a b c = λ i. record { held = a i; queue = b i; table = c i }
 
 -- the calls of a take leave what the definition says: q₁ and ms₁ are the queue and the marks once f is credited
-module _ {P : Params} {L : Slices} {head waiting nonzero entries : ℕ} {ks : List ℕ} {at f : ℕ} {c : ℤ} {s : ℕ} (t : Takes P L head waiting nonzero entries ks at f c s) where
-  first-position : getD ks 0 0 ≡ stand P 0 f
-  first-position = t .positions .at 0 (omega (arith, t .holds .dimensions .d-low))
-
+module _ {P : Params} {L : Slices} {head waiting nonzero entries : ℕ} {ks : List ℕ} {chain at f : ℕ} {c : ℤ} {s : ℕ} (t : Takes P L head waiting nonzero entries ks chain at f c s) where
   module _ {L' : Slices} {nonzero' entries' waiting' : ℕ} {q₁ ms₁ : List ℕ} (a : Applied (P .d) (P .m) ks c s (L .counts) (L .idsums) (L' .counts) (L' .idsums) nonzero')
       (long : length (L' .flows) ≡ length (L .flows)) (long-numbers : length (L' .numbers) ≡ length (L .numbers)) (credit : Credited f c (L .flows) (L .numbers) entries (L' .flows) (L' .numbers) entries')
-      (long-queue : length q₁ ≡ length (L .queue)) (l : Relinked f (getD ks 0 0) (L .flows) (L .queue) (L .marks) entries (L' .flows) q₁ ms₁ entries')
+      (long-queue : length q₁ ≡ length (L .queue)) (l : Relinked f chain (L .flows) (L .queue) (L .marks) entries (L' .flows) q₁ ms₁ entries')
       (r : Requeued (P .d) (P .m) ks (L' .counts) q₁ ms₁ head waiting (L' .queue) (L' .marks) waiting') where
     pub took : Took P L head waiting entries f c s (record { waiting = waiting'; nonzero = nonzero'; entries = entries' }) L'
     unfolding taken
@@ -98,7 +95,7 @@ module _ {P : Params} {L : Slices} {head waiting nonzero entries : ℕ} {ks : Li
             ringed = r .ringed;
             chained =
                 chains-kept (r .above) (r .above-marks)
-                (rw (h .ringed .long) at (l .chains (stand P 0) (sym first-position) (rw (h .ringed .long) (h .chained))));
+                (rw (h .ringed .long) at (l .chains (chainKey P) (sym (t .keyed)) (rw (h .ringed .long) (h .chained))));
             counted = a .counted;
             room = omega (arith, credit .room);
           };

@@ -11,7 +11,7 @@ use lib.IntN.{ℤ, pos, _+ℤ_, +ℤ-idl}
 use lib.ListN.{length, getD}
 use Rattle.params.specs.declared.params.Params.{Params}
 use Rattle.params.specs.Lists.{from}
-use Rattle.params.specs.Positions.{stand, Positioned}
+use Rattle.params.specs.Positions.{Positioned}
 use Rattle.buckets.specs.Buckets.{inLimits}
 use Rattle.walk.specs.declared.Ending.{Ending}
 use Rattle.walk.specs.declared.Ending.the-variants.{Clean, Stuck, Spent, NoInverse, Range, Full}
@@ -21,7 +21,7 @@ use Rattle.walk.specs.Purity.{pureTest, ruleOf}
 use Rattle.peel.specs.declared.take.Taken.{Taken}
 use Rattle.peel.specs.Slices.{Slices, lentSketch, withMarks}
 use Rattle.peel.specs.Ring.{ringPlace, ring, Popped}
-use Rattle.peel.specs.Chains.{Chained}
+use Rattle.peel.specs.Chains.{chainKey, Chained}
 use Rattle.peel.specs.Table.{tableOf, Finds}
 use Rattle.peel.specs.Rep.{stateOf, Holds, fitsAt, Takes, Took}
 use Rattle.peel.proofs.Chains.{chains-kept}
@@ -140,9 +140,9 @@ module _ {P : Params} {slots allowance : ℕ} {goal : Outcome} {L : Slices} {hea
 
       -- the take of flow f, whose positions are ks
       module _ {f : ℕ} (e : pureTest P k c s ≡ Pure f) {ks : List ℕ} (at-ks : Positioned P f ks) where
-        -- by its position in array 1, f can be looked up
-        pub chained : Chained (P .d * P .m) (L .flows) (L .queue) ms entries f (getD ks 0 0)
-        chained = record { key = stand P 0; of-flow = sym (at-ks .at 0 (omega (arith, v .holds .dimensions .d-low))); chains = popped-holds .chained }
+        -- by its key f can be looked up
+        pub chained : Chained (P .d * P .m) (L .flows) (L .queue) ms entries f (chainKey P f)
+        chained = record { key = chainKey P; of-flow = refl; chains = popped-holds .chained }
 
         pub range-count : (i : ℕ) → i < P .d → fitsAt (P .m) ks (L .counts) c i ≡ false → out Range (pops + 1) next ≡ goal
         range-count i l x =
@@ -175,11 +175,12 @@ module _ {P : Params} {slots allowance : ℕ} {goal : Outcome} {L : Slices} {hea
                 (λ l. omega (arith, v .holds .room, v .long))
                 (eq-or-lt-of-le (finds .within))
 
-            pub may-take : Takes P (withMarks ms L) next-head (waiting - 1) nonzero entries ks at f c s
-            may-take =
+            pub may-take : {chain : ℕ} → chain ≡ chainKey P f → Takes P (withMarks ms L) next-head (waiting - 1) nonzero entries ks chain at f c s
+            may-take keyed =
                 record {
                   holds = popped-holds;
                   positions = at-ks;
+                  keyed = keyed;
                   small = v .holds .sane .idsums k;
                   fits = fits;
                   finds = finds;

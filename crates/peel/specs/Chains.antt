@@ -1,11 +1,22 @@
--- The chains of table slots by which a flow is looked up. A flow has a key, which in the walk is its position in array 1 (`stand P 0`), and the
--- slots of the flows with key k make chain k, the newest first: `marks[k] / 2` is 1 + the newest slot of chain k, and `queue[e] / 65536` is
--- 1 + the slot after e in its chain, a lower one; 0 ends a chain. Slots past the queue's end are in no chain.
+-- The chains of table slots by which a flow is looked up. A flow has a key, which in the walk is `chainKey`, and the slots of the flows with key k
+-- make chain k, the newest first: `marks[k] / 2` is 1 + the newest slot of chain k, and `queue[e] / 65536` is 1 + the slot after e in its chain, a
+-- lower one; 0 ends a chain. Slots past the queue's end are in no chain. No answer depends on the key, only how long a look-up takes.
 use mathlib.Core.Path.{_≡_}
 use mathlib.Core.List.{List}
 use Prim.Native.Nat.{ℕ, _+_, _*_, _-_, _/_, _%_, _<_, _≤_, min}
 use lib.ListN.{getD, length, set}
+use Rattle.params.specs.declared.params.Params.{Params}
+use Rattle.params.specs.Params.{prime, size}
 use Rattle.peel.specs.Ring.{SameBelow}
+
+-- which of n chains flow f belongs to: its value by a pair a, b, before that is reduced to a position, multiplied by 2^32 over the golden ratio so that
+-- values which differ by multiples of m part as well, and the upper 16 of the product's 32 bits brought below n
+unfoldable pub chainBy : ℕ → ℕ → ℕ → ℕ → ℕ
+chainBy a b n f = (a * f + b) % prime * 2654435769 % 4294967296 / 65536 * n / 65536
+
+-- the key of flow f in the walk: by the pair of array 1, one of d * m
+abbrev pub chainKey : Params → ℕ → ℕ
+chainKey P = chainBy (getD (P .a) 0 0) (getD (P .b) 0 0) (size P)
 
 -- x is 1 + the greatest slot below b whose flow has key k, or 0 where no flow has
 pub record Newest (key : ℕ → ℕ) (fs : List ℕ) (k b x : ℕ) : Type 0 where

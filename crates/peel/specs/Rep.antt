@@ -7,7 +7,7 @@ use lib.IntN.{ℤ, pos, _+ℤ_, _-ℤ_}
 use lib.ListN.{getD, length}
 use Rattle.params.specs.declared.params.Params.{Params}
 use Rattle.params.specs.Params.{prime, Dimensions}
-use Rattle.params.specs.Positions.{stand, Positioned}
+use Rattle.params.specs.Positions.{Positioned}
 use Rattle.buckets.specs.Buckets.{inLimits}
 use Rattle.walk.specs.Walk.{State, Outcome, entryOf, taken, closedTable, netOf}
 use Rattle.walk.specs.Purity.{ruleOf}
@@ -16,7 +16,7 @@ use Rattle.peel.specs.declared.walking.Walked.{Walked}
 use Rattle.peel.specs.declared.peeling.Figures.{Figures}
 use Rattle.peel.specs.Slices.{Slices, lentSketch}
 use Rattle.peel.specs.Ring.{ring, Ring}
-use Rattle.peel.specs.Chains.{Chains}
+use Rattle.peel.specs.Chains.{chainKey, Chains}
 use Rattle.peel.specs.Table.{tableOf, Finds}
 use Rattle.peel.specs.Nonzero.{nonzeroBuckets, Sane}
 
@@ -34,7 +34,7 @@ pub record Holds (P : Params) (L : Slices) (head waiting nonzero entries : ℕ) 
   pub sane : Sane (P .d * P .m) (L .counts) (L .idsums)
   pub slots : length (L .numbers) ≡ length (L .flows)
   pub ringed : Ring (P .d * P .m) (L .queue) (L .marks) head waiting
-  pub chained : Chains (stand P 0) (P .d * P .m) (L .flows) (L .queue) (L .marks) entries
+  pub chained : Chains (chainKey P) (P .d * P .m) (L .flows) (L .queue) (L .marks) entries
   pub counted : nonzero ≡ nonzeroBuckets (L .counts) (L .idsums)
   pub room : entries ≤ length (L .flows)
 
@@ -42,10 +42,11 @@ pub record Holds (P : Params) (L : Slices) (head waiting nonzero entries : ℕ) 
 abbrev pub fitsAt : ℕ → List ℕ → List ℤ → ℤ → ℕ → Bool
 fitsAt m ks cs c i = inLimits (getD cs (i * m + getD ks i 0) (pos 0) -ℤ c)
 
--- flow f may be taken with count c and idsum s: ks are its positions and `at` is its slot, and all stays within the limits
-pub record Takes (P : Params) (L : Slices) (head waiting nonzero entries : ℕ) (ks : List ℕ) (at f : ℕ) (c : ℤ) (s : ℕ) : Type 0 where
+-- flow f may be taken with count c and idsum s: ks are its positions, `chain` is its chain and `at` its slot, and all stays within the limits
+pub record Takes (P : Params) (L : Slices) (head waiting nonzero entries : ℕ) (ks : List ℕ) (chain at f : ℕ) (c : ℤ) (s : ℕ) : Type 0 where
   pub holds : Holds P L head waiting nonzero entries
   pub positions : Positioned P f ks
+  pub keyed : chain ≡ chainKey P f
   pub small : s < prime
   pub fits : (i : ℕ) → i < P .d → fitsAt (P .m) ks (L .counts) c i ≡ true
   pub finds : Finds (L .flows) entries f at

@@ -1,6 +1,7 @@
-// The table of flows: the first n slots of two slices, in the order of first takes. Flows with one position in array 1 are
-// chained, so that a flow is looked up among these alone: `marks[k] / 2` is 1 + the newest slot of a flow with position k, and
-// `queue[e] / 65536` is 1 + the next lower slot with the position of slot e. A slot past the queue's end has no room for a link, and is scanned.
+// The table of flows: the first n slots of two slices, in the order of first takes. Slots are chained, as many chains as there are
+// buckets, so that a flow is looked up along its own chain alone: `marks[k] / 2` is 1 + the newest slot of chain k, and `queue[e] / 65536` is 1 + the
+// next lower slot in the chain of slot e. A slot past the queue's end, in a table with more slots than there are buckets, has no room for a link, and
+// is scanned: a look-up compares at most as many flows there as there are entries past d * m, which is below 65536.
 ghost use mathlib.Core.Path.{_≡_};
 ghost use mathlib.Core.Bool.{true};
 ghost use mathlib.Core.List.{List};
@@ -10,14 +11,38 @@ ghost use lib.ListN.{length, getD};
 ghost use Rattle.buckets.specs.Buckets.{inLimits};
 ghost use Rattle.walk.specs.Walk.{entryOf, netFigure};
 ghost use Rattle.peel.specs.Ring.{Cleared};
-ghost use Rattle.peel.specs.Chains.{Chained, Linked, Relinked};
+ghost use Rattle.params.specs.Params.{Dimensions};
+ghost use Rattle.peel.specs.Chains.{chainBy, chainKey, Chained, Linked, Relinked};
 ghost use Rattle.peel.specs.Table.{tableOf, Finds, FindsFrom, Credited, Closed, Lists};
 use crate::queue::clear;
+use params::PRIME;
+use params::Params;
 
 // How many entries a closed table has, and the sum of their numbers.
 pub(crate) struct Listed {
     pub entries: usize,
     pub net: i64,
+}
+
+// Which of so many chains a flow belongs to, by its value in an array with the pair a, b, before that is reduced to a position.
+// The multiplier is 2^32 over the golden ratio: it parts values that differ by multiples of m, which those of flows at one place do.
+fn chain_by(a: u32, b: u32, chains: usize, f: u32) -> usize
+    requires { ⌜ chains ≤ 65536 ⌝ }
+    ensures { λ r. ⌜ r ≡ chainBy a b chains f ⌝ }
+{
+    let value = (a as u64 * f as u64 + b as u64) % PRIME as u64;
+    let spread = value * 2654435769 % 4294967296 / 65536;
+    (spread * chains as u64 / 65536) as usize
+}
+
+// The chain of flow f. It goes by the pair of array 1, so that who does not choose the parameters cannot foresee it.
+pub(crate) fn chain_of(p: Params, f: u32) -> usize
+    requires { ⌜ Dimensions p ⌝ }
+    ensures { λ r. ⌜ r ≡ chainKey p f ⌝ }
+{
+    let a = p.a;
+    let b = p.b;
+    chain_by(a[0], b[0], p.d * p.m, f)
 }
 
 // The slot of f among those from `first` on and below n, or n.
@@ -35,7 +60,7 @@ fn scan(flows: &[u32], first: usize, n: usize, f: u32) -> usize
     n
 }
 
-// The slot of f, which stands at k in array 1, among the first n, or n.
+// The slot of f, which belongs to chain k, among the first n, or n.
 pub(crate) fn find(flows: &[u32], queue: &[u32], marks: &[u32], n: usize, f: u32, k: usize) -> usize
     requires { ⌜ Chained (length (now queue)) (now flows) (now queue) (now marks) n f k × (n ≤ length (now flows)) × (k < length (now marks)) ⌝ }
     ensures { λ r. ⌜ Finds (now (flows .entry)) n f r ⌝ }
@@ -60,7 +85,7 @@ fn link(queue: &mut [u32], marks: &mut [u32], e: usize, k: usize)
     marks[k] = (e as u32 + 1) * 2 + marks[k] % 2;
 }
 
-// c more for f, whose slot is `at` and which stands at k in array 1: the number of entries then.
+// c more for f, whose slot is `at` and which belongs to chain k: the number of entries then.
 pub(crate) fn credit(
     flows: &mut [u32],
     numbers: &mut [i32],

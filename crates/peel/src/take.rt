@@ -104,7 +104,7 @@ pub(crate) fn apply(
     nonzero
 }
 
-// Takes flow f, whose positions are ks and whose slot is `at`, with the count c and the idsum s of the popped bucket: from its
+// Takes flow f, whose positions are ks, whose chain is `chain` and whose slot is `at`, with the count c and the idsum s of the popped bucket: from its
 // buckets, into the table, and then its buckets that have a count go to the queue's back.
 pub(crate) fn take_flow(
     p: Params,
@@ -119,18 +119,19 @@ pub(crate) fn take_flow(
     waiting: usize,
     nonzero: usize,
     entries: usize,
+    chain: usize,
     at: usize,
     f: u32,
     c: i32,
     s: u32,
 ) -> Taken
-    requires { ⌜ Takes p (slices (now counts) (now idsums) (now flows) (now numbers) (now queue) (now marks)) head waiting nonzero entries (now ks) at f c s ⌝ }
+    requires { ⌜ Takes p (slices (now counts) (now idsums) (now flows) (now numbers) (now queue) (now marks)) head waiting nonzero entries (now ks) chain at f c s ⌝ }
     ensures { λ r. ⌜ Took p (slices (now (counts .entry)) (now (idsums .entry)) (now (flows .entry)) (now (numbers .entry)) (now (queue .entry)) (now (marks .entry))) head waiting entries f c s r (slices (now (counts .exit)) (now (idsums .exit)) (now (flows .exit)) (now (numbers .exit)) (now (queue .exit)) (now (marks .exit))) ⌝ }
 {
     let d = p.d;
     let m = p.m;
     let still_nonzero = apply(d, m, ks, counts, idsums, c, s, nonzero);
-    let listed = credit(flows, numbers, queue, marks, entries, at, f, ks[0], c);
+    let listed = credit(flows, numbers, queue, marks, entries, at, f, chain, c);
     let queued = requeue(d, m, ks, counts, queue, marks, head, waiting);
     Taken {
         waiting: queued,

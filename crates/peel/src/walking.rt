@@ -9,6 +9,7 @@ ghost use Rattle.peel.specs.Rep.{Holds, Peelable, stateOf, Walks};
 use crate::queue::pop;
 use crate::queue::ring_place;
 use crate::queue::start;
+use crate::table::chain_of;
 use crate::table::find;
 use crate::take::count_nonzero;
 use crate::take::fits;
@@ -82,7 +83,8 @@ fn walk(
                     }
                     i += 1;
                 }
-                let at = find(flows, queue, marks, entries, f, ks[0]);
+                let chain = chain_of(p, f);
+                let at = find(flows, queue, marks, entries, f, chain);
                 if at < entries {
                     if !fits(false, numbers[at], c) {
                         break 'walk Ending::Range;
@@ -103,6 +105,7 @@ fn walk(
                     waiting,
                     nonzero,
                     entries,
+                    chain,
                     at,
                     f,
                     c,

@@ -86,32 +86,32 @@ pub record Bucket : Type 0 where
   pub count : ℤ
   pub idsum : ℕ
 
-abbrev b : ℤ → ℕ → Bucket
+abbrev pub b : ℤ → ℕ → Bucket
 b c s = record { count = c; idsum = s }
 
-abbrev o : Bucket
+abbrev pub o : Bucket
 o = b (pos 0) 0
 
-abbrev buckets : List Bucket → Sketch
+abbrev pub buckets : List Bucket → Sketch
 buckets bs = sketch (map (λ b. b .count) bs) (map (λ b. b .idsum) bs)
 
 -- the sketches of the examples, all zero, and what E3 leaves
-abbrev S0 : Sketch
+abbrev pub S0 : Sketch
 S0 = buckets (o ∷ o ∷ o ∷ o ∷ o ∷ o ∷ o ∷ o ∷ o ∷ o ∷ [])
 
-abbrev S1 : Sketch
+abbrev pub S1 : Sketch
 S1 = buckets (o ∷ o ∷ b (pos 3) 31 ∷ o ∷ o ∷ o ∷ b (pos 2) 24 ∷ b (pos 1) 7 ∷ o ∷ o ∷ [])
 
-abbrev S3 : Sketch
+abbrev pub S3 : Sketch
 S3 = buckets (o ∷ o ∷ b (pos 2) 14 ∷ o ∷ o ∷ o ∷ b (pos 2) 14 ∷ o ∷ o ∷ o ∷ [])
 
-abbrev remainder3 : Sketch
+abbrev pub remainder3 : Sketch
 remainder3 = buckets (o ∷ o ∷ o ∷ o ∷ o ∷ o ∷ b (pos 2) 14 ∷ b (negsuc 1) 2147483633 ∷ o ∷ o ∷ [])
 
-abbrev S5 : Sketch
+abbrev pub S5 : Sketch
 S5 = buckets (o ∷ o ∷ b (pos 0) 2147483637 ∷ o ∷ o ∷ o ∷ b (pos 0) 2147483637 ∷ o ∷ o ∷ o ∷ [])
 
-abbrev S6 : Sketch
+abbrev pub S6 : Sketch
 S6 = buckets (o ∷ o ∷ b (negsuc 3) 2147483619 ∷ o ∷ o ∷ o ∷ o ∷ b (negsuc 3) 2147483619 ∷ o ∷ o ∷ [])
 
 abbrev S7 : Sketch

@@ -13,6 +13,18 @@ use Rattle.walk.specs.declared.Found.the-variants.{Undefined, Impure, Pu
 use Rattle.walk.specs.Walk.{Rule}
 use Rattle.buckets.specs.Buckets.{isZero}
 
+-- what the test found, as a number and a flow: 0 where the bucket is not pure, 1 where it is and with its flow, 2 where the count has no inverse; the flow
+-- is 0 where there is none
+abbrev pub foundNumber : Found → ℕ
+foundNumber Impure = 0
+foundNumber (Pure f) = 1
+foundNumber Undefined = 2
+
+abbrev pub foundFlow : Found → ℕ
+foundFlow Impure = 0
+foundFlow (Pure f) = f
+foundFlow Undefined = 0
+
 -- a bucket k with count c and idsum s, modulo p: pure when c is not 0 and the one number f with c * f congruent to s stands there
 unfoldable pub testIn : ℕ → (ℕ → ℕ → Bool) → ℕ → ℤ → ℕ → Found
 testIn p on k c s =

@@ -2,27 +2,26 @@
 use mathlib.Core.Path.{_∙_}
 use Prim.Native.Nat.{_<_}
 use native.Mathlib.Omega.{arith}
-use lib.ListN.{length, getD}
+use lib.ListN.{length}
 use denote.Ref.{now}
 use mir.Facts.{toZ-ofZ}
 use borrow.Author.Needs.{needs}
 use Rattle.params.proofs.Rules.{dimensions-small}
 use Rattle.sketch.proofs.Steps.{reached}
-use Rattle.sketch.proofs.Standing.{reach}
 use Rattle.peel.specs.Table.{Credited}
 use Rattle.peel.specs.Chains.{Relinked}
 use Rattle.peel.specs.Nonzero.{Applied}
+use Rattle.peel.proofs.Chains.{key-below}
 use Rattle.peel.proofs.Rings.{ring-kept}
 use Rattle.peel.proofs.Taken.{took}
 use Rattle.peel.proofs.take.take_flow.Statement.{statement}
 use Rattle.peel.proofs.take.take_flow.Tie as tie
 
--- f's bucket in array 1 has a mark
-first-below : (b : tie.Start) → getD (now (b .args .ks)) 0 0 < length (now (b .args .marks))
-first-below b =
+-- f's chain has a mark
+chain-below : (b : tie.Start) → b .args .chain < length (now (b .args .marks))
+chain-below b =
     let h = b .pre .holds in
-    let w = reach 0 (reached (h .dimensions) (h .sane .long) (h .sane .long-ids) (b .pre .positions)) (omega (arith, h .dimensions .d-low)) in
-    omega (arith, w .bucket, h .ringed .long-marks)
+    omega (arith, b .pre .keyed, key-below (b .args .f) (h .dimensions), h .ringed .long-marks)
 
 -- what the calls left
 applied : (c : tie.After-apply) → let b = c .before .before .before .before .before .before .before in
@@ -30,7 +29,7 @@ applied : (c : tie.After-apply) → let b = c .before .before .before .before .b
 applied c = rw (toZ-ofZ (c .before .before .before .before .before .before .before .fits .c)) at (c .apply .ensures)
 
 abbrev apply-of : tie.After-credit → tie.After-apply
-apply-of c = c .before .before .before .before .before .before .before .before .before
+apply-of c = c .before .before .before .before .before .before .before .before
 
 abbrev begin-of : tie.After-credit → tie.Start
 begin-of c = apply-of c .before .before .before .before .before .before .before
@@ -40,7 +39,7 @@ credited : (c : tie.After-credit) → let b = begin-of c in
 credited c = rw (toZ-ofZ (begin-of c .fits .c)) at (c .credit .ensures .0)
 
 relinked : (c : tie.After-credit) → let b = begin-of c in
-    Relinked (b .args .f) (getD (now (b .args .ks)) 0 0) (now (b .args .flows)) (now (b .args .queue)) (now (b .args .marks)) (b .args .entries) (c .credit .last .0) (c .credit .last .1 .1 .0) (c .credit .last .1 .1 .1 .0) (c .credit .result)
+    Relinked (b .args .f) (b .args .chain) (now (b .args .flows)) (now (b .args .queue)) (now (b .args .marks)) (b .args .entries) (c .credit .last .0) (c .credit .last .1 .1 .0) (c .credit .last .1 .1 .1 .0) (c .credit .result)
 relinked c = c .credit .ensures .1
 
 apply-requires : tie.Need-apply-requires
@@ -50,20 +49,17 @@ apply-requires c κs =
     let h = t .holds in
     rw (toZ-ofZ (b .fits .c)) ((reached (h .dimensions) (h .sane .long) (h .sane .long-ids) (t .positions), h .counted), (t .fits, (λ i e. h .sane .idsums _, t .small)))
 
-element-copy-out-credit : tie.Need-element-copy-out-credit
-element-copy-out-credit c = search needs
-
 credit-requires : tie.Need-credit-requires
 credit-requires c κs =
-    let b = c .before .before .before .before .before .before .before .before .before .before .before .before .before .before .before in
+    let b = c .before .before .before .before .before .before .before .before .before .before .before .before .before .before in
     let t = b .pre in
     let h = t .holds in
     rw (toZ-ofZ (b .fits .c)) (
       (t .finds, h .slots, t .slot, h .room, t .entry),
       (
         rw (h .ringed .long) (dimensions-small (h .dimensions)),
-        first-below b,
-        omega (arith, h .chained .newest (getD (now (b .args .ks)) 0 0) .within),
+        chain-below b,
+        omega (arith, h .chained .newest (b .args .chain) .within),
       ),
     )
 
@@ -105,7 +101,6 @@ take-flow-spec =
     tie.close
     (tie.spec
     apply-requires
-    element-copy-out-credit
     credit-requires
     requeue-requires
     same-length

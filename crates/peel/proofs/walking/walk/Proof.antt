@@ -26,8 +26,9 @@ use Rattle.walk.specs.Purity.{pureTest, ruleOf}
 use Rattle.walk.proofs.Purity.{guarded-is-pure}
 use Rattle.peel.specs.Slices.{Slices, slices}
 use Rattle.peel.specs.Ring.{ringPlace, Popped}
-use Rattle.peel.specs.Chains.{Chained}
+use Rattle.peel.specs.Chains.{chainKey, Chained}
 use Rattle.peel.specs.Rep.{stateOf, fitsAt, Took}
+use Rattle.peel.proofs.Chains.{key-below}
 use Rattle.peel.proofs.Turns.{Inv, Lengths, same-lengths}
 use Rattle.peel.proofs.Turns as turn
 use Rattle.peel.proofs.walking.walk.Statement.{statement}
@@ -142,19 +143,16 @@ positions-are c =
 reached-is : (c : Inner) → WithinArrays (start (walk-of c) .args .p .d) (start (walk-of c) .args .p .m) (ks-of c) (length (walk-of c .walk .counts)) (length (walk-of c .walk .idsums))
 reached-is c = let h = walk-of c .walk .inv .0 .holds in reached (h .dimensions) (h .sane .long) (h .sane .long-ids) (positions-are c)
 
--- the marks once a bucket is popped, and f's bucket in array 1
+-- the marks once a bucket is popped, and f's chain among them
 abbrev marks-of : Inner → List ℕ
 marks-of c = pop-of (test-of c) .pop .last .1 .0
 
-first-bucket : (c : Inner) → let b = start (walk-of c) in Within (b .args .p .d) (b .args .p .m) 0 (getD (ks-of c) 0 0)
-first-bucket c = reach 0 (reached-is c) (omega (arith, start (walk-of c) .pre .dimensions .d-low))
+chain-below : (c : Inner) → chainKey (start (walk-of c) .args .p) (flow c) < length (marks-of c)
+chain-below c = omega (arith, key-below (flow c) (start (walk-of c) .pre .dimensions), popped-is (pop-of (test-of c)) .ringed .long-marks)
 
-first-below : (c : Inner) → getD (ks-of c) 0 0 < length (marks-of c)
-first-below c = omega (arith, first-bucket c .bucket, popped-is (pop-of (test-of c)) .ringed .long-marks)
-
--- by it f can be looked up
+-- along it f can be looked up
 chained-is : (c : Inner) → let a = walk-of c in
-    Chained (start a .args .p .d * start a .args .p .m) (a .walk .flows) (a .walk .queue) (marks-of c) (a .walk .entries) (flow c) (getD (ks-of c) 0 0)
+    Chained (start a .args .p .d * start a .args .p .m) (a .walk .flows) (a .walk .queue) (marks-of c) (a .walk .entries) (flow c) (chainKey (start a .args .p) (flow c))
 chained-is c = let p = pop-of (test-of c) in turn.chained (walk-of c .walk .inv .0) (unclean-of p) (popped-is p) (more-of p) (pure-is c) (positions-are c)
 
 -- f's bucket in the array that i others stand before, and what the test of it says
@@ -178,11 +176,11 @@ all-fit : (c : Done) → let l = c .before in (i : ℕ) → i < start (walk-of l
 all-fit c i h = rw (c-is (test-of (c .before))) at (c .before .loop .inv .1 i (omega arith))
 
 -- the entry of f, where it has one
-more-is : (c : tie.After-fits3 Inv-loop μ-loop Inv-walk μ-walk) → let f = c .before .before .before in let l = f .before .before .before .before .before in
+more-is : (c : tie.After-fits3 Inv-loop μ-loop Inv-walk μ-walk) → let f = c .before .before .before in let l = f .before .before .before .before .before .before in
     c .fits3 .result ≡ inLimits (getD (walk-of l .walk .numbers) (f .find .result) (pos 0) +ℤ count-of (test-of l))
 more-is c =
     let f = c .before .before .before in
-    let l = f .before .before .before .before .before in
+    let l = f .before .before .before .before .before .before in
     rw (toZ-ofZ w32 (getD (walk-of l .walk .numbers) (f .find .result) (pos 0)) (record { sfits = c .before .fits-arg2 .given }), c-is (test-of l))
     at (c .fits3 .ensures)
 
@@ -191,7 +189,7 @@ abbrev Meet : Type 0
 Meet = tie.Joined5 Inv-loop μ-loop Inv-walk μ-walk
 
 abbrev done-of : Meet → Done
-done-of c = c .before .before .before .before .before
+done-of c = c .before .before .before .before .before .before
 
 abbrev inner-of : Meet → Inner
 inner-of c = done-of c .before
@@ -225,10 +223,10 @@ abbrev range-pop : tie.Then4 Inv-loop μ-loop Inv-walk μ-walk → Popd
 range-pop c = pop-of (test-of (c .before .before .before .before))
 
 abbrev entry-pop : tie.Then6 Inv-loop μ-loop Inv-walk μ-walk → Popd
-entry-pop c = pop-of (test-of (c .before .before .before .before .before .before .before .before .before))
+entry-pop c = pop-of (test-of (c .before .before .before .before .before .before .before .before .before .before))
 
 abbrev full-pop : tie.Then7 Inv-loop μ-loop Inv-walk μ-walk → Popd
-full-pop c = pop-of (test-of (c .before .before .before .before .before .before .before))
+full-pop c = pop-of (test-of (c .before .before .before .before .before .before .before .before))
 
 walk-holds : tie.Need-walk-holds Inv-loop μ-loop Inv-walk μ-walk
 walk-holds c =
@@ -334,16 +332,17 @@ loop-again c =
     let l = c .before .before .before .before in
     (omega arith, below-more _ _ (l .loop .inv .1) (rw (c-is (test-of l)) (sym (fits-is (c .before)) ∙ not-false _ (c .if4 .left))))
 
-array-read-find : tie.Need-array-read-find Inv-loop μ-loop Inv-walk μ-walk
-array-read-find c = search needs
+chain-of-requires : tie.Need-chain-of-requires Inv-loop μ-loop Inv-walk μ-walk
+chain-of-requires c κs = start (walk-of (c .before)) .pre .dimensions
 
 find-requires : tie.Need-find-requires Inv-loop μ-loop Inv-walk μ-walk
 find-requires c κs =
-    let l = c .before .before .before .before in
-    rw (size-is (walk-of l)) (chained-is l, walk-of l .walk .inv .0 .holds .room, first-below l)
+    let h = c .before .before .before in
+    let l = h .before .before in
+    rw (size-is (walk-of l), h .chain-of .ensures) (chained-is l, walk-of l .walk .inv .0 .holds .room, chain-below l)
 
 mul-fits-2 : tie.Need-mul-fits-2 Inv-loop μ-loop Inv-walk μ-walk
-mul-fits-2 c = let a = walk-of (c .before .before .before .before .before .before) in omega (arith, c .if5 .taken, a .walk .inv .0 .holds .room, a .walk .inv .0 .long, start a .good .1 .1 .1 .0 .1)
+mul-fits-2 c = let a = walk-of (c .before .before .before .before .before .before .before) in omega (arith, c .if5 .taken, a .walk .inv .0 .holds .room, a .walk .inv .0 .long, start a .good .1 .1 .1 .0 .1)
 
 slice-copy-out-fits-2 : tie.Need-slice-copy-out-fits-2 Inv-loop μ-loop Inv-walk μ-walk
 slice-copy-out-fits-2 c = search needs
@@ -357,7 +356,7 @@ take-flow-requires c κs =
     let l = inner-of m in
     let p = pop-of (test-of l) in
     rw (place-is (test-of l), c-is (test-of l))
-    (turn.may-take (walk-of l .walk .inv .0) (unclean-of p) (popped-is p) (more-of p) (pure-is l) (positions-are l) (all-fit (done-of m)) (m .before .find .ensures) (entry m) (free m))
+    (turn.may-take (walk-of l .walk .inv .0) (unclean-of p) (popped-is p) (more-of p) (pure-is l) (positions-are l) (all-fit (done-of m)) (m .before .find .ensures) (entry m) (free m) (m .before .before .before .before .before .chain-of .ensures))
 
 walk-less-2 : tie.Need-walk-less-2 Inv-loop μ-loop Inv-walk μ-walk
 walk-less-2 c =
@@ -406,7 +405,7 @@ returns-5 c =
 returns-6 : tie.Need-returns-6 Inv-loop μ-loop Inv-walk μ-walk
 returns-6 c =
     let f = c .before .before .before .before in
-    let d = f .before .before .before .before in
+    let d = f .before .before .before .before .before in
     let l = d .before in
     let p = pop-of (test-of l) in
     record { outcome = turn.range-entry (walk-of l .walk .inv .0) (unclean-of p) (popped-is p) (more-of p) (pure-is l) (positions-are l) (all-fit d) (f .find .ensures) (c .before .before .before .if5 .taken) (sym (more-is (c .before)) ∙ not-true _ (c .if6 .taken)); room = room-of (walk-of l) }
@@ -414,7 +413,7 @@ returns-6 c =
 returns-7 : tie.Need-returns-7 Inv-loop μ-loop Inv-walk μ-walk
 returns-7 c =
     let f = c .before .before in
-    let d = f .before .before .before .before in
+    let d = f .before .before .before .before .before in
     let l = d .before in
     let p = pop-of (test-of l) in
     record { outcome = turn.full (walk-of l .walk .inv .0) (unclean-of p) (popped-is p) (more-of p) (pure-is l) (positions-are l) (all-fit d) (f .find .ensures) (c .before .if5 .left) (c .if7 .taken); room = room-of (walk-of l) }
@@ -454,7 +453,7 @@ walk-spec =
     add-i
     loop-less
     loop-again
-    array-read-find
+    chain-of-requires
     find-requires
     mul-fits-2
     slice-copy-out-fits-2
