@@ -1,7 +1,8 @@
-// The table of flows: the first n slots of two slices, in the order of first takes. Slots are chained, as many chains as there are
-// buckets, so that a flow is looked up along its own chain alone: `marks[k] / 2` is 1 + the newest slot of chain k, and `queue[e] / 65536` is 1 + the
-// next lower slot in the chain of slot e. A slot past the queue's end, in a table with more slots than there are buckets, has no room for a link, and
-// is scanned: a look-up compares at most as many flows there as there are entries past d * m, which is below 65536.
+// The table of flows: the first n slots of two slices, in the order of first takes. Its slots stand in chains, as many as there are
+// buckets, so that a flow is looked up along its own chain alone: `marks[k] / 2` is 1 + the newest slot of chain k, and
+// `queue[e] / 65536` is 1 + the next lower slot in the chain of slot e. A slot past the queue's end, in a table with more slots than
+// there are buckets, has no room for a link and is scanned: each take then compares as many flows more as there are entries past
+// d * m, at most 65536.
 ghost use mathlib.Core.Path.{_≡_};
 ghost use mathlib.Core.Bool.{true};
 ghost use mathlib.Core.List.{List};
@@ -35,7 +36,7 @@ fn chain_by(a: u32, b: u32, chains: usize, f: u32) -> usize
     (spread * chains as u64 / 65536) as usize
 }
 
-// The chain of flow f. It goes by the pair of array 1, so that who does not choose the parameters cannot foresee it.
+// The chain of flow f. It goes by the pair of array 1, so that who does not know the parameters cannot foresee it.
 pub(crate) fn chain_of(p: Params, f: u32) -> usize
     requires { ⌜ Dimensions p ⌝ }
     ensures { λ r. ⌜ r ≡ chainKey p f ⌝ }

@@ -104,8 +104,8 @@ pub(crate) fn apply(
     nonzero
 }
 
-// Takes flow f, whose positions are ks, whose chain is `chain` and whose slot is `at`, with the count c and the idsum s of the popped bucket: from its
-// buckets, into the table, and then its buckets that have a count go to the queue's back.
+// Takes flow f, whose positions are ks, whose chain is `chain` and whose slot is `at`, with the count c and the idsum s of the
+// popped bucket: from its buckets, into the table, and then its buckets that have a count go to the queue's back.
 pub(crate) fn take_flow(
     p: Params,
     ks: &[usize; 4],
