@@ -17,7 +17,7 @@ use Rattle.params.specs.Answers.{first, kept}
 use Rattle.params.specs.Params.{prime, size, lentAnswer}
 use Rattle.buckets.specs.Buckets.{allZero, inLimits, damaged}
 use Rattle.sketch.specs.Sketch.{Sketch, sketch, Freshened}
-use Rattle.params.proofs.Judging.{Refuses, first-refused, first-passed, first-done, refuse-done}
+use Rattle.params.proofs.Judging.{Refuses, first-refused, first-passed, refuse-done}
 use Rattle.files.specs.declared.fields.Bucket.{Bucket}
 use Rattle.files.specs.declared.fields.Bucket.the-variants.{Of as BucketOf, No as NoBucket}
 use Rattle.files.specs.Bytes.{word, countOf}
@@ -29,7 +29,7 @@ use Rattle.files.specs.Fields.{indexField, countField, idsumField}
 use Rattle.files.proofs.HeadStages.{openingAnswer, opening-first}
 use Rattle.files.proofs.HeadTrips.{opening-lent}
 use Rattle.files.proofs.Standing.{kind-ends}
-use Rattle.files.proofs.Turning.{Come, come-start, come-next, come-end, come-within, in-turn-refused, in-turn-done, done-in-turn}
+use Rattle.files.proofs.Turning.{Come, come-start, come-next, come-end, come-within, in-turn-refused, in-turn-done}
 use Rattle.sketchfile.specs.Reading.{bucketsIn, bucketIndex, bucketCount, bucketIdsum, lowest, tooLarge, notRising, bucketAnswer, bucketJudged, bucketsJudged, sketchAnswer, stored, sketchIn}
 
 -- what is refused of one bucket, by its stages
@@ -173,12 +173,6 @@ pub all-stored : {P : Params} (bs : List ℕ) {S T U : Sketch} {a r : Answer} �
     → U ≡ stored bs (bucketsIn bs) T → r ≡ Done → U ≡ kept r S (sketchIn P bs)
 unfolding kept sketchIn
 all-stored bs f lent-right filled done = rw (done, filled, f .after, f .answer, lent-right)
-
--- where nothing is refused, each index lies in the sketch, and the parameters and the lengths of the lent slices are right
-pub indexes-inside : (N : ℕ) (bs : List ℕ) → bucketsJudged N bs ≡ Done → (k : ℕ) → k < bucketsIn bs → bucketIndex bs k < N
-unfolding bucketsJudged bucketJudged
-indexes-inside N bs e k l =
-    done-sound N (lowest bs k) (bucketPlace k) _ _ _ (done-in-turn (bucketsIn bs) (bucketJudged N bs) (first-done _ _ e .0) k l) .inside
 
 -- the parameters and the lengths, then the records
 pub sketch-opening : (P : Params) (bs : List ℕ) (c s : ℕ) → sketchAnswer P bs c s ≡ first (openingAnswer P bs c s) (bucketsJudged (size P) bs)
