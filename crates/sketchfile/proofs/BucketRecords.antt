@@ -29,6 +29,7 @@ use Rattle.files.specs.Fields.{indexField, countField, idsumField}
 use Rattle.files.proofs.HeadStages.{openingAnswer, opening-first}
 use Rattle.files.proofs.HeadTrips.{opening-lent}
 use Rattle.files.proofs.Standing.{kind-ends}
+use Rattle.files.proofs.Bodies.{bucket-fields}
 use Rattle.files.proofs.Turning.{Come, come-start, come-next, come-end, come-within, in-turn-refused, in-turn-done}
 use Rattle.sketchfile.specs.Reading.{bucketsIn, bucketIndex, bucketCount, bucketIdsum, lowest, tooLarge, notRising, bucketAnswer, bucketJudged, bucketsJudged, sketchAnswer, stored, sketchIn}
 
@@ -100,8 +101,7 @@ pub record Found (bs : List ℕ) (n at k : ℕ) (c : ℤ) (s : ℕ) : Type 0 whe
 -- what stands at an offset: a whole bucket by its fields, or no bucket
 fields : (bs : List ℕ) (at k : ℕ) (c : ℤ) (s : ℕ) → BucketOf k c s ≡ bucketAt bs at
     → (isKind bucketKind (recordAt bs at) ≡ true) × (k ≡ word bs (at + indexField)) × (c ≡ countOf (word bs (at + countField))) × (s ≡ word bs (at + idsumField))
-unfolding bucketAt
-fields bs at k c s = go (isKind bucketKind (recordAt bs at))
+fields bs at k c s e = go (isKind bucketKind (recordAt bs at)) (e ∙ bucket-fields bs at)
   where
     go : (b : Bool) → BucketOf k c s ≡ cond b (BucketOf (word bs (at + indexField)) (countOf (word bs (at + countField))) (word bs (at + idsumField))) NoBucket
         → (b ≡ true) × (k ≡ word bs (at + indexField)) × (c ≡ countOf (word bs (at + countField))) × (s ≡ word bs (at + idsumField))
@@ -109,8 +109,7 @@ fields bs at k c s = go (isKind bucketKind (recordAt bs at))
     go false q = absurd (let w : _≡_ {A = ℕ} 0 1 = cc in omega arith)
 
 no-bucket : (bs : List ℕ) (at : ℕ) → NoBucket ≡ bucketAt bs at → isKind bucketKind (recordAt bs at) ≡ false
-unfolding bucketAt
-no-bucket bs at = go (isKind bucketKind (recordAt bs at))
+no-bucket bs at e = go (isKind bucketKind (recordAt bs at)) (e ∙ bucket-fields bs at)
   where
     go : (b : Bool) → NoBucket ≡ cond b (BucketOf (word bs (at + indexField)) (countOf (word bs (at + countField))) (word bs (at + idsumField))) NoBucket → b ≡ false
     go true q = absurd (let w : _≡_ {A = ℕ} 0 1 = cc in omega arith)
