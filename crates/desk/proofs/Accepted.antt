@@ -20,6 +20,7 @@ use Rattle.files.specs.Bytes.{word}
 use Rattle.files.specs.Records.{recordAt, isKind, headKind, endKind, headLength, packetsLength, endLength}
 use Rattle.files.specs.Heads.{paramsIn, isHead, headAnswer}
 use Rattle.files.specs.Fields.{recordsField, arraysField, bucketsField, multiplierField, offsetField}
+use Rattle.files.proofs.Bodies.{params-fields}
 use Rattle.files.proofs.RecordTrips.{record-whole}
 use Rattle.desk.proofs.Whole.{whole-record}
 use Rattle.streamfile.specs.Streams.{StreamRead}
@@ -40,11 +41,12 @@ module _ (xs : List ℕ) (e : ℕ) (long : headLength ≤ e) where
       rw (getD-take e xs at 0 (omega arith), getD-take e xs (at + 1) 0 (omega arith), getD-take e xs (at + 2) 0 (omega arith), getD-take e xs (at + 3) 0 (omega arith))
 
   params-in-part : paramsIn (take e xs) ≡ paramsIn xs
-  unfolding paramsIn
   params-in-part =
       let byte = getD-take e xs arraysField 0 (omega arith) in
       let at : (i : ℕ) → i + 4 ≤ headLength → word (take e xs) i ≡ word xs i = word-in-part in
       rw (
+        params-fields (take e xs),
+        params-fields xs,
         byte,
         at bucketsField (omega arith),
         at (multiplierField 0) (omega arith),

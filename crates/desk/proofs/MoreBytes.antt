@@ -13,6 +13,7 @@ use Rattle.files.specs.Bytes.{word}
 use Rattle.files.specs.Records.{bodyLength, recordAt, isKind, headKind, packetsKind, endKind, headLength}
 use Rattle.files.specs.Heads.{paramsIn}
 use Rattle.files.specs.Fields.{recordsField, arraysField, bucketsField, multiplierField, offsetField}
+use Rattle.files.proofs.Bodies.{params-fields}
 use Rattle.files.proofs.RecordTrips.{record-whole, not-kind}
 use Rattle.desk.proofs.Whole.{whole-record}
 use Rattle.desk.specs.declared.states.State.{State}
@@ -76,9 +77,10 @@ module _ (xs ys : List ℕ) where
   word-more at h = rw (byte-more at (omega arith), byte-more (at + 1) (omega arith), byte-more (at + 2) (omega arith), byte-more (at + 3) (omega arith))
 
   pub params-more : headLength ≤ length xs → paramsIn (xs ++ ys) ≡ paramsIn xs
-  unfolding paramsIn
   params-more h =
       rw (
+        params-fields (xs ++ ys),
+        params-fields xs,
         byte-more arraysField (omega arith),
         word-more bucketsField (omega arith),
         word-more (multiplierField 0) (omega arith),

@@ -16,6 +16,8 @@ use Rattle.files.specs.Records.{recordAt, isKind, headKind, packetsKind, endKin
 use Rattle.files.specs.Layout.{endAt}
 use Rattle.files.specs.Fields.{recordsField}
 use Rattle.files.proofs.fields.End.{the-type as end-type}
+use Rattle.files.proofs.Bodies.{end-fields}
+use Rattle.files.proofs.EndStages.{end-found}
 use Rattle.desk.specs.declared.states.Stage.{Stage}
 use Rattle.desk.specs.declared.states.Stage.the-variants.{UpstreamPackets, DownstreamHead, DownstreamPackets, Nothing, Refused as Stopped}
 use Rattle.desk.specs.declared.states.State.{State}
@@ -60,12 +62,10 @@ end-whole bs e = at (not (leb (length bs) 0) && eqb (getD bs 0 0) packetsKind) e
 
 -- what a reader finds of an end that is whole
 pub end-said : (bs : List ℕ) (n : ℕ) → isKind endKind (recordAt bs 0) ≡ true → endAt bs 0 ≡ EndOf n → n ≡ word bs recordsField
-unfolding endAt
-end-said bs n w e = let said : EndOf (word bs recordsField) ≡ EndOf n = rw w at e in cc
+end-said bs n w e = end-found bs 0 refl e .1
 
 pub end-not-said : (bs : List ℕ) {r : End} → isKind endKind (recordAt bs 0) ≡ true → r ≡ endAt bs 0 → OneOf (1 ∷ []) (tagOf end-type r) → ⊥
-unfolding endAt
-end-not-said bs {r} w e h = let said : r ≡ EndOf (word bs recordsField) = rw w at e in miss (1 ∷ []) 0 tt (rw said at h)
+end-not-said bs {r} w e h = let said : r ≡ EndOf (word bs recordsField) = rw w at (e ∙ end-fields bs 0) in miss (1 ∷ []) 0 tt (rw said at h)
 
 -- where packets, or a head, are due, what stands there decides
 pub end-decides : (bs : List ℕ) (s t : State) (d : Due) → packetsDue (s .stage) ≡ true → d ≡ dueEnd bs → t ≡ endState d bs s → t ≡ endStage bs s

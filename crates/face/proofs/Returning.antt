@@ -20,7 +20,7 @@ use Rattle.walk.proofs.Promises.{listed-few}
 use Rattle.files.specs.declared.writing.Written.{Written}
 use Rattle.files.specs.declared.heads.Headed.{Headed}
 use Rattle.files.specs.Records.{recordAt}
-use Rattle.files.specs.Heads.{paramsIn, isHead, noParams, headAnswer, headOf}
+use Rattle.files.specs.Heads.{paramsInBody, paramsIn, isHead, noParams, headAnswer, headOf}
 use Rattle.files.specs.Writing.{writtenNumber, writtenIndex, writtenLength}
 use Rattle.peel.specs.declared.peeling.Peeled.{Peeled}
 use Rattle.peel.specs.Slices.{Slices, lentSketch}
@@ -105,7 +105,7 @@ module _ (bs : List ℕ) where
 
   -- the ten numbers of a head give its parameters to every other call
   pub head-back : paramsOf (paramNumbers (headOf bs .params)) ≡ headOf bs .params
-  unfolding headAnswer judgedParams kept paramsOf paramNumbers paramsIn
+  unfolding headAnswer judgedParams kept paramsOf paramNumbers paramsInBody paramsIn
   head-back = go (isHead (recordAt bs 0)) (goodParams (paramsIn bs))
     where
       go : (h g : Bool) → paramsOf (paramNumbers (judgedParams h g)) ≡ judgedParams h g

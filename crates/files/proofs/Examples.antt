@@ -9,8 +9,8 @@ use Rattle.params.specs.Answers.{kept}
 use Rattle.params.specs.Params.{pairAt, twins, goodDimensions, goodParams}
 use Rattle.files.specs.declared.records.Record.the-variants.{Whole, Unknown, Cut, Missing}
 use Rattle.files.specs.Bytes.{word}
-use Rattle.files.specs.Records.{recordAt, bodyOf}
-use Rattle.files.specs.Heads.{paramsIn, headAnswer, headOf}
+use Rattle.files.specs.Records.{recordAt, bodyOf, bodyFrom}
+use Rattle.files.specs.Heads.{paramsInBody, paramsIn, headAnswer, headOf}
 
 -- the head of both streams, and packets or an end
 abbrev head : List ℕ
@@ -39,7 +39,7 @@ unfolding recordAt
 e11-records = refl
 
 pub e11-head : headOf e11 ≡ record { answer = Done; params = K }
-unfolding recordAt word paramsIn headAnswer kept below pairAt twins goodDimensions goodParams
+unfolding recordAt bodyFrom word paramsInBody paramsIn headAnswer kept below pairAt twins goodDimensions goodParams
 e11-head = refl
 
 -- the body at offset 47: flow 12 by 2

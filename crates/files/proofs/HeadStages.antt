@@ -1,9 +1,11 @@
 -- The stages of a head: no head, parameters that break a rule, and a head that says something; and of what is judged with it.
-use mathlib.Core.Path.{_≡_, refl, sym, _∙_}
+use mathlib.Core.Path.{_≡_, refl, sym, ap, _∙_}
 use mathlib.Core.Bool.{Bool, true, false, not, _&&_}
 use mathlib.Core.List.{List}
-use Prim.Native.Nat.{ℕ, _≤_}
+use Prim.Native.Nat.{ℕ}
 use native.Mathlib.Omega.{arith}
+use borrow.Author.Tests.{eq-eqb, ne-eqb}
+use lib.Dec.{eqb}
 use lib.ListN.{length}
 use Rattle.params.specs.declared.answers.Refusal.the-variants.{Param, Mismatch, Form}
 use Rattle.params.specs.declared.params.Params.{Params}
@@ -13,10 +15,9 @@ use Rattle.params.specs.Answers.{refuseIf, first, kept}
 use Rattle.params.specs.Params.{goodParams, sameParams, lengthsAnswer}
 use Rattle.params.proofs.Judging.{Refuses, first-refused, first-passed}
 use Rattle.files.specs.declared.heads.Headed.{Headed}
-use Rattle.files.specs.declared.records.Record.the-variants.{Whole}
-use Rattle.files.specs.Records.{recordAt, headKind, headLength}
-use Rattle.files.specs.Heads.{paramsIn, isHead, headAnswer, refusedHead, headOf, parametersAnswer}
-use Rattle.files.proofs.Standing.{stands-whole}
+use Rattle.files.specs.Records.{bodyLength, recordAt, bodyOfKind, headKind}
+use Rattle.files.specs.Heads.{paramsInBody, paramsIn, isHead, headAnswer, refusedHead, headOf, parametersAnswer}
+use Rattle.files.proofs.Bodies.{kind-body, body-decides}
 
 module _ (bs : List ℕ) where
   pub not-a-head : isHead (recordAt bs 0) ≡ false → refusedHead Form ≡ headOf bs
@@ -31,9 +32,20 @@ module _ (bs : List ℕ) where
   unfolding headAnswer kept
   good-head e g = rw (e, g)
 
-  -- a whole head has all its bytes
-  pub head-long : (next : ℕ) → recordAt bs 0 ≡ Whole headKind next → headLength ≤ length bs
-  head-long next e = let s = stands-whole bs 0 headKind next e in omega (arith, s .ends, s .within)
+  -- what the body that a reader gets says: no head stands there, or a whole one
+  module _ {xs : List ℕ} (e : xs ≡ bodyOfKind headKind bs 0) where
+    decides : eqb (length xs) (bodyLength headKind) ≡ isHead (recordAt bs 0)
+    decides = ap (λ (ys : List ℕ). eqb (length ys) (bodyLength headKind)) e ∙ body-decides headKind bs 0 (omega arith)
+
+    pub no-body : (length xs ≡ bodyLength headKind → ⊥) → isHead (recordAt bs 0) ≡ false
+    no-body n = sym decides ∙ ne-eqb (length xs) (bodyLength headKind) n
+
+    pub whole-body : length xs ≡ bodyLength headKind → isHead (recordAt bs 0) ≡ true
+    whole-body l = sym decides ∙ eq-eqb (length xs) (bodyLength headKind) l
+
+    pub body-params : length xs ≡ bodyLength headKind → paramsInBody xs ≡ paramsIn bs
+    unfolding paramsIn
+    body-params l = ap paramsInBody (e ∙ kind-body headKind bs 0 (whole-body l))
 
 -- what is judged first is the head, then what is given
 module _ (P : Params) (bs : List ℕ) where

@@ -24,6 +24,7 @@ use Rattle.files.specs.Layout.{pairBytes, headBytes}
 use Rattle.files.specs.Fields.{arraysField, bucketsField, multiplierField}
 use Rattle.files.proofs.HeadStages.{openingAnswer}
 use Rattle.files.proofs.Standing.{kind-ends}
+use Rattle.files.proofs.Bodies.{paramsFields, params-fields}
 use Rattle.files.proofs.RoundTrips.{digits-make, byte-then, word-then}
 use Rattle.files.proofs.RecordTrips.{record-whole, record-read}
 
@@ -84,14 +85,15 @@ module _ (P : Params) (ys : List ℕ) where
   head-kind = record-whole (headBytes P ++ ys) 0 headKind refl (omega arith) (omega (arith, headed-long))
 
   params-written : goodParams P ≡ true → paramsIn (headBytes P ++ ys) ≡ fourPairs P
-  unfolding paramsIn headBytes word wordBytes
+  unfolding headBytes word wordBytes
   params-written g =
       let dimensions = good-dimensions P g in
       let p = good-pair P 0 g (omega arith) in
       let q = good-pair P 1 g (omega arith) in
       let r = good-pair P 2 g (omega arith) in
       let s = good-pair P 3 g (omega arith) in
-      rw (
+      params-fields (headBytes P ++ ys)
+      ∙ rw (
         digits-make (P .m) (omega (arith, dimensions .m-high)),
         digits-make (getD (P .a) 0 0) (p .0),
         digits-make (getD (P .b) 0 0) (p .1),
@@ -153,17 +155,18 @@ module _ (bs : List ℕ) (small : (k : ℕ) → getD bs k 0 < 256) where
       ∙ word-then bs small at (at + 4) (4 + n) (omega arith) refl ∙ ap (λ (k : ℕ). take k (drop at bs)) bytes
 
   pub head-read : (P : Params) → isHead (recordAt bs 0) ≡ true → sameParams P (paramsIn bs) ≡ true → headBytes P ≡ take headLength bs
-  unfolding paramsIn headBytes
-  head-read P h e =
+  unfolding headBytes
+  head-read P h q =
       let long : headLength ≤ length bs = kind-ends headKind bs 0 h in
-      let dimensions = dimensions-same P (paramsIn bs) e in
-      let p = pair-same P (paramsIn bs) e 0 (omega arith) in
-      let q = pair-same P (paramsIn bs) e 1 (omega arith) in
-      let r = pair-same P (paramsIn bs) e 2 (omega arith) in
-      let t = pair-same P (paramsIn bs) e 3 (omega arith) in
+      let e : sameParams P (paramsFields bs) ≡ true = rw (params-fields bs) at q in
+      let dimensions = dimensions-same P (paramsFields bs) e in
+      let p = pair-same P (paramsFields bs) e 0 (omega arith) in
+      let u = pair-same P (paramsFields bs) e 1 (omega arith) in
+      let r = pair-same P (paramsFields bs) e 2 (omega arith) in
+      let t = pair-same P (paramsFields bs) e 3 (omega arith) in
       let fourth : pairBytes P 3 ≡ take 8 (drop (multiplierField 3) bs) = sym (append-nil (pairBytes P 3)) ∙ pair-then (multiplierField 3) 0 (omega arith) (t .0) (t .1) refl in
       let third : pairBytes P 2 ++ pairBytes P 3 ≡ take 16 (drop (multiplierField 2) bs) = pair-then (multiplierField 2) 8 (omega arith) (r .0) (r .1) fourth in
-      let second : pairBytes P 1 ++ (pairBytes P 2 ++ pairBytes P 3) ≡ take 24 (drop (multiplierField 1) bs) = pair-then (multiplierField 1) 16 (omega arith) (q .0) (q .1) third in
+      let second : pairBytes P 1 ++ (pairBytes P 2 ++ pairBytes P 3) ≡ take 24 (drop (multiplierField 1) bs) = pair-then (multiplierField 1) 16 (omega arith) (u .0) (u .1) third in
       let pairs = pair-then (multiplierField 0) 24 (omega arith) (p .0) (p .1) second in
       record-read bs 0 headKind _ h
       (ap₂ {C = List ℕ} _∷_ (dimensions .0) (ap₂ {C = List ℕ} (λ m xs. wordBytes m ++ xs) (dimensions .1) pairs ∙ word-then bs small bucketsField (multiplierField 0) 32 (omega arith) refl)

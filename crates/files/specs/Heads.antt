@@ -13,18 +13,22 @@ use Rattle.params.specs.Params.{goodParams, sameParams}
 use Rattle.files.specs.declared.records.Record.{Record}
 use Rattle.files.specs.declared.heads.Headed.{Headed}
 use Rattle.files.specs.Bytes.{word}
-use Rattle.files.specs.Records.{recordAt, isKind, headKind}
-use Rattle.files.specs.Fields.{arraysField, bucketsField, multiplierField, offsetField}
+use Rattle.files.specs.Records.{recordAt, isKind, bodyFrom, headKind}
+use Rattle.files.specs.Fields.{arraysInBody, bucketsInBody, multiplierInBody, offsetInBody}
 
--- the parameters in a head that stands at the start of the file
-unfoldable pub paramsIn : List ℕ → Params
-paramsIn bs =
+-- the parameters in a head's body
+unfoldable pub paramsInBody : List ℕ → Params
+paramsInBody xs =
     record {
-      d = getD bs arraysField 0;
-      m = word bs bucketsField;
-      a = word bs (multiplierField 0) ∷ word bs (multiplierField 1) ∷ word bs (multiplierField 2) ∷ word bs (multiplierField 3) ∷ [];
-      b = word bs (offsetField 0) ∷ word bs (offsetField 1) ∷ word bs (offsetField 2) ∷ word bs (offsetField 3) ∷ [];
+      d = getD xs arraysInBody 0;
+      m = word xs bucketsInBody;
+      a = word xs (multiplierInBody 0) ∷ word xs (multiplierInBody 1) ∷ word xs (multiplierInBody 2) ∷ word xs (multiplierInBody 3) ∷ [];
+      b = word xs (offsetInBody 0) ∷ word xs (offsetInBody 1) ∷ word xs (offsetInBody 2) ∷ word xs (offsetInBody 3) ∷ [];
     }
+
+-- and in a head that stands at the start of the file
+unfoldable pub paramsIn : List ℕ → Params
+paramsIn bs = paramsInBody (bodyFrom headKind bs 0)
 
 abbrev pub isHead : Record → Bool
 isHead r = isKind headKind r

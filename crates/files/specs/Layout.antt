@@ -1,9 +1,10 @@
--- The bytes of each record, and what the fields of a whole one say.
+-- The bytes of each record, and what the fields of a body say.
 use mathlib.Core.Bool.{cond}
 use mathlib.Core.List.{List, _∷_, _++_}
-use Prim.Native.Nat.{ℕ, _+_}
+use Prim.Native.Nat.{ℕ}
+use lib.Dec.{eqb}
 use lib.IntN.{ℤ}
-use lib.ListN.{getD}
+use lib.ListN.{getD, length}
 use Rattle.params.specs.declared.params.Params.{Params}
 use Rattle.files.specs.declared.fields.Packets.{Packets}
 use Rattle.files.specs.declared.fields.Packets.the-variants.{Of as PacketsOf, No as NoPackets}
@@ -12,8 +13,8 @@ use Rattle.files.specs.declared.fields.Bucket.the-variants.{Of as Bucket
 use Rattle.files.specs.declared.fields.End.{End}
 use Rattle.files.specs.declared.fields.End.the-variants.{Of as EndOf, No as NoEnd}
 use Rattle.files.specs.Bytes.{word, wordBytes, countWord, countOf}
-use Rattle.files.specs.Records.{recordAt, isKind, headKind, packetsKind, bucketKind, endKind}
-use Rattle.files.specs.Fields.{flowField, numberField, indexField, countField, idsumField, recordsField}
+use Rattle.files.specs.Records.{bodyLength, bodyOfKind, headKind, packetsKind, bucketKind, endKind}
+use Rattle.files.specs.Fields.{flowInBody, numberInBody, indexInBody, countInBody, idsumInBody, recordsInBody}
 
 -- pair i of a head, counted from 0
 abbrev pub pairBytes : Params → ℕ → List ℕ
@@ -35,15 +36,25 @@ bucketBytes k c s = bucketKind ∷ wordBytes k ++ (wordBytes (countWord c) ++ wo
 unfoldable pub endBytes : ℕ → List ℕ
 endBytes n = endKind ∷ wordBytes n
 
--- the flow and the number of a whole record of packets at an offset
+-- What the fields of a body say, where it has as many bytes as its kind fixes; and of the body of a whole record of the kind at an offset:
+-- the flow and the number of packets
+unfoldable pub packetsInBody : List ℕ → Packets
+packetsInBody xs = cond (eqb (length xs) (bodyLength packetsKind)) (PacketsOf (word xs flowInBody) (word xs numberInBody)) NoPackets
+
 unfoldable pub packetsAt : List ℕ → ℕ → Packets
-packetsAt bs at = cond (isKind packetsKind (recordAt bs at)) (PacketsOf (word bs (at + flowField)) (word bs (at + numberField))) NoPackets
+packetsAt bs at = packetsInBody (bodyOfKind packetsKind bs at)
 
--- the index, the count and the idsum of a whole bucket record at an offset
+-- the index, the count and the idsum of a bucket
+unfoldable pub bucketInBody : List ℕ → Bucket
+bucketInBody xs =
+    cond (eqb (length xs) (bodyLength bucketKind)) (BucketOf (word xs indexInBody) (countOf (word xs countInBody)) (word xs idsumInBody)) NoBucket
+
 unfoldable pub bucketAt : List ℕ → ℕ → Bucket
-bucketAt bs at =
-    cond (isKind bucketKind (recordAt bs at)) (BucketOf (word bs (at + indexField)) (countOf (word bs (at + countField))) (word bs (at + idsumField))) NoBucket
+bucketAt bs at = bucketInBody (bodyOfKind bucketKind bs at)
 
--- how many records a whole end at an offset says there were
+-- how many records an end says there were
+unfoldable pub endInBody : List ℕ → End
+endInBody xs = cond (eqb (length xs) (bodyLength endKind)) (EndOf (word xs recordsInBody)) NoEnd
+
 unfoldable pub endAt : List ℕ → ℕ → End
-endAt bs at = cond (isKind endKind (recordAt bs at)) (EndOf (word bs (at + recordsField))) NoEnd
+endAt bs at = endInBody (bodyOfKind endKind bs at)

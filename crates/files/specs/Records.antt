@@ -92,8 +92,20 @@ bodyStart Cut at = 0
 bodyStart Unknown at = 0
 bodyStart Missing at = 0
 
+-- the bytes where the body of a record of a kind stands, after its kind byte; and the body of a whole record of that kind, empty where none stands there
+unfoldable pub bodyFrom : ℕ → List ℕ → ℕ → List ℕ
+bodyFrom k bs at = take (bodyLength k) (drop (at + 1) bs)
+
+unfoldable pub bodyOfKind : ℕ → List ℕ → ℕ → List ℕ
+bodyOfKind k bs at = cond (isKind k (recordAt bs at)) (bodyFrom k bs at) []
+
 -- the file is at `whole` and has the bytes bs; the body is at `part` and has the bytes xs. A place in memory is a block and an offset in it.
 pub record Body (at : ℕ) (whole : ℕ × ℕ) (bs : List ℕ) (part : ℕ × ℕ) (xs : List ℕ) : Type 0 where
   pub content : xs ≡ bodyOf (recordAt bs at) at bs
   pub block : part .0 ≡ whole .0
   pub offset : part .1 ≡ whole .1 + bodyStart (recordAt bs at) at
+
+pub record KindBody (k at : ℕ) (whole : ℕ × ℕ) (bs : List ℕ) (part : ℕ × ℕ) (xs : List ℕ) : Type 0 where
+  pub content : xs ≡ bodyOfKind k bs at
+  pub block : part .0 ≡ whole .0
+  pub offset : part .1 ≡ whole .1 + cond (isKind k (recordAt bs at)) (at + 1) 0

@@ -1,11 +1,9 @@
 // The end of a file: what is due after its records.
 ghost use mathlib.Core.Path.{_≡_};
 ghost use Rattle.files.specs.Turns.{endAnswer};
-use crate::fields::RECORDS_AT;
-use crate::records::END;
+use crate::fields::End;
+use crate::fields::end_at;
 use crate::records::END_LENGTH;
-use crate::records::is_kind;
-use crate::records::word;
 use params::Answer;
 use params::Refusal;
 
@@ -16,10 +14,11 @@ pub fn judge_end(bytes: &[u8], at: usize, n: usize) -> Answer
     if bytes.len() <= at {
         return Answer::Refused(Refusal::Form, bytes.len());
     }
-    if !is_kind(bytes, at, END) {
+    let found = end_at(bytes, at);
+    let End::Of(records) = found else {
         return Answer::Refused(Refusal::Form, at);
-    }
-    if word(bytes, at + RECORDS_AT) as usize != n {
+    };
+    if records as usize != n {
         return Answer::Refused(Refusal::Form, at);
     }
     if at + END_LENGTH < bytes.len() {

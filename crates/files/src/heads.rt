@@ -1,22 +1,21 @@
 // The head of a file: its parameters, so that a caller can lend slices of the right lengths.
 ghost use mathlib.Core.Path.{_≡_};
-ghost use Prim.Native.Nat.{_≤_};
 ghost use lib.ListN.{length};
-ghost use Rattle.files.specs.Heads.{paramsIn, refusedHead, headOf, parametersAnswer};
-ghost use Rattle.files.specs.Records.{headLength};
-use crate::fields::ARRAYS_AT;
-use crate::fields::BUCKETS_AT;
-use crate::fields::MULTIPLIER_1_AT;
-use crate::fields::MULTIPLIER_2_AT;
-use crate::fields::MULTIPLIER_3_AT;
-use crate::fields::MULTIPLIER_4_AT;
-use crate::fields::OFFSET_1_AT;
-use crate::fields::OFFSET_2_AT;
-use crate::fields::OFFSET_3_AT;
-use crate::fields::OFFSET_4_AT;
+ghost use Rattle.files.specs.Heads.{paramsInBody, refusedHead, headOf, parametersAnswer};
+ghost use Rattle.files.specs.Records.{bodyLength, headKind};
+use crate::fields::ARRAYS_IN_BODY;
+use crate::fields::BUCKETS_IN_BODY;
+use crate::fields::MULTIPLIER_1_IN_BODY;
+use crate::fields::MULTIPLIER_2_IN_BODY;
+use crate::fields::MULTIPLIER_3_IN_BODY;
+use crate::fields::MULTIPLIER_4_IN_BODY;
+use crate::fields::OFFSET_1_IN_BODY;
+use crate::fields::OFFSET_2_IN_BODY;
+use crate::fields::OFFSET_3_IN_BODY;
+use crate::fields::OFFSET_4_IN_BODY;
 use crate::records::HEAD;
-use crate::records::Record;
-use crate::records::record_at;
+use crate::records::HEAD_BODY;
+use crate::records::body_of;
 use crate::records::word;
 use params::Answer;
 use params::Params;
@@ -28,26 +27,26 @@ pub struct Headed {
     pub params: Params,
 }
 
-// The parameters in the body that starts at byte 1.
-fn params(bytes: &[u8]) -> Params
-    requires { ⌜ headLength ≤ length (now bytes) ⌝ }
-    ensures { λ r. ⌜ r ≡ paramsIn (now (bytes .entry)) ⌝ }
+// The parameters in a head's body.
+fn params_in(body: &[u8]) -> Params
+    requires { ⌜ length (now body) ≡ bodyLength headKind ⌝ }
+    ensures { λ r. ⌜ r ≡ paramsInBody (now (body .entry)) ⌝ }
 {
-    let m = word(bytes, BUCKETS_AT) as usize;
+    let m = word(body, BUCKETS_IN_BODY) as usize;
     let a = [
-        word(bytes, MULTIPLIER_1_AT),
-        word(bytes, MULTIPLIER_2_AT),
-        word(bytes, MULTIPLIER_3_AT),
-        word(bytes, MULTIPLIER_4_AT),
+        word(body, MULTIPLIER_1_IN_BODY),
+        word(body, MULTIPLIER_2_IN_BODY),
+        word(body, MULTIPLIER_3_IN_BODY),
+        word(body, MULTIPLIER_4_IN_BODY),
     ];
     let b = [
-        word(bytes, OFFSET_1_AT),
-        word(bytes, OFFSET_2_AT),
-        word(bytes, OFFSET_3_AT),
-        word(bytes, OFFSET_4_AT),
+        word(body, OFFSET_1_IN_BODY),
+        word(body, OFFSET_2_IN_BODY),
+        word(body, OFFSET_3_IN_BODY),
+        word(body, OFFSET_4_IN_BODY),
     ];
     Params {
-        d: bytes[ARRAYS_AT] as usize,
+        d: body[ARRAYS_IN_BODY] as usize,
         m,
         a,
         b,
@@ -76,14 +75,11 @@ impl Headed {
 pub fn head(bytes: &[u8]) -> Headed
     ensures { λ r. ⌜ r ≡ headOf (now (bytes .entry)) ⌝ }
 {
-    let found = record_at(bytes, 0);
-    let Record::Whole(kind, _) = found else {
-        return Headed::refused(Refusal::Form);
-    };
-    if kind != HEAD {
+    let body = body_of(bytes, 0, HEAD);
+    if body.len() != HEAD_BODY {
         return Headed::refused(Refusal::Form);
     }
-    let p = params(bytes);
+    let p = params_in(body);
     if !p.check() {
         return Headed::refused(Refusal::Param);
     }

@@ -3,7 +3,7 @@ ghost use mathlib.Core.Path.{_≡_};
 ghost use Prim.Native.Nat.{_+_, _≤_};
 ghost use lib.ListN.{length};
 ghost use Rattle.files.specs.Bytes.{word as «word-of»};
-ghost use Rattle.files.specs.Records.{bodyLength, recordAt, isKind, Body};
+ghost use Rattle.files.specs.Records.{bodyLength, recordAt, isKind, Body, KindBody};
 
 // The kinds.
 pub const HEAD: u8 = 1;
@@ -15,13 +15,13 @@ pub const BUCKET: u8 = 3;
 pub const END: u8 = 4;
 
 // How many bytes a body of each kind has.
-const HEAD_BODY: usize = 37;
+pub(crate) const HEAD_BODY: usize = 37;
 
-const PACKETS_BODY: usize = 8;
+pub(crate) const PACKETS_BODY: usize = 8;
 
-const BUCKET_BODY: usize = 12;
+pub(crate) const BUCKET_BODY: usize = 12;
 
-const END_BODY: usize = 4;
+pub(crate) const END_BODY: usize = 4;
 
 // And a whole record.
 pub const HEAD_LENGTH: usize = 1 + HEAD_BODY;
@@ -98,6 +98,16 @@ pub fn body(bytes: &[u8], at: usize) -> &[u8]
     };
     let start = at + 1;
     &bytes[start..next]
+}
+
+// The body of a record of a kind at an offset; an empty part at the bytes' start where no whole record of that kind stands there.
+pub fn body_of(bytes: &[u8], at: usize, kind: u8) -> &[u8]
+    ensures { λ r. ⌜ KindBody kind at (bytes .entry .ptr) (now (bytes .entry)) (r .ptr) (now r) ⌝ }
+{
+    if !is_kind(bytes, at, kind) {
+        return &bytes[..0];
+    }
+    body(bytes, at)
 }
 
 // Four bytes as a number, the highest first.

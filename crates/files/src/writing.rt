@@ -9,18 +9,18 @@ ghost use Rattle.params.specs.Params.{goodParams};
 ghost use Rattle.files.specs.Bytes.{wordBytes, countWord, overwritten};
 ghost use Rattle.files.specs.Layout.{headBytes, packetBytes, bucketBytes, endBytes};
 ghost use Rattle.files.specs.Writing.{written};
-use crate::fields::ARRAYS_AT;
-use crate::fields::BUCKETS_AT;
-use crate::fields::COUNT_AT;
-use crate::fields::FLOW_AT;
-use crate::fields::IDSUM_AT;
-use crate::fields::INDEX_AT;
-use crate::fields::MULTIPLIER_1_AT;
-use crate::fields::MULTIPLIER_2_AT;
-use crate::fields::MULTIPLIER_3_AT;
-use crate::fields::MULTIPLIER_4_AT;
-use crate::fields::NUMBER_AT;
-use crate::fields::RECORDS_AT;
+use crate::fields::ARRAYS_IN_BODY;
+use crate::fields::BUCKETS_IN_BODY;
+use crate::fields::COUNT_IN_BODY;
+use crate::fields::FLOW_IN_BODY;
+use crate::fields::IDSUM_IN_BODY;
+use crate::fields::INDEX_IN_BODY;
+use crate::fields::MULTIPLIER_1_IN_BODY;
+use crate::fields::MULTIPLIER_2_IN_BODY;
+use crate::fields::MULTIPLIER_3_IN_BODY;
+use crate::fields::MULTIPLIER_4_IN_BODY;
+use crate::fields::NUMBER_IN_BODY;
+use crate::fields::RECORDS_IN_BODY;
 use crate::records::BUCKET;
 use crate::records::BUCKET_LENGTH;
 use crate::records::END;
@@ -31,6 +31,31 @@ use crate::records::PACKETS;
 use crate::records::PACKETS_LENGTH;
 use params::Params;
 use params::Refusal;
+
+// Where the fields of a record stand, counted from its kind byte.
+const FLOW_AT: usize = 1 + FLOW_IN_BODY;
+
+const NUMBER_AT: usize = 1 + NUMBER_IN_BODY;
+
+const INDEX_AT: usize = 1 + INDEX_IN_BODY;
+
+const COUNT_AT: usize = 1 + COUNT_IN_BODY;
+
+const IDSUM_AT: usize = 1 + IDSUM_IN_BODY;
+
+const RECORDS_AT: usize = 1 + RECORDS_IN_BODY;
+
+const ARRAYS_AT: usize = 1 + ARRAYS_IN_BODY;
+
+const BUCKETS_AT: usize = 1 + BUCKETS_IN_BODY;
+
+const MULTIPLIER_1_AT: usize = 1 + MULTIPLIER_1_IN_BODY;
+
+const MULTIPLIER_2_AT: usize = 1 + MULTIPLIER_2_IN_BODY;
+
+const MULTIPLIER_3_AT: usize = 1 + MULTIPLIER_3_IN_BODY;
+
+const MULTIPLIER_4_AT: usize = 1 + MULTIPLIER_4_IN_BODY;
 
 // How many bytes were written, or the refusal.
 pub enum Written {

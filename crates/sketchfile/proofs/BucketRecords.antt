@@ -17,7 +17,7 @@ use Rattle.params.specs.Answers.{first, kept}
 use Rattle.params.specs.Params.{prime, size, lentAnswer}
 use Rattle.buckets.specs.Buckets.{allZero, inLimits, damaged}
 use Rattle.sketch.specs.Sketch.{Sketch, sketch, Freshened}
-use Rattle.params.proofs.Judging.{Refuses, first-refused, first-passed, first-done, refuse-done}
+use Rattle.params.proofs.Judging.{Refuses, first-refused, first-passed, refuse-done}
 use Rattle.files.specs.declared.fields.Bucket.{Bucket}
 use Rattle.files.specs.declared.fields.Bucket.the-variants.{Of as BucketOf, No as NoBucket}
 use Rattle.files.specs.Bytes.{word, countOf}
@@ -29,7 +29,8 @@ use Rattle.files.specs.Fields.{indexField, countField, idsumField}
 use Rattle.files.proofs.HeadStages.{openingAnswer, opening-first}
 use Rattle.files.proofs.HeadTrips.{opening-lent}
 use Rattle.files.proofs.Standing.{kind-ends}
-use Rattle.files.proofs.Turning.{Come, come-start, come-next, come-end, come-within, in-turn-refused, in-turn-done, done-in-turn}
+use Rattle.files.proofs.Bodies.{bucket-fields}
+use Rattle.files.proofs.Turning.{Come, come-start, come-next, come-end, come-within, in-turn-refused, in-turn-done}
 use Rattle.sketchfile.specs.Reading.{bucketsIn, bucketIndex, bucketCount, bucketIdsum, lowest, tooLarge, notRising, bucketAnswer, bucketJudged, bucketsJudged, sketchAnswer, stored, sketchIn}
 
 -- what is refused of one bucket, by its stages
@@ -100,8 +101,7 @@ pub record Found (bs : List ℕ) (n at k : ℕ) (c : ℤ) (s : ℕ) : Type 0 whe
 -- what stands at an offset: a whole bucket by its fields, or no bucket
 fields : (bs : List ℕ) (at k : ℕ) (c : ℤ) (s : ℕ) → BucketOf k c s ≡ bucketAt bs at
     → (isKind bucketKind (recordAt bs at) ≡ true) × (k ≡ word bs (at + indexField)) × (c ≡ countOf (word bs (at + countField))) × (s ≡ word bs (at + idsumField))
-unfolding bucketAt
-fields bs at k c s = go (isKind bucketKind (recordAt bs at))
+fields bs at k c s e = go (isKind bucketKind (recordAt bs at)) (e ∙ bucket-fields bs at)
   where
     go : (b : Bool) → BucketOf k c s ≡ cond b (BucketOf (word bs (at + indexField)) (countOf (word bs (at + countField))) (word bs (at + idsumField))) NoBucket
         → (b ≡ true) × (k ≡ word bs (at + indexField)) × (c ≡ countOf (word bs (at + countField))) × (s ≡ word bs (at + idsumField))
@@ -109,8 +109,7 @@ fields bs at k c s = go (isKind bucketKind (recordAt bs at))
     go false q = absurd (let w : _≡_ {A = ℕ} 0 1 = cc in omega arith)
 
 no-bucket : (bs : List ℕ) (at : ℕ) → NoBucket ≡ bucketAt bs at → isKind bucketKind (recordAt bs at) ≡ false
-unfolding bucketAt
-no-bucket bs at = go (isKind bucketKind (recordAt bs at))
+no-bucket bs at e = go (isKind bucketKind (recordAt bs at)) (e ∙ bucket-fields bs at)
   where
     go : (b : Bool) → NoBucket ≡ cond b (BucketOf (word bs (at + indexField)) (countOf (word bs (at + countField))) (word bs (at + idsumField))) NoBucket → b ≡ false
     go true q = absurd (let w : _≡_ {A = ℕ} 0 1 = cc in omega arith)
@@ -173,12 +172,6 @@ pub all-stored : {P : Params} (bs : List ℕ) {S T U : Sketch} {a r : Answer} �
     → U ≡ stored bs (bucketsIn bs) T → r ≡ Done → U ≡ kept r S (sketchIn P bs)
 unfolding kept sketchIn
 all-stored bs f lent-right filled done = rw (done, filled, f .after, f .answer, lent-right)
-
--- where nothing is refused, each index lies in the sketch, and the parameters and the lengths of the lent slices are right
-pub indexes-inside : (N : ℕ) (bs : List ℕ) → bucketsJudged N bs ≡ Done → (k : ℕ) → k < bucketsIn bs → bucketIndex bs k < N
-unfolding bucketsJudged bucketJudged
-indexes-inside N bs e k l =
-    done-sound N (lowest bs k) (bucketPlace k) _ _ _ (done-in-turn (bucketsIn bs) (bucketJudged N bs) (first-done _ _ e .0) k l) .inside
 
 -- the parameters and the lengths, then the records
 pub sketch-opening : (P : Params) (bs : List ℕ) (c s : ℕ) → sketchAnswer P bs c s ≡ first (openingAnswer P bs c s) (bucketsJudged (size P) bs)

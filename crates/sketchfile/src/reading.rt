@@ -1,9 +1,8 @@
 // A sketch file read: it takes the place of a lent sketch's content.
 ghost use mathlib.Core.Path.{_≡_};
-ghost use Prim.Native.Nat.{ℕ, _<_};
-ghost use lib.ListN.{length};
+ghost use lib.ListN.{length, set};
 ghost use Rattle.sketch.specs.Sketch.{sketch};
-ghost use Rattle.sketchfile.specs.Reading.{bucketsIn, bucketIndex, tooLarge, notRising, bucketAnswer, bucketsJudged, stored, SketchRead};
+ghost use Rattle.sketchfile.specs.Reading.{bucketsIn, tooLarge, notRising, bucketAnswer, bucketsJudged, stored, SketchRead};
 use buckets::all_zero;
 use buckets::undamaged;
 use files::ends::judge_end;
@@ -73,10 +72,22 @@ fn judge_records(size: usize, bytes: &[u8]) -> Answer
     judge_end(bytes, at, n)
 }
 
-// Stores the file's buckets.
+// Stores one bucket; nothing where its index is past the last.
+fn set_bucket(counts: &mut [i32], idsums: &mut [u32], k: usize, c: i32, s: u32)
+    requires { ⌜ length (now counts) ≡ length (now idsums) ⌝ }
+    ensures { λ r. ⌜ now (counts .exit) ≡ set (now (counts .entry)) k c ⌝ }
+    ensures { λ r. ⌜ now (idsums .exit) ≡ set (now (idsums .entry)) k s ⌝ }
+{
+    if counts.len() <= k {
+        return;
+    }
+    counts[k] = c;
+    idsums[k] = s;
+}
+
+// Stores the file's buckets. Each index is judged where it is used, so that this pass is safe whatever the one before it found.
 fn store(counts: &mut [i32], idsums: &mut [u32], bytes: &[u8])
     requires { ⌜ length (now counts) ≡ length (now idsums) ⌝ }
-    requires { ⌜ ((k : ℕ) → k < bucketsIn (now bytes) → bucketIndex (now bytes) k < length (now counts)) ⌝ }
     ensures { λ r. ⌜ sketch (now (counts .exit)) (now (idsums .exit)) ≡ stored (now (bytes .entry)) (bucketsIn (now (bytes .entry))) (sketch (now (counts .entry)) (now (idsums .entry))) ⌝ }
 {
     let mut at = HEAD_LENGTH;
@@ -85,9 +96,7 @@ fn store(counts: &mut [i32], idsums: &mut [u32], bytes: &[u8])
         let Bucket::Of(index, c, s) = found else {
             break;
         };
-        let k = index as usize;
-        counts[k] = c;
-        idsums[k] = s;
+        set_bucket(counts, idsums, index as usize, c, s);
         at += BUCKET_LENGTH;
     }
 }

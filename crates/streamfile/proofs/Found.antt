@@ -18,6 +18,7 @@ use Rattle.files.specs.Turns.{packetFrom}
 use Rattle.files.specs.Fields.{flowField, numberField}
 use Rattle.files.proofs.fields.Packets.{the-type}
 use Rattle.files.proofs.Standing.{kind-ends}
+use Rattle.files.proofs.Bodies.{packets-fields}
 use Rattle.files.proofs.Turning.{whole-within}
 use Rattle.streamfile.specs.Streams.{packetsFrom, flowFrom, numberFrom, flowsFrom, numbersFrom}
 
@@ -27,8 +28,7 @@ pub record There (bs : List ℕ) (at f n : ℕ) : Type 0 where
   pub number : n ≡ word bs (at + numberField)
 
 pub packets-there : (bs : List ℕ) (at f n : ℕ) → packetsAt bs at ≡ Of f n → There bs at f n
-unfolding packetsAt
-packets-there bs at f n = go (isKind packetsKind (recordAt bs at)) refl
+packets-there bs at f n e = go (isKind packetsKind (recordAt bs at)) refl (sym (packets-fields bs at) ∙ e)
   where
     go : (b : Bool) → isKind packetsKind (recordAt bs at) ≡ b → cond b (Of (word bs (at + flowField)) (word bs (at + numberField))) No ≡ Of f n → There bs at f n
     go true e q = record { whole = e; flow = cc; number = cc }
@@ -39,8 +39,7 @@ abbrev pub NoPackets : Packets → Type 0
 NoPackets r = OneOf (1 ∷ []) (tagOf the-type r)
 
 pub packets-not-there : (r : Packets) (bs : List ℕ) (at : ℕ) → r ≡ packetsAt bs at → NoPackets r → isKind packetsKind (recordAt bs at) ≡ false
-unfolding packetsAt
-packets-not-there r bs at e h = go (isKind packetsKind (recordAt bs at)) refl e
+packets-not-there r bs at e h = go (isKind packetsKind (recordAt bs at)) refl (e ∙ packets-fields bs at)
   where
     go : (b : Bool) → isKind packetsKind (recordAt bs at) ≡ b → r ≡ cond b (Of (word bs (at + flowField)) (word bs (at + numberField))) No → isKind packetsKind (recordAt bs at) ≡ false
     go true q z = absurd (miss (1 ∷ []) 0 tt (rw z at h))

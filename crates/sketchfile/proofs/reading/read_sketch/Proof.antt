@@ -10,7 +10,7 @@ use Rattle.params.proofs.Judging.{kept-old}
 use Rattle.params.proofs.Rules.{lent-done}
 use Rattle.files.specs.Heads.{parametersAnswer}
 use Rattle.sketchfile.specs.Reading.{sketchAnswer}
-use Rattle.sketchfile.proofs.BucketRecords.{indexes-inside, bad-parameters, bad-lengths, records-decide, all-stored}
+use Rattle.sketchfile.proofs.BucketRecords.{bad-parameters, bad-lengths, records-decide, all-stored}
 use Rattle.sketchfile.proofs.reading.read_sketch.Statement.{statement}
 use Rattle.sketchfile.proofs.reading.read_sketch.Tie as tie
 
@@ -74,9 +74,7 @@ fresh-requires c κs = search needs
 store-requires : tie.Need-store-requires
 store-requires c κs =
     let long = lent-done _ _ _ (lent-right (c .before .before .before .before .before .before .before .before .before .before .before)) in
-    let done = c .before .before .before .before .before .before .before .before .enum-told5 .given .1 in
-    let inside = indexes-inside _ _ (sym (c .before .before .before .before .before .before .before .before .before .before .judge-records .ensures) ∙ done) in
-    (omega arith, λ k h. omega (arith, inside k h))
+    omega arith
 
 same-length : tie.Need-same-length
 same-length c = search needs

@@ -1,5 +1,5 @@
 -- `sketchfile::reading::store` meets its contract. The invariant: the buckets before the offset are stored.
-use mathlib.Core.Path.{_≡_, refl, _∙_}
+use mathlib.Core.Path.{_≡_, refl, ap, ap₂, _∙_}
 use Prim.Native.Nat.{_-_}
 use native.Mathlib.Omega.{arith}
 use lib.ListN.{length, length-set}
@@ -40,36 +40,26 @@ bucket : (c : tie.After-known-told Inv-loop μ-loop)
     → Found (now (c .before .before .before .before .before .before .before .args .bytes)) (c .before .before .before .before .loop .inv .2 .passed) (c .before .before .before .before .loop .at) (c .before .found .given .0 .0) (c .before .found .given .0 .1 .0) (c .before .found .given .0 .1 .1 .0)
 bucket c = found-bucket (c .before .before .before .before .loop .inv .2 .reader) (c .before .before .before .bucket-at .ensures) (c .before .found .given .1)
 
-cast-k : tie.Need-cast-k Inv-loop μ-loop
-cast-k c = search needs
+cast-set-bucket : tie.Need-cast-set-bucket Inv-loop μ-loop
+cast-set-bucket c = search needs
 
-mul-c : tie.Need-mul-c Inv-loop μ-loop
-mul-c c = search needs
-
-slice-set-from-c : tie.Need-slice-set-from-c Inv-loop μ-loop
-slice-set-from-c c =
-    let f = bucket c in
-    omega (arith, c .before .before .before .before .before .before .before .pre .1 _ (f .counted))
-
-mul-idsums : tie.Need-mul-idsums Inv-loop μ-loop
-mul-idsums c = search needs
-
-slice-write-idsums : tie.Need-slice-write-idsums Inv-loop μ-loop
-slice-write-idsums c = omega (arith, slice-set-from-c c)
+set-bucket-requires : tie.Need-set-bucket-requires Inv-loop μ-loop
+set-bucket-requires c κs = omega arith
 
 add-at : tie.Need-add-at Inv-loop μ-loop
-add-at c = omega (arith, bucket c)
+add-at c = omega (arith, bucket (c .before .before .before .before .before .before))
 
 loop-less : tie.Need-loop-less Inv-loop μ-loop
-loop-less c = omega (arith, bucket c)
+loop-less c = omega (arith, bucket (c .before .before .before .before .before .before))
 
 loop-again : tie.Need-loop-again Inv-loop μ-loop
 loop-again c =
-    let l = c .before .before .before .before .loop in
-    let f = bucket c in (
-      length-set (l .counts) _ _ ∙ l .inv .0,
-      length-set (l .idsums) _ _ ∙ l .inv .1,
-      record { passed = _; reader = f .next; so-far = next-stored f _ (l .inv .2 .so-far) (back w32 _ (c .known-told .given .1 .0 .1)) },
+    let l = c .before .before .before .before .before .before .before .before .before .before .loop in
+    let f = bucket (c .before .before .before .before .before .before) in
+    let set-both = c .before .before .before .set-bucket .ensures in (
+      ap length (set-both .0) ∙ length-set (l .counts) _ _ ∙ l .inv .0,
+      ap length (set-both .1) ∙ length-set (l .idsums) _ _ ∙ l .inv .1,
+      record { passed = _; reader = f .next; so-far = ap₂ sketch (set-both .0) (set-both .1) ∙ next-stored f _ (l .inv .2 .so-far) (back w32 _ (c .before .before .before .before .before .before .known-told .given .1 .0 .1)) },
     )
 
 same-length : tie.Need-same-length Inv-loop μ-loop
@@ -93,11 +83,8 @@ store-spec =
     bucket-at-requires
     enum-known-found
     enum-told
-    cast-k
-    mul-c
-    slice-set-from-c
-    mul-idsums
-    slice-write-idsums
+    cast-set-bucket
+    set-bucket-requires
     add-at
     loop-less
     loop-again

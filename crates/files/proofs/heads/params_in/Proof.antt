@@ -1,12 +1,12 @@
--- `files::heads::params` meets its contract.
+-- `files::heads::params_in` meets its contract.
 use mathlib.Core.List.{[], _∷_}
 use native.Mathlib.Omega.{arith}
 use lib.ListN.{getD}
 use denote.Ref.{now}
-use Rattle.files.specs.Heads.{paramsIn}
+use Rattle.files.specs.Heads.{paramsInBody}
 use borrow.Author.Needs.{needs}
-use Rattle.files.proofs.heads.params.Statement.{statement}
-use Rattle.files.proofs.heads.params.Tie as tie
+use Rattle.files.proofs.heads.params_in.Statement.{statement}
+use Rattle.files.proofs.heads.params_in.Tie as tie
 
 word-requires : tie.Need-word-requires
 word-requires c κs = search needs
@@ -42,22 +42,22 @@ shared-slice-read-t10 : tie.Need-shared-slice-read-t10
 shared-slice-read-t10 c = search needs
 
 cast-t11 : tie.Need-cast-t11
-cast-t11 c = omega (arith, c .shared-slice-known2 .given 1)
+cast-t11 c = omega (arith, c .shared-slice-known2 .given 0)
 
 returns : tie.Need-returns
-unfolding paramsIn
+unfolding paramsInBody
 returns c =
     let s = c .before .before .before .before .before .before .before .before .before .before .before .args in
     λ i.
     record {
-      d = getD (now (s .bytes)) 1 0;
+      d = getD (now (s .body)) 0 0;
       m = c .before .before .before .before .before .before .before .before .before .word .ensures i;
       a = c .before .before .before .before .before .before .before .before .word2 .ensures i ∷ c .before .before .before .before .before .before .before .word3 .ensures i ∷ c .before .before .before .before .before .before .word4 .ensures i ∷ c .before .before .before .before .before .word5 .ensures i ∷ [];
       b = c .before .before .before .before .word6 .ensures i ∷ c .before .before .before .word7 .ensures i ∷ c .before .before .word8 .ensures i ∷ c .before .word9 .ensures i ∷ [];
     }
 
-pub params-spec : {M : Type 1} → statement M
-params-spec =
+pub params-in-spec : {M : Type 1} → statement M
+params-in-spec =
     tie.close
     (tie.spec
     word-requires
