@@ -1,5 +1,5 @@
 -- The purity test is sound modulo every prime and for every placing of flows; with a sketch's parameters it passes exactly where the one flow stands, and that bucket is one of the flow's.
-use mathlib.Core.Path.{_≡_, refl, ap, subst, subst⁻¹, _∙_}
+use mathlib.Core.Path.{_≡_, refl, sym, ap, subst, subst⁻¹, _∙_}
 use mathlib.Core.Bool.{Bool, true, false, cond, _&&_}
 use Prim.Native.Nat.{ℕ, suc, _+_, _-_, _*_, _/_, _%_, _<_, _≤_}
 use native.Mathlib.Nat.{mod-add-div'}
@@ -20,8 +20,7 @@ use Rattle.params.specs.Positions.{stand, index, standsIn, stands}
 use Rattle.buckets.specs.Buckets.{inLimits}
 use Rattle.params.proofs.Rules.{dimensions-good}
 use Rattle.params.proofs.Searches.{and-true}
-use Rattle.params.proofs.Standing.{standing-in}
-use Rattle.sketch.proofs.Steps.{stand-below}
+use Rattle.params.proofs.Indexes.{index-where-stands}
 use Rattle.buckets.proofs.Limits.{limits-size}
 use Rattle.walk.specs.declared.Found.the-variants.{Undefined, Impure, Pure}
 use Rattle.buckets.specs.Buckets.{isZero}
@@ -99,20 +98,9 @@ stands-at P f k e =
 pub index-next : (P : Params) (i f : ℕ) → index P (suc i) f ≡ i * P .m + stand P i f
 index-next P i f = let e : suc i - 1 ≡ i = omega arith in ap (λ (n : ℕ). n * P .m + stand P n f) e
 
--- a flow stands at its index in each array
-index-stands : {P : Params} → Dimensions P → (i f : ℕ) → 1 ≤ i → i ≤ P .d → stands P f (index P i f) ≡ true
-index-stands {P} h i f l u =
-    let below : stand P (i - 1) f < P .m = stand-below P (i - 1) f (h .m-low) in
-    standing-in (P .d) (P .m) (λ j. stand P j f) (i - 1) (index P i f) (omega arith) (omega arith) (omega arith) ∙ eq-eqb (index P i f) (index P i f) refl
-
 -- so the parameters' rule places flows by its arrays
 pub by-arrays : (P : Params) → ByArrays (ruleOf P)
-by-arrays P = record { array = λ k f e. (suc (k / P .m), omega arith, stands-at P f k e .0, index-next P (k / P .m) f ∙ stands-at P f k e .1) }
-
--- and f stands in bucket k exactly where k is its index in one of the arrays 1 to d
-pub stands-exactly : {P : Params} → Dimensions P → (f k : ℕ)
-    → (stands P f k ≡ true → (i : ℕ) × (1 ≤ i) × (i ≤ P .d) × (index P i f ≡ k)) × ((i : ℕ) → 1 ≤ i → i ≤ P .d → index P i f ≡ k → stands P f k ≡ true)
-stands-exactly {P} h f k = (by-arrays P .array k f, λ i l u e. subst (λ (k : ℕ). stands P f k ≡ true) e (index-stands h i f l u))
+by-arrays P = record { array = λ k f e. let w = index-where-stands P f k e in (w .0, w .1, w .2, sym (w .3)) }
 
 -- and the bucket in which a flow is pure is one of the flow's
 pub pure-at : (P : Params) (k : ℕ) (c : ℤ) (s f : ℕ) → pureTest P k c s ≡ Pure f → (k / P .m < P .d) × (k / P .m * P .m + stand P (k / P .m) f ≡ k)
