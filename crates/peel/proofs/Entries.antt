@@ -1,4 +1,4 @@
--- Laws of a table in two slices: what a search tells of a flow's entry and of the room for it, and what a credit leaves.
+-- Laws of a table in two slices: what a search finds of a flow's entry and of the room for it, and what a credit leaves.
 use mathlib.Core.Path.{_≡_, refl, sym, ap, ap₂, _∙_}
 use mathlib.Core.Logic.{⊎-elim}
 use mathlib.Core.Bool.{true, false}

@@ -26,8 +26,8 @@ pub record Call : Type 0 where
   pub slots : ℕ
   pub allowance : ℕ
 
--- what it is told: the number, the ending, the pops, the net figure and the entries; and what the slices hold
-pub record Told : Type 0 where
+-- what it returns: the number, the ending, the pops, the net figure and the entries; and what the slices hold
+pub record Reply : Type 0 where
   pub number : ℕ
   pub ending : ℕ
   pub pops : ℕ
@@ -40,24 +40,24 @@ abbrev lent : Call → Slices
 lent c =
     slices (c .held .counts) (c .held .idsums) (replicate (c .slots) 9) (replicate (c .slots) (pos 9)) (replicate 10 9) (replicate 10 9)
 
-abbrev toldBy : Peeled → Slices → Told
-toldBy r L =
+abbrev replyBy : Peeled → Slices → Reply
+replyBy r L =
     record { number = peeledNumber r; ending = peeledEnding r; pops = peeledPops r; net = peeledNet r; entries = peeledEntries r; left = L }
 
 -- what the definitions tell
-abbrev pub told : Call → Told
-told c = toldBy (peelReturns K (c .allowance) (lent c)) (peelLeaves K (c .allowance) (lent c))
+abbrev pub reply : Call → Reply
+reply c = replyBy (peelReturns K (c .allowance) (lent c)) (peelLeaves K (c .allowance) (lent c))
 
 -- a line of the table
 pub record Line : Type 0 where
   pub asked : Call
-  pub answer : Told
+  pub answer : Reply
 
 abbrev call : Sketch → ℕ → ℕ → Call
 call S slots allowance = record { held = S; slots = slots; allowance = allowance }
 
 -- peeling ended, and left this sketch and these table slices; the queue and the marks are all 0
-abbrev ends : ℕ → ℕ → ℤ → ℕ → Sketch → List ℕ → List ℤ → Told
+abbrev ends : ℕ → ℕ → ℤ → ℕ → Sketch → List ℕ → List ℤ → Reply
 ends ending pops net entries S flows numbers =
     record {
       number = 0;
@@ -69,7 +69,7 @@ ends ending pops net entries S flows numbers =
     }
 
 infix 40 _gives_
-abbrev _gives_ : Call → Told → Line
+abbrev _gives_ : Call → Reply → Line
 c gives t = record { asked = c; answer = t }
 
 abbrev pub examples : List Line
@@ -91,6 +91,6 @@ examples =
     ∷ (call S1 0 80 gives ends 6 2 (pos 0) 0 S1 [] [])
     ∷ []
 
-pub all-right : map (λ l. told (l .asked)) examples ≡ map (λ l. l .answer) examples
+pub all-right : map (λ l. reply (l .asked)) examples ≡ map (λ l. l .answer) examples
 unfolding residue inverseIn inverse flow below least mapFrom touched from refuseAt first kept pairAt twins goodDimensions goodParams lengthsAnswer lentAnswer stand standsIn inLimits all any nothingRemains less has entryOf credited waits requeue inRange hasRoom taken takes follows popped before after run firstQueue walk close netFigure testIn walkLentAnswer peelAnswer flowsOf numbersOf padded
 all-right = refl

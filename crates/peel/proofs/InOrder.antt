@@ -66,8 +66,8 @@ module _ {P : Params} {a : ℕ} {L : Slices} {r : Peeled} {L' : Slices} (h : Pee
   abbrev pub fault : Refusal → Bool
   fault = peelFault P (lentSketch L) (length (L .flows)) (length (L .numbers)) (length (L .queue)) (length (L .marks))
 
-  index-told : Index (size P) (damagedAt (lentSketch L)) (judged P L)
-  index-told = judged-index P (lentSketch L) (length (L .flows)) (length (L .numbers)) (length (L .queue)) (length (L .marks))
+  index-of : Index (size P) (damagedAt (lentSketch L)) (judged P L)
+  index-of = judged-index P (lentSketch L) (length (L .flows)) (length (L .numbers)) (length (L .queue)) (length (L .marks))
 
   -- the number of the first fault that applies, 0 where none does
   pub peel-number : peeledNumber r ≡ firstOf order fault
@@ -79,8 +79,8 @@ module _ {P : Params} {a : ℕ} {L : Slices} {r : Peeled} {L' : Slices} (h : Pee
 
   -- with the number of Damage the index is that of the lowest damaged bucket
   pub peel-lowest : peeledNumber r ≡ 5 → Lowest (size P) (damagedAt (lentSketch L)) (peeledIndex r)
-  peel-lowest e = rw (index-is h) (index-told .lowest (sym (number-is h) ∙ e))
+  peel-lowest e = rw (index-is h) (index-of .lowest (sym (number-is h) ∙ e))
 
   -- with any other it is 0
   pub peel-index : (peeledNumber r ≡ 5 → ⊥) → peeledIndex r ≡ 0
-  peel-index d = index-is h ∙ index-told .zero-else (λ e. d (number-is h ∙ e))
+  peel-index d = index-is h ∙ index-of .zero-else (λ e. d (number-is h ∙ e))

@@ -58,20 +58,20 @@ module _ (P : Params) (flows numbers queue marks : ℕ) where
       go true e = absurd (h (lent-is e))
       go false e = refl
 
-  -- the stages of the lengths: the sketch's shape, then all that is lent beside it
+  -- the stages of the lengths: the parameters and the sketch's lengths, then all that is lent beside it
   module _ (counts idsums : ℕ) where
-    pub ill-shaped : (r : Answer) → r ≡ lentAnswer P counts idsums → Refuses r → r ≡ walkLentAnswer P counts idsums flows numbers queue marks
+    pub sketch-refused : (r : Answer) → r ≡ lentAnswer P counts idsums → Refuses r → r ≡ walkLentAnswer P counts idsums flows numbers queue marks
     unfolding walkLentAnswer
-    ill-shaped r e h = first-refused r _ _ e h
+    sketch-refused r e h = first-refused r _ _ e h
 
-    module _ (shaped : lentAnswer P counts idsums ≡ Done) where
+    module _ (sketch-lent : lentAnswer P counts idsums ≡ Done) where
       pub ill-lent : (Lent P flows numbers queue marks → ⊥) → Refused Length 0 ≡ walkLentAnswer P counts idsums flows numbers queue marks
       unfolding walkLentAnswer
-      ill-lent h = sym (first-passed _ _ shaped ∙ rw (not-lent h))
+      ill-lent h = sym (first-passed _ _ sketch-lent ∙ rw (not-lent h))
 
       pub well-lent : Lent P flows numbers queue marks → Done ≡ walkLentAnswer P counts idsums flows numbers queue marks
       unfolding walkLentAnswer
-      well-lent l = sym (first-passed _ _ shaped ∙ rw (is-lent l))
+      well-lent l = sym (first-passed _ _ sketch-lent ∙ rw (is-lent l))
 
     pub lent-passed : walkLentAnswer P counts idsums flows numbers queue marks ≡ Done → Dimensions P × ((counts ≡ size P) × (idsums ≡ size P)) × Lent P flows numbers queue marks
     unfolding walkLentAnswer

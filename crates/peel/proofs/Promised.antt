@@ -60,8 +60,8 @@ module _ {P : Params} {a : ℕ} {L : Slices} {r : Peeled} {L' : Slices} (h : Pee
   abbrev o : Outcome
   o = walked P a L
 
-  abbrev told : Answer
-  told = judged P L
+  abbrev verdict : Answer
+  verdict = judged P L
 
   -- the sketch that was lent, and what it holds after
   abbrev S : Sketch
@@ -78,26 +78,26 @@ module _ {P : Params} {a : ℕ} {L : Slices} {r : Peeled} {L' : Slices} (h : Pee
   listed = tableOf (L' .flows) (L' .numbers) (peeledEntries r)
 
   -- the answer's number and index are what was judged
-  pub number-is : peeledNumber r ≡ numberIn told
-  number-is = ap peeledNumber (h .answer) ∙ peeled-number told o
+  pub number-is : peeledNumber r ≡ numberIn verdict
+  number-is = ap peeledNumber (h .answer) ∙ peeled-number verdict o
 
-  pub index-is : peeledIndex r ≡ indexIn told
-  index-is = ap peeledIndex (h .answer) ∙ peeled-index told o
+  pub index-is : peeledIndex r ≡ indexIn verdict
+  index-is = ap peeledIndex (h .answer) ∙ peeled-index verdict o
 
   -- a refusal alters nothing
   pub refused-keeps : (peeledNumber r ≡ 0 → ⊥) → L' ≡ L
-  refused-keeps refused = h .after ∙ refusal-keeps told _ _ (λ e. refused (number-is ∙ e))
+  refused-keeps refused = h .after ∙ refusal-keeps verdict _ _ (λ e. refused (number-is ∙ e))
 
   -- from here on peeling ended
   module _ (ended : peeledNumber r ≡ 0) where
-    done : told ≡ Done
-    done = answer-done told (sym number-is ∙ ended)
+    done : verdict ≡ Done
+    done = answer-done verdict (sym number-is ∙ ended)
 
     answer-is : r ≡ peeledOf Done o
     answer-is = h .answer ∙ ap (λ (x : Answer). peeledOf x o) done
 
     after-is : L' ≡ closedSlices P o L
-    after-is = h .after ∙ done-alters told _ _ done
+    after-is = h .after ∙ done-alters verdict _ _ done
 
     remainder-is : S' ≡ o .remainder
     remainder-is = ap lentSketch after-is

@@ -35,12 +35,12 @@ peelAnswer P S flows numbers queue marks =
     (refuseAt (size P) (damagedAt S) Damage
     Done)
 
--- what the caller is told of an outcome
+-- what is returned of an outcome
 abbrev pub figuresOf : Outcome → Figures
 figuresOf o =
     record { ending = o .ending; entries = length (closedTable o); net = netOf o; pops = o .pops }
 
--- a refusal, or else what peeling tells
+-- a refusal, or else what peeling returns
 abbrev pub unlessRefused : Answer → Peeled → Peeled
 unlessRefused Done x = x
 unlessRefused (Refused w k) x = NotPeeled w k

@@ -22,7 +22,7 @@ use Rattle.params.proofs.SameParams.{same-itself}
 use Rattle.buckets.specs.Buckets.{inLimits, damaged}
 use Rattle.sketch.specs.Sketch.{Sketch, countIn, idsumIn}
 use Rattle.sketch.specs.Faults.{wrongLength}
-use Rattle.sketch.proofs.Lowest.{ofBucket, bucketsTold, refuse-early, first-early, first-late, lengths-early}
+use Rattle.sketch.proofs.Lowest.{ofBucket, refusesBucket, refuse-early, first-early, first-late, lengths-early}
 use Rattle.sums.specs.Sums.{eitherDamaged, leaves, combineAnswer}
 use Rattle.sums.proofs.InOrder.{combine-number, combine-index}
 use Rattle.sums.proofs.Lowest.{combine-lowest-damage, combine-lowest-range}
@@ -100,7 +100,7 @@ module _ (P : Params) (S T : Sketch) (flows numbers queue marks : ℕ) where
   unfolding walkLentAnswer
   lengths-index-zero = first-index _ _ (lent-index P _ _) (refuse-index wrongWalk Length Done done-index)
 
-  lengths-of-none : bucketsTold lengths ≡ false
+  lengths-of-none : refusesBucket lengths ≡ false
   unfolding walkLentAnswer lentAnswer
   lengths-of-none =
       first-early _ _ (refuse-early (not (goodParams P)) Param 0 _ refl (lengths-early P _ _)) (refuse-early wrongWalk Length 0 Done refl refl)
@@ -123,25 +123,25 @@ module _ (P : Params) (S T : Sketch) (flows numbers queue marks : ℕ) where
 
 -- h is what the contract of `settle` gives
 module _ {P : Params} {T : Sketch} {L : Slices} {r : Peeled} {L' : Slices} (h : Settles P T L r L') where
-  abbrev told : Answer
-  told = settleJudged P T L
+  abbrev verdict : Answer
+  verdict = settleJudged P T L
 
   abbrev S : Sketch
   S = lentSketch L
 
   -- the answer's number and index are what was judged: peeling the difference refuses nothing
-  told-peeled : (x : Answer) → told ≡ x → (peeledNumber (unlessRefused x (peelReturns P (8 * size P) (lessDownstream P T L))) ≡ numberIn x)
+  verdict-peeled : (x : Answer) → verdict ≡ x → (peeledNumber (unlessRefused x (peelReturns P (8 * size P) (lessDownstream P T L))) ≡ numberIn x)
       × (peeledIndex (unlessRefused x (peelReturns P (8 * size P) (lessDownstream P T L))) ≡ indexIn x)
-  told-peeled Done e =
+  verdict-peeled Done e =
       let ended : judged P (lessDownstream P T L) ≡ Done = settled-ends P T L e in
       (ap (λ (x : Answer). peeledNumber (peeledOf x (walked P (8 * size P) (lessDownstream P T L)))) ended, ap (λ (x : Answer). peeledIndex (peeledOf x (walked P (8 * size P) (lessDownstream P T L)))) ended)
-  told-peeled (Refused w k) e = (refl, refl)
+  verdict-peeled (Refused w k) e = (refl, refl)
 
-  number-is : peeledNumber r ≡ numberIn told
-  number-is = ap peeledNumber (h .answer) ∙ told-peeled told refl .0
+  number-is : peeledNumber r ≡ numberIn verdict
+  number-is = ap peeledNumber (h .answer) ∙ verdict-peeled verdict refl .0
 
-  index-is : peeledIndex r ≡ indexIn told
-  index-is = ap peeledIndex (h .answer) ∙ told-peeled told refl .1
+  index-is : peeledIndex r ≡ indexIn verdict
+  index-is = ap peeledIndex (h .answer) ∙ verdict-peeled verdict refl .1
 
   -- the number of the first fault that applies, 0 where none does
   pub settle-number : peeledNumber r ≡ firstOf order (settleFault P T L)
@@ -155,15 +155,15 @@ module _ {P : Params} {T : Sketch} {L : Slices} {r : Peeled} {L' : Slices} (h : 
   pub settle-lowest-damage : peeledNumber r ≡ 5 → Lowest (size P) (λ j. damaged (countIn S j) (idsumIn S j) || damaged (countIn T j) (idsumIn T j)) (peeledIndex r)
   settle-lowest-damage e =
       rw index-is
-      (combine-lowest-damage true P P S T (indexIn told)
-      (difference-late P S T _ _ _ _ Damage (indexIn told) refl (damage-by-number told (sym number-is ∙ e))))
+      (combine-lowest-damage true P P S T (indexIn verdict)
+      (difference-late P S T _ _ _ _ Damage (indexIn verdict) refl (damage-by-number verdict (sym number-is ∙ e))))
 
   -- with that of Range, of the lowest whose difference of counts leaves the limits
   pub settle-lowest-range : peeledNumber r ≡ 6 → Lowest (size P) (λ j. not (inLimits (countIn S j -ℤ countIn T j))) (peeledIndex r)
   settle-lowest-range e =
       rw index-is
-      (combine-lowest-range true P P S T (indexIn told)
-      (difference-late P S T _ _ _ _ Range (indexIn told) refl (range-by-number told (sym number-is ∙ e))) .0)
+      (combine-lowest-range true P P S T (indexIn verdict)
+      (difference-late P S T _ _ _ _ Range (indexIn verdict) refl (range-by-number verdict (sym number-is ∙ e))) .0)
 
   -- with any other it is 0
   pub settle-index : (peeledNumber r ≡ 5 → ⊥) → (peeledNumber r ≡ 6 → ⊥) → peeledIndex r ≡ 0
@@ -174,16 +174,16 @@ module _ {P : Params} {T : Sketch} {L : Slices} {r : Peeled} {L' : Slices} (h : 
   -- a refusal alters nothing
   pub settle-keeps : (peeledNumber r ≡ 0 → ⊥) → L' ≡ L
   unfolding kept
-  settle-keeps refused = go told refl
+  settle-keeps refused = go verdict refl
     where
-      go : (x : Answer) → told ≡ x → L' ≡ L
+      go : (x : Answer) → verdict ≡ x → L' ≡ L
       go Done e = absurd (refused (number-is ∙ ap numberIn e))
       go (Refused w k) e = h .after ∙ rw e refl
 
   -- where the number is 0, what is settled is the difference peeled, and all that is promised of peeling holds of it
   pub ended-is-peeled : peeledNumber r ≡ 0 → Peels P (8 * size P) (lessDownstream P T L) r L'
-  ended-is-peeled ended = settled-is-peeled P T L (done told refl) h
+  ended-is-peeled ended = settled-is-peeled P T L (done verdict refl) h
     where
-      done : (x : Answer) → told ≡ x → told ≡ Done
+      done : (x : Answer) → verdict ≡ x → verdict ≡ Done
       done Done e = e
       done (Refused w k) e = absurd (number-some w (sym (ap numberIn e) ∙ sym number-is ∙ ended))

@@ -63,7 +63,7 @@ pub never-range : (S T : Sketch) (k : ℕ) → pos 0 ≤ℤ countIn S k → pos 
 unfolding leaves
 never-range S T k h j l m = ap not (less-within (countIn S k) (countIn T k) h j l m)
 
--- with the right lengths nothing is wrong with the shapes
+-- with the right lengths nothing is refused of them
 both-lent-good : (P : Params) (c s e t : ℕ) → goodParams P ≡ true → c ≡ size P → s ≡ size P → e ≡ size P → t ≡ size P → bothLentAnswer P P c s e t ≡ Done
 unfolding bothLentAnswer lengthsAnswer first
 both-lent-good P c s e t good h k l m =

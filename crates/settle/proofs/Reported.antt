@@ -57,9 +57,9 @@ padded-long : {A : Type 0} (n : ℕ) (z : A) (xs : List A) → length xs ≤ n �
 unfolding padded
 padded-long n z xs h = length-append xs (replicate (n - length xs) z) ∙ omega (arith, length-replicate (n - length xs) z)
 
-abbrev toldFigures : Peeled → Figures → Figures
-toldFigures (Ended g) h = g
-toldFigures (NotPeeled w k) h = h
+abbrev figuresOr : Peeled → Figures → Figures
+figuresOr (Ended g) h = g
+figuresOr (NotPeeled w k) h = h
 
 -- a report as the desk makes it: the first head is judged, the records behind it are fed to two fresh sketches, of which `lent` has the first,
 -- and at the end of the input nothing more is due; the difference is settled with slices of the sketch's size, and the text written of what
@@ -109,7 +109,7 @@ module _ {P : Params} {input text : List ℕ} (r : Reported P input text) where
   after-is = peels .after ∙ sym (kept-new (judged P peeled) _ _ ends)
 
   figures-are : r .figures ≡ figuresOf outcome
-  figures-are = ap (λ x. toldFigures x (r .figures)) (peels .answer ∙ ap (λ x. peeledOf x outcome) ends)
+  figures-are = ap (λ x. figuresOr x (r .figures)) (peels .answer ∙ ap (λ x. peeledOf x outcome) ends)
 
   -- the text is that of the walk over their difference, with 8 * d * m pops and d * m slots
   pub report-of-walk : text ≡ walkText (walk (ruleOf P) (size P) (8 * size P) difference)

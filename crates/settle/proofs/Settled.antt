@@ -61,39 +61,39 @@ unfolding kept
 kept-refused r old new e = rw (← e)
 
 module _ (P : Params) (T : Sketch) (L : Slices) where
-  abbrev told : Answer
-  told = settleJudged P T L
+  abbrev verdict : Answer
+  verdict = settleJudged P T L
 
   abbrev S : Sketch
   S = lentSketch L
 
   -- r is the answer of the difference, and D what it left of S
-  module _ (r : Answer) (D : Sketch) (e : r ≡ told) (l : D ≡ kept r S (combined true S T)) where
+  module _ (r : Answer) (D : Sketch) (e : r ≡ verdict) (l : D ≡ kept r S (combined true S T)) where
     pub not-settled : (w : Refusal) (k : ℕ) → r ≡ Refused w k → Settles P T L (NotPeeled w k) (withSketch D L)
     not-settled w k h =
-        let refused : Refused w k ≡ told = sym h ∙ e in
+        let refused : Refused w k ≡ verdict = sym h ∙ e in
         record {
           answer = ap (λ (x : Answer). unlessRefused x (peelReturns P (8 * size P) (lessDownstream P T L))) refused;
-          after = ap (λ (D : Sketch). withSketch D L) (l ∙ sym (kept-refused r S (combined true S T) (sym h))) ∙ kept-refused told L _ refused;
+          after = ap (λ (D : Sketch). withSketch D L) (l ∙ sym (kept-refused r S (combined true S T) (sym h))) ∙ kept-refused verdict L _ refused;
         }
 
     pub settled : (x : Peeled) (L' : Slices) → r ≡ Done → Peels P (8 * size P) (withSketch D L) x L' → Settles P T L x L'
     settled x L' h peels =
-        let done : told ≡ Done = sym e ∙ h in
+        let done : verdict ≡ Done = sym e ∙ h in
         let p = subst (λ (D : Sketch). Peels P (8 * size P) (withSketch D L) x L') (l ∙ sym (kept-new r S (combined true S T) h)) peels in
         record {
           answer = p .answer ∙ ap (λ (x : Answer). unlessRefused x (peelReturns P (8 * size P) (lessDownstream P T L))) (sym done);
-          after = p .after ∙ kept-new told L _ done;
+          after = p .after ∙ kept-new verdict L _ done;
         }
 
   -- the other way: where nothing is refused, what is settled is the difference peeled, and all that is promised of peeling holds of it
-  pub settled-is-peeled : {x : Peeled} {L' : Slices} → told ≡ Done → Settles P T L x L' → Peels P (8 * size P) (lessDownstream P T L) x L'
+  pub settled-is-peeled : {x : Peeled} {L' : Slices} → verdict ≡ Done → Settles P T L x L' → Peels P (8 * size P) (lessDownstream P T L) x L'
   settled-is-peeled done s =
       record {
         answer = s .answer ∙ ap (λ (x : Answer). unlessRefused x (peelReturns P (8 * size P) (lessDownstream P T L))) done;
-        after = s .after ∙ sym (kept-new told L _ done);
+        after = s .after ∙ sym (kept-new verdict L _ done);
       }
 
   -- and peeling it refuses nothing
-  pub settled-ends : told ≡ Done → judged P (lessDownstream P T L) ≡ Done
+  pub settled-ends : verdict ≡ Done → judged P (lessDownstream P T L) ≡ Done
   settled-ends done = settled-peels P S T (length (L .flows)) (length (L .numbers)) (length (L .queue)) (length (L .marks)) done

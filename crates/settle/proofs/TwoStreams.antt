@@ -27,7 +27,7 @@ use Rattle.settle.proofs.Settled.{lent-first}
 grown-whole : {P : Params} {S : Sketch} → Grown P S → Whole P S
 grown-whole g = record { counts-long = g .counts-long; idsums-long = g .idsums-long; undamaged = g .undamaged }
 
--- nothing is wrong with the shape of a sketch of the right lengths
+-- nothing is wrong with the lengths of a sketch of the right ones
 lent-good : (P : Params) (c s : ℕ) → goodParams P ≡ true → c ≡ size P → s ≡ size P → lentAnswer P c s ≡ Done
 unfolding lentAnswer lengthsAnswer
 lent-good P c s good h k = rw (good, eq-eqb c (size P) h, eq-eqb s (size P) k)
@@ -46,8 +46,8 @@ module _ {P : Params} {a b : List ℕ} {S T : Sketch} (up : StreamRead P a (zero
       → settleAnswer P S T flows numbers queue marks ≡ Done
   streams-settle flows numbers queue marks e l h k =
       let s = fresh-grown up in
-      let shaped = lent-good P (length (S .counts)) (length (S .idsums)) (s .good) (s .counts-long) (s .idsums-long) in
-      let lent = well-lent P flows numbers queue marks (length (S .counts)) (length (S .idsums)) shaped (record { queue-long = h; marks-long = k; same = e; few = l }) in
+      let sketch-lent = lent-good P (length (S .counts)) (length (S .idsums)) (s .good) (s .counts-long) (s .idsums-long) in
+      let lent = well-lent P flows numbers queue marks (length (S .counts)) (length (S .idsums)) sketch-lent (record { queue-long = h; marks-long = k; same = e; few = l }) in
       sym (lent-first P S T flows numbers queue marks Done (sym lent) (sym streams-subtract))
 
 -- the packets of a stream, and how many of a flow two streams differ by

@@ -28,7 +28,7 @@ module _ (P : Params) (T : Sketch) (L : Slices) where
   abbrev pub lessDownstream : Slices
   lessDownstream = withSketch (combined true (lentSketch L) T) L
 
-  -- unless it is refused, settling is peeling the difference with 8 * d * m pops; L' is what the slices hold after
+  -- unless it is refused, settling is peeling the difference with 8 * d * m pops, which then refuses nothing (`settled-ends`); L' is what the slices hold after
   pub record Settles (r : Peeled) (L' : Slices) : Type 0 where
     pub answer : r ≡ unlessRefused settleJudged (peelReturns P (8 * size P) lessDownstream)
     pub after : L' ≡ kept settleJudged L (peelLeaves P (8 * size P) lessDownstream)

@@ -18,7 +18,7 @@ use Rattle.sketch.specs.Packets.{packetAnswer, entryAnswer, stepAnswer, moveAns
 use Rattle.sketch.specs.Arrays.{arrayAnswer}
 use Rattle.sums.specs.Sums.{bothLentAnswer, eitherDamaged, leaves, bucketsAnswer, combineAnswer}
 
--- what a row tells: an answer's number and index
+-- what a row has: an answer's number and index
 pub record Returned : Type 0 where
   pub number : ℕ
   pub index : ℕ

@@ -34,17 +34,17 @@ pub data Question : Type 0 where
   queue-after : (pops : ℕ) (S : Sketch) → Question
   inserting : (S : Sketch) (flow number : ℕ) → Question
 
--- and told
-pub data Told : Type 0 where
-  at : ℕ → Told
-  holds : Sketch → Told
-  finds : (flow : ℕ) → Found → Told
-  ends : (ending pops : ℕ) (net : ℤ) (table : List Entry) (remainder : Sketch) → Told
-  waits-on : List ℕ → Told
-  says : (number index : ℕ) → Sketch → Told
+-- and what is answered
+pub data Reply : Type 0 where
+  at : ℕ → Reply
+  holds : Sketch → Reply
+  finds : (flow : ℕ) → Found → Reply
+  ends : (ending pops : ℕ) (net : ℤ) (table : List Entry) (remainder : Sketch) → Reply
+  waits-on : List ℕ → Reply
+  says : (number index : ℕ) → Sketch → Reply
 
 -- the ending by its number, and the table after the close
-abbrev ended : Outcome → Told
+abbrev ended : Outcome → Reply
 ended o = ends (endingNumber (o .ending)) (o .pops) (netOf o) (closedTable o) (o .remainder)
 
 -- the walk's own moves, pop by pop
@@ -60,25 +60,25 @@ unfoldable pub pops : ℕ → State → State
 pops zero st = st
 pops (suc n) st = pops n (onePop (st .queue) st)
 
-abbrev judged : Sketch → Answer → Sketch → Told
+abbrev judged : Sketch → Answer → Sketch → Reply
 judged S r S' = says (numberIn r) (indexIn r) (kept r S S')
 
 -- what the definitions tell
-abbrev pub told : Question → Told
-told (position-of i f) = at (position K i f)
-told (sketch-of es) = holds (sketchOf K es)
-told (test-of k c s) = finds (flow (primeOf K) c s) (pureTest K k c s)
-told (peeling S slots allowance) = ended (walk (ruleOf K) slots allowance S)
-told (queue-after n S) = waits-on (pops n (record { held = S; queue = firstQueue 0 (S .counts); table = [] }) .queue)
-told (inserting S f n) = judged S (moveAnswer K false f n S) (changed K false f n S)
+abbrev pub reply : Question → Reply
+reply (position-of i f) = at (position K i f)
+reply (sketch-of es) = holds (sketchOf K es)
+reply (test-of k c s) = finds (flow (primeOf K) c s) (pureTest K k c s)
+reply (peeling S slots allowance) = ended (walk (ruleOf K) slots allowance S)
+reply (queue-after n S) = waits-on (pops n (record { held = S; queue = firstQueue 0 (S .counts); table = [] }) .queue)
+reply (inserting S f n) = judged S (moveAnswer K false f n S) (changed K false f n S)
 
 -- a line of the table
 pub record Line : Type 0 where
   pub asked : Question
-  pub answer : Told
+  pub answer : Reply
 
 infix 40 _gives_
-abbrev _gives_ : Question → Told → Line
+abbrev _gives_ : Question → Reply → Line
 q gives t = record { asked = q; answer = t }
 
 -- a sketch by its ten buckets, those of array 1 first; `o` is all zero
@@ -165,7 +165,7 @@ examples =
     ∷ []
 
 -- every line of the table is right, and the walk of E3 goes on without end: it is spent whatever it is allowed
-pub all-right : (map (λ l. told (l .asked)) examples ≡ map (λ l. l .answer) examples) × ((n : ℕ) → endingNumber (walk (ruleOf K) 10 n S3 .ending) ≡ 3)
+pub all-right : (map (λ l. reply (l .asked)) examples ≡ map (λ l. l .answer) examples) × ((n : ℕ) → endingNumber (walk (ruleOf K) 10 n S3 .ending) ≡ 3)
 unfolding residue inverseIn inverse flow below least mapFrom touched from refuseAt first kept pairAt twins goodDimensions goodParams lengthsAnswer dimensionsAnswer stand standsIn inLimits isNumber countAt weightAt sketchOf damagedIn leavesIn flowBucketsAnswer changedIn packetAnswer entryAnswer stepAnswer changed moveAnswer all any nothingRemains less has entryOf credited waits requeue inRange hasRoom taken takes follows popped before after run firstQueue walk close netFigure testIn pops
 all-right = (refl, without-end)
   where

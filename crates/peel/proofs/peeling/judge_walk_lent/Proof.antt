@@ -1,4 +1,4 @@
--- `peel::peeling::judge_walk_lent` meets its contract: the shape, then the other lengths.
+-- `peel::peeling::judge_walk_lent` meets its contract: the parameters and the sketch's lengths, then the others.
 use mathlib.Core.Path.{_≡_, sym, _∙_}
 use Prim.Native.Nat.{_*_}
 use native.Mathlib.Omega.{arith}
@@ -6,16 +6,16 @@ use borrow.Author.Needs.{needs}
 use Rattle.params.specs.declared.answers.Answer.the-variants.{Done}
 use Rattle.params.specs.Params.{lentAnswer}
 use Rattle.params.proofs.Rules.{lent-done}
-use Rattle.peel.proofs.Judged.{Lent, ill-shaped, ill-lent, well-lent}
+use Rattle.peel.proofs.Judged.{Lent, sketch-refused, ill-lent, well-lent}
 use Rattle.peel.proofs.peeling.judge_walk_lent.Statement.{statement}
 use Rattle.peel.proofs.peeling.judge_walk_lent.Tie as tie
 
--- the shape was passed, and the counts are as many as the buckets
-shaped : (c : tie.After-enum-told) → lentAnswer (c .before .before .before .args .p) (c .before .before .before .args .counts) (c .before .before .before .args .idsums) ≡ Done
-shaped c = sym (c .before .before .judge-lent .ensures) ∙ c .enum-told .given .1
+-- these were passed, and the counts are as many as the buckets
+sketch-lent : (c : tie.After-enum-told) → lentAnswer (c .before .before .before .args .p) (c .before .before .before .args .counts) (c .before .before .before .args .idsums) ≡ Done
+sketch-lent c = sym (c .before .before .judge-lent .ensures) ∙ c .enum-told .given .1
 
 long : (c : tie.After-enum-told) → c .before .before .before .args .counts ≡ c .before .before .before .args .p .d * c .before .before .before .args .p .m
-long c = lent-done _ _ _ (shaped c) .1
+long c = lent-done _ _ _ (sketch-lent c) .1
 
 -- so were the other lengths
 passed : (c : tie.Else4) → let a = c .before .before .before .before .before .before .before .args in Lent (a .p) (a .flows) (a .numbers) (a .queue) (a .marks)
@@ -38,22 +38,22 @@ enum-told-2 : tie.Need-enum-told-2
 enum-told-2 c = search needs
 
 returns : tie.Need-returns
-returns c = ill-shaped _ _ _ _ _ _ _ _ (c .before .before .judge-lent .ensures) (c .before .match .keys2)
+returns c = sketch-refused _ _ _ _ _ _ _ _ (c .before .before .judge-lent .ensures) (c .before .match .keys2)
 
 returns-2 : tie.Need-returns-2
-returns-2 c = ill-lent _ _ _ _ _ _ _ (shaped (c .before)) (λ l. c .if1 .taken (l .queue-long ∙ sym (long (c .before))))
+returns-2 c = ill-lent _ _ _ _ _ _ _ (sketch-lent (c .before)) (λ l. c .if1 .taken (l .queue-long ∙ sym (long (c .before))))
 
 returns-3 : tie.Need-returns-3
-returns-3 c = ill-lent _ _ _ _ _ _ _ (shaped (c .before .before)) (λ l. c .if2 .taken (l .marks-long ∙ sym (long (c .before .before))))
+returns-3 c = ill-lent _ _ _ _ _ _ _ (sketch-lent (c .before .before)) (λ l. c .if2 .taken (l .marks-long ∙ sym (long (c .before .before))))
 
 returns-4 : tie.Need-returns-4
-returns-4 c = ill-lent _ _ _ _ _ _ _ (shaped (c .before .before .before)) (λ l. c .if3 .taken (l .same))
+returns-4 c = ill-lent _ _ _ _ _ _ _ (sketch-lent (c .before .before .before)) (λ l. c .if3 .taken (l .same))
 
 returns-5 : tie.Need-returns-5
-returns-5 c = ill-lent _ _ _ _ _ _ _ (shaped (c .before .before .before .before)) (λ l. omega (arith, c .if4 .taken, l .few))
+returns-5 c = ill-lent _ _ _ _ _ _ _ (sketch-lent (c .before .before .before .before)) (λ l. omega (arith, c .if4 .taken, l .few))
 
 returns-6 : tie.Need-returns-6
-returns-6 c = well-lent _ _ _ _ _ _ _ (shaped (c .before .before .before .before)) (passed c)
+returns-6 c = well-lent _ _ _ _ _ _ _ (sketch-lent (c .before .before .before .before)) (passed c)
 
 pub judge-walk-lent-spec : {M : Type 1} → statement M
 judge-walk-lent-spec =
