@@ -68,7 +68,7 @@ waits k q = any (λ j. eqb j k) q
 abbrev pub join : ℕ → List ℕ → List ℕ
 join k q = cond (waits k q) q (q ++ (k ∷ []))
 
--- of the n arrays after the first i, in rising order: the bucket that `at` gives joins the queue where its count is now not 0
+-- of n arrays from i on, in rising order: the bucket that `at` gives joins the queue where its count is now not 0
 unfoldable pub requeue : (ℕ → ℕ) → Sketch → ℕ → ℕ → List ℕ → List ℕ
 requeue at S i zero q = q
 requeue at S i (suc n) q = requeue at S (suc i) n (cond (isZero (countIn S (at i))) q (join (at i) q))
