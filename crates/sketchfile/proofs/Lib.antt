@@ -7,3 +7,4 @@ pub mod Rewriting
 pub mod Accepting
 pub mod OneFile
 pub mod InOrder
+pub mod AtTheCall
