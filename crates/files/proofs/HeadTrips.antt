@@ -75,6 +75,10 @@ four-same P =
       same (getD (P .b) 3 0),
     )
 
+four-alike : (P Q : Params) → sameParams Q (fourPairs P) ≡ sameParams Q P
+unfolding sameParams samePair below
+four-alike P Q = refl
+
 module _ (P : Params) (ys : List ℕ) where
   pub headed-long : length (headBytes P ++ ys) ≡ headLength + length ys
   unfolding headBytes wordBytes
@@ -108,6 +112,10 @@ module _ (P : Params) (ys : List ℕ) where
   pub opening-written : (c s : ℕ) → goodParams P ≡ true → openingAnswer P (headBytes P ++ ys) c s ≡ lengthsAnswer P c s
   unfolding parametersAnswer first
   opening-written c s g = rw (head-kind, params-written g, four-good P, g, four-same P)
+
+  -- parameters that are the same as those in the head are the same as those that were written
+  pub same-written : (Q : Params) → goodParams P ≡ true → sameParams Q (paramsIn (headBytes P ++ ys)) ≡ sameParams Q P
+  same-written Q g = rw (params-written g) (four-alike P Q)
 
 -- where the opening is not refused
 pub record Opened (P : Params) (bs : List ℕ) (c s : ℕ) : Type 0 where

@@ -15,7 +15,7 @@ use Rattle.params.specs.declared.answers.Answer.the-variants.{Done, Refused}
 use Rattle.params.specs.Answers.{numberIn, indexIn, refuseIf, first, kept}
 use Rattle.params.specs.Params.{size, goodParams, sameParams, lengthsAnswer}
 use Rattle.params.proofs.Judging.{number-done}
-use Rattle.params.specs.Faults.{firstOf}
+use Rattle.params.specs.Faults.{order, firstOf}
 use Rattle.files.specs.Faults.{openingOrder, openingFault}
 use Rattle.params.proofs.InOrder.{refuse-number, first-refuse}
 use Rattle.files.specs.declared.records.Record.{Record}
@@ -62,6 +62,18 @@ module _ (P : Params) (bs : List ℕ) (c s : ℕ) where
       (refuse-start (not (goodParams (paramsIn bs) && goodParams P)) Param _
       (refuse-start (not (sameParams P (paramsIn bs))) Mismatch _
       (refuse-start (not (eqb c (size P) && eqb s (size P))) Length Done refl)))
+
+  -- so a reader that judges the opening first returns both, if a fault of the opening applies
+  pub opening-decides : (next : Answer) {r : Answer} → r ≡ first (openingAnswer P bs c s) next → (firstOf openingOrder (openingFault P bs c s) ≡ 0 → ⊥)
+      → (numberIn r ≡ firstOf openingOrder (openingFault P bs c s)) × (indexIn r ≡ 0)
+  unfolding first
+  opening-decides next {r} e n = go (openingAnswer P bs c s) refl
+    where
+      go : (a : Answer) → openingAnswer P bs c s ≡ a → (numberIn r ≡ firstOf openingOrder (openingFault P bs c s)) × (indexIn r ≡ 0)
+      go Done q = absurd (n (sym opening-number ∙ ap numberIn q))
+      go (Refused w k) q =
+          let same : r ≡ openingAnswer P bs c s = e ∙ ap (λ (a : Answer). first a next) q ∙ sym q in
+          (ap numberIn same ∙ opening-number, ap indexIn same ∙ opening-index)
 
 -- a record that is whole, of whatever kind
 pub record IsWhole (r : Record) : Type 0 where
@@ -142,3 +154,8 @@ module _ (a : Answer) (n : ℕ) {r : Written} (e : r ≡ writtenOf a n) where
       returned : (x : Answer) → r ≡ writtenOf x n → kept x old new ≡ old
       returned Done q = absurd (let z : _≡_ {A = ℕ} 0 1 = cc in omega arith)
       returned (Refused v j) q = refl
+
+-- a writer goes by a table of faults: its number is that of the first that applies, 0 where none does, and its index is 0 unless a bucket is damaged
+pub record WriterGoesBy (fault : Refusal → Bool) (r : Written) : Type 0 where
+  pub number : writtenNumber r ≡ firstOf order fault
+  pub index : (writtenNumber r ≡ 5 → ⊥) → writtenIndex r ≡ 0

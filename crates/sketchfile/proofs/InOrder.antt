@@ -38,7 +38,7 @@ use Rattle.sketchfile.specs.Writing.{sketchBytes, sketchWriteAnswer, Ske
 use Rattle.sketchfile.proofs.BucketRecords.{sketch-opening}
 
 module _ (N : ℕ) (bs : List ℕ) (j : ℕ) where
-  bucket-number : numberIn (bucketJudged N bs j) ≡ firstOf order (bucketFault N bs j)
+  pub bucket-number : numberIn (bucketJudged N bs j) ≡ firstOf order (bucketFault N bs j)
   unfolding bucketJudged bucketAnswer
   bucket-number = simp (refuse-number, cond-either)
 

@@ -1,4 +1,4 @@
--- The laws of sketch files, that a sketch has one file, and what goes with each refusal.
+-- The laws of sketch files, that a sketch has one file and keeps its history in it, and what goes with each refusal.
 pub mod BucketRecords
 pub mod Written
 pub mod BucketTrips
@@ -7,3 +7,5 @@ pub mod Rewriting
 pub mod Accepting
 pub mod OneFile
 pub mod InOrder
+pub mod AtTheCall
+pub mod Histories

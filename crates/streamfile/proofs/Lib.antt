@@ -10,3 +10,4 @@ pub mod PacketTrips
 pub mod Sending
 pub mod OneStream
 pub mod InOrder
+pub mod AtTheCall
