@@ -17,7 +17,7 @@ use Rattle.files.specs.Bytes.{word}
 use Rattle.params.proofs.SameParams.{size-same}
 use Rattle.files.specs.Records.{recordAt, isKind, headKind, packetsKind, endKind, headLength, packetsLength, endLength}
 use Rattle.files.specs.Heads.{paramsIn, headAnswer}
-use Rattle.files.specs.Turns.{packetPlace}
+use Rattle.files.specs.Turns.{packetOffset}
 use Rattle.files.specs.Fields.{recordsField}
 use Rattle.files.proofs.HeadTrips.{Opened}
 use Rattle.streamfile.specs.Streams.{packetsIn, StreamRead}
@@ -132,8 +132,8 @@ module _ (P : Params) (bs : List ℕ) (up down : Sketch) (p : Passed P bs up dow
 module _ {P : Params} {a : List ℕ} {S : Sketch} (read : StreamRead P a (zeros P) Done S) where
   pub file-long : length a ≡ headLength + (packetsLength * packetsIn a + endLength)
   file-long =
-      let e = end-said-done a (packetPlace (packetsIn a)) (packetsIn a) (stream-done P a (zeros P) (sym (read .answer)) .ended) in
-      omega (arith, e .last, whole-record a (packetPlace (packetsIn a)) endKind (e .kind) .1)
+      let e = end-said-done a (packetOffset (packetsIn a)) (packetsIn a) (stream-done P a (zeros P) (sym (read .answer)) .ended) in
+      omega (arith, e .last, whole-record a (packetOffset (packetsIn a)) endKind (e .kind) .1)
 
   file-opened : Opened P a (length (zeros P .counts)) (length (zeros P .idsums))
   file-opened = stream-done P a (zeros P) (sym (read .answer)) .opened

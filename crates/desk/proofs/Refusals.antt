@@ -32,7 +32,7 @@ use Rattle.sketch.specs.Packets.{after}
 use Rattle.files.specs.Bytes.{word}
 use Rattle.files.specs.Records.{recordAt, isKind, headKind, endKind, headLength, packetsLength, endLength}
 use Rattle.files.specs.Heads.{paramsIn, isHead, parametersAnswer}
-use Rattle.files.specs.Turns.{packetPlace}
+use Rattle.files.specs.Turns.{packetOffset}
 use Rattle.files.specs.Fields.{recordsField}
 use Rattle.streamfile.specs.Streams.{packetsFrom, packetsIn, flowsIn, numbersIn, packetsJudged, streamAnswer, StreamRead}
 use Rattle.desk.specs.declared.states.Stage.the-variants.{DownstreamHead, DownstreamPackets, Nothing}
@@ -285,12 +285,12 @@ module _ (P : Params) (input : List ℕ) (r : Fed) (up down : Sketch) (head : be
 
           at : (b : Bool) → leb (length (rest started t xs)) 0 ≡ b → deskAnswer ≡ shifted i (streamAnswer P file (zeros P))
           at true q =
-              let short : length file ≤ packetPlace (packetsFrom 0 body) + endLength = omega (arith, leb-true (length (rest started t xs)) 0 q, over, all-taken P body (zeros P) done .number, length-drop i input) in
+              let short : length file ≤ packetOffset (packetsFrom 0 body) + endLength = omega (arith, leb-true (length (rest started t xs)) 0 q, over, all-taken P body (zeros P) done .number, length-drop i input) in
               ends-by t t ends (rw q) ∙ ap (shifted i) (sym (judged-so ∙ all-read P file file-whole (zeros P) true i s refl refl refl done kind said short))
           at false q =
-              let long : packetPlace (packetsFrom 0 body) + endLength < length file = omega (arith, leb-false (length (rest started t xs)) 0 q, over, all-taken P body (zeros P) done .number, length-drop i input) in
+              let long : packetOffset (packetsFrom 0 body) + endLength < length file = omega (arith, leb-false (length (rest started t xs)) 0 q, over, all-taken P body (zeros P) done .number, length-drop i input) in
               ends-by t (stopped Form t) ends (rw q)
-              ∙ ap (Refused Form) {x = t .at} {y = i + (packetPlace (packetsFrom 0 body) + endLength)} (omega (arith, all-taken P body (zeros P) done .number))
+              ∙ ap (Refused Form) {x = t .at} {y = i + (packetOffset (packetsFrom 0 body) + endLength)} (omega (arith, all-taken P body (zeros P) done .number))
               ∙ ap (shifted i) (sym (judged-so ∙ more-behind P file file-whole (zeros P) true i s refl refl refl done kind said long))
 
       right-head : deskAnswer ≡ shifted i (streamAnswer P file (zeros P))

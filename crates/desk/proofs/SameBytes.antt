@@ -21,9 +21,9 @@ use Rattle.sketch.proofs.Tables.{from-same}
 use Rattle.params.proofs.Judging.{first-passed, refuse-none, refuse-done}
 use Rattle.sketch.proofs.ManyPackets.{after-end}
 use Rattle.files.specs.Bytes.{word}
-use Rattle.files.specs.Records.{bodyLength, recordAt, isKind, placeOf, packetsKind, endKind, headLength, packetsLength, endLength}
+use Rattle.files.specs.Records.{bodyLength, recordAt, isKind, offsetOf, packetsKind, endKind, headLength, packetsLength, endLength}
 use Rattle.files.specs.Heads.{paramsIn, isHead, parametersAnswer}
-use Rattle.files.specs.Turns.{atOffset, packetFrom, packetPlace, endAnswer}
+use Rattle.files.specs.Turns.{atOffset, packetFrom, packetOffset, endAnswer}
 use Rattle.files.specs.Fields.{flowField, numberField, recordsField}
 use Rattle.files.proofs.EndStages.{ended}
 use Rattle.files.proofs.RecordTrips.{record-whole, not-kind}
@@ -63,7 +63,7 @@ pub record EndSaid (bs : List ℕ) (at n : ℕ) : Type 0 where
 pub end-said-done : (bs : List ℕ) (at n : ℕ) → endAnswer bs at n ≡ Done → EndSaid bs at n
 unfolding endAnswer
 end-said-done bs at n e =
-    let h = refuse-done (not (isKind endKind (recordAt bs at))) Form (placeOf bs at) _ e in
+    let h = refuse-done (not (isKind endKind (recordAt bs at))) Form (offsetOf bs at) _ e in
     let k = refuse-done (not (eqb (word bs (at + recordsField)) n)) Form at _ (h .1) in
     let l = refuse-done (ltb (at + endLength) (length bs)) Form (at + endLength) Done (k .1) in
     record { kind = not-false _ (h .0); said = eqb-true _ _ (not-false _ (k .0)); last = ltb-false _ _ (l .0) }
@@ -84,20 +84,20 @@ module _ (P : Params) (fs xs : List ℕ) (n : ℕ) (long : length fs ≡ headLen
 
   -- xs has n packets at hand and then an end
   module _ (number : packetsFrom 0 xs ≡ n) (end : isKind endKind (recordAt xs (packetsLength * n)) ≡ true) (said : word xs (packetsLength * n + recordsField) ≡ n) where
-    end-same : isKind endKind (recordAt fs (packetPlace n)) ≡ true
-    end-same = whole-same endKind (packetPlace n) (packetsLength * n) refl (omega arith) (omega arith) end
+    end-same : isKind endKind (recordAt fs (packetOffset n)) ≡ true
+    end-same = whole-same endKind (packetOffset n) (packetsLength * n) refl (omega arith) (omega arith) end
 
     number-same : packetsIn fs ≡ n
     number-same =
-        records-are packetsKind packetPlace fs n (omega arith)
-        (λ k l. whole-same packetsKind (packetPlace k) (packetFrom 0 k) (omega arith) (omega arith) (omega arith) (whole-within packetsKind (packetFrom 0) xs k (omega arith)))
-        (not-kind fs (packetPlace n) packetsKind (λ e. omega (arith, whole-record fs (packetPlace n) endKind end-same .0)))
+        records-are packetsKind packetOffset fs n (omega arith)
+        (λ k l. whole-same packetsKind (packetOffset k) (packetFrom 0 k) (omega arith) (omega arith) (omega arith) (whole-within packetsKind (packetFrom 0) xs k (omega arith)))
+        (not-kind fs (packetOffset n) packetsKind (λ e. omega (arith, whole-record fs (packetOffset n) endKind end-same .0)))
 
     flow-same : (k : ℕ) → k < n → flowFrom headLength fs k ≡ flowFrom 0 xs k
-    flow-same k l = word-same (packetPlace k + flowField) (packetFrom 0 k + flowField) (omega arith) (omega arith)
+    flow-same k l = word-same (packetOffset k + flowField) (packetFrom 0 k + flowField) (omega arith) (omega arith)
 
     packets-same : (k : ℕ) → k < n → numberFrom headLength fs k ≡ numberFrom 0 xs k
-    packets-same k l = word-same (packetPlace k + numberField) (packetFrom 0 k + numberField) (omega arith) (omega arith)
+    packets-same k l = word-same (packetOffset k + numberField) (packetFrom 0 k + numberField) (omega arith) (omega arith)
 
     flows-same : flowsIn fs ≡ flowsFrom 0 xs
     unfolding flowsFrom
@@ -122,8 +122,8 @@ module _ (P : Params) (fs xs : List ℕ) (n : ℕ) (long : length fs ≡ headLen
       unfolding packetsJudged
       records-done =
           first-passed _ _ (in-turn-done (packetsIn fs) (packetJudged P fs S) (λ j l. judged-done j (omega (arith, number-same))))
-          ∙ ap (λ (m : ℕ). endAnswer fs (packetPlace m) m) number-same
-          ∙ sym (ended fs (packetPlace n) n end-same (word-same (packetPlace n + recordsField) (packetsLength * n + recordsField) (omega arith) (omega arith) ∙ said) (omega arith))
+          ∙ ap (λ (m : ℕ). endAnswer fs (packetOffset m) m) number-same
+          ∙ sym (ended fs (packetOffset n) n end-same (word-same (packetOffset n + recordsField) (packetsLength * n + recordsField) (omega arith) (omega arith) ∙ said) (omega arith))
 
       all-same : afterTaken P xs S ≡ after P (flowsIn fs) (numbersIn fs) S
       unfolding afterTaken
@@ -151,19 +151,19 @@ module _ (P : Params) (fs xs : List ℕ) (n : ℕ) (long : length fs ≡ headLen
     done : StreamDone P fs (zeros P)
     done = stream-done P fs (zeros P) (sym (read .answer))
 
-    said-so : EndSaid fs (packetPlace n) n
-    said-so = end-said-done fs (packetPlace n) n (ap (λ (k : ℕ). endAnswer fs (packetPlace k) k) (sym are) ∙ done .ended)
+    said-so : EndSaid fs (packetOffset n) n
+    said-so = end-said-done fs (packetOffset n) n (ap (λ (k : ℕ). endAnswer fs (packetOffset k) k) (sym are) ∙ done .ended)
 
     pub end-back : isKind endKind (recordAt xs (packetsLength * n)) ≡ true
-    end-back = whole-back endKind (packetPlace n) (packetsLength * n) refl (omega arith) (omega arith) (said-so .kind)
+    end-back = whole-back endKind (packetOffset n) (packetsLength * n) refl (omega arith) (omega arith) (said-so .kind)
 
     pub said-back : word xs (packetsLength * n + recordsField) ≡ n
-    said-back = sym (word-same (packetPlace n + recordsField) (packetsLength * n + recordsField) (omega arith) (omega arith)) ∙ said-so .said
+    said-back = sym (word-same (packetOffset n + recordsField) (packetsLength * n + recordsField) (omega arith) (omega arith)) ∙ said-so .said
 
     number-back : packetsFrom 0 xs ≡ n
     number-back =
         records-are packetsKind (packetFrom 0) xs n (omega arith)
-        (λ k l. whole-back packetsKind (packetPlace k) (packetFrom 0 k) (omega arith) (omega arith) (omega arith) (whole-within packetsKind packetPlace fs k (omega (arith, are))))
+        (λ k l. whole-back packetsKind (packetOffset k) (packetFrom 0 k) (omega arith) (omega arith) (omega arith) (whole-within packetsKind packetOffset fs k (omega (arith, are))))
         (not-kind xs (packetFrom 0 n) packetsKind (λ e. let two : getD xs (packetsLength * n) 0 ≡ packetsKind = ap (λ (k : ℕ). getD xs k 0) (omega arith) ∙ e in omega (arith, two, whole-record xs (packetsLength * n) endKind end-back .0)))
 
     each-accepted : (k : ℕ) → k < packetsFrom 0 xs → packetAnswer P xs (zeros P) k ≡ Done

@@ -23,7 +23,7 @@ use Rattle.files.specs.declared.records.Record.the-variants.{Whole, Cut,
 use Rattle.files.specs.declared.writing.Written.{Written}
 use Rattle.files.specs.declared.writing.Written.the-variants.{Refused as NotWritten}
 use Rattle.files.specs.Bytes.{word}
-use Rattle.files.specs.Records.{bodyLength, recordAt, isKind, placeOf, recordNumber, recordPlace, endKind, endLength}
+use Rattle.files.specs.Records.{bodyLength, recordAt, isKind, offsetOf, recordNumber, recordOffset, endKind, endLength}
 use Rattle.files.specs.Heads.{paramsIn, isHead, parametersAnswer}
 use Rattle.files.specs.Turns.{endAnswer}
 use Rattle.files.specs.Writing.{writtenOf, writtenNumber, writtenIndex, writtenLength}
@@ -99,12 +99,12 @@ form-else Unknown n = refl
 form-else Missing n = refl
 
 -- with the place of its kind byte, or the file's length where that is due and missing
-pub record-place : (bs : List ℕ) (at : ℕ) → (IsWhole (recordAt bs at) → ⊥) → recordPlace (recordAt bs at) at bs ≡ placeOf bs at
+pub record-place : (bs : List ℕ) (at : ℕ) → (IsWhole (recordAt bs at) → ⊥) → recordOffset (recordAt bs at) at bs ≡ offsetOf bs at
 unfolding recordAt
 record-place bs at = go (leb (length bs) at) (eqb (bodyLength (getD bs at 0)) 0) (leb (length bs - at) (bodyLength (getD bs at 0))) (getD bs at 0) (at + 1 + bodyLength (getD bs at 0))
   where
     go : (x y z : Bool) (k next : ℕ) → (IsWhole (cond x Missing (cond y Unknown (cond z Cut (Whole k next)))) → ⊥)
-        → recordPlace (cond x Missing (cond y Unknown (cond z Cut (Whole k next)))) at bs ≡ cond x (length bs) at
+        → recordOffset (cond x Missing (cond y Unknown (cond z Cut (Whole k next)))) at bs ≡ cond x (length bs) at
     go true y z k next n = refl
     go false true z k next n = refl
     go false false true k next n = refl
@@ -112,7 +112,7 @@ record-place bs at = go (leb (length bs) at) (eqb (bodyLength (getD bs at 0)) 0)
 
 -- what is at fault where an end is due after n records, and the offset that goes with it
 pub data EndFault (bs : List ℕ) (at n k : ℕ) : Type 0 where
-  no-end : isKind endKind (recordAt bs at) ≡ false → k ≡ placeOf bs at → EndFault bs at n k
+  no-end : isKind endKind (recordAt bs at) ≡ false → k ≡ offsetOf bs at → EndFault bs at n k
   wrong-count : isKind endKind (recordAt bs at) ≡ true → (word bs (at + recordsField) ≡ n → ⊥) → k ≡ at → EndFault bs at n k
   byte-after : isKind endKind (recordAt bs at) ≡ true → word bs (at + recordsField) ≡ n → at + endLength < length bs → k ≡ at + endLength → EndFault bs at n k
 
@@ -121,7 +121,7 @@ unfolding endAnswer
 end-fault bs at n w k = go (isKind endKind (recordAt bs at)) (eqb (word bs (at + recordsField)) n) (ltb (at + endLength) (length bs)) refl refl refl
   where
     go : (x y z : Bool) → isKind endKind (recordAt bs at) ≡ x → eqb (word bs (at + recordsField)) n ≡ y → ltb (at + endLength) (length bs) ≡ z
-        → refuseIf (not x) Form (placeOf bs at) (refuseIf (not y) Form at (refuseIf z Form (at + endLength) Done)) ≡ Refused w k → (w ≡ Form) × EndFault bs at n k
+        → refuseIf (not x) Form (offsetOf bs at) (refuseIf (not y) Form at (refuseIf z Form (at + endLength) Done)) ≡ Refused w k → (w ≡ Form) × EndFault bs at n k
     go false y z kind said after e = (cc, no-end kind cc)
     go true false z kind said after e = (cc, wrong-count kind (eqb-false _ _ said) cc)
     go true true true kind said after e = (cc, byte-after kind (eqb-true _ _ said) (ltb-true _ _ after) cc)

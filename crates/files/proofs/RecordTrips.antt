@@ -12,7 +12,7 @@ use Rattle.params.specs.declared.answers.Refusal.the-variants.{Form}
 use Rattle.params.specs.declared.answers.Answer.the-variants.{Done}
 use Rattle.params.proofs.Judging.{refuse-done}
 use Rattle.files.specs.Bytes.{word, wordBytes}
-use Rattle.files.specs.Records.{bodyLength, recordAt, isKind, placeOf, endKind, endLength}
+use Rattle.files.specs.Records.{bodyLength, recordAt, isKind, offsetOf, endKind, endLength}
 use Rattle.files.specs.Layout.{endBytes}
 use Rattle.files.specs.Turns.{endAnswer}
 use Rattle.files.specs.Fields.{recordsField}
@@ -60,7 +60,7 @@ end-written xs at n e h =
 pub end-read : (bs : List ℕ) (at n : ℕ) → ((k : ℕ) → getD bs k 0 < 256) → endAnswer bs at n ≡ Done → (at + endLength ≤ length bs) × (endBytes n ≡ drop at bs)
 unfolding endAnswer endBytes
 end-read bs at n small e =
-    let h = refuse-done (not (isKind endKind (recordAt bs at))) Form (placeOf bs at) _ e in
+    let h = refuse-done (not (isKind endKind (recordAt bs at))) Form (offsetOf bs at) _ e in
     let k = refuse-done (not (eqb (word bs (at + recordsField)) n)) Form at _ (h .1) in
     let l = refuse-done (ltb (at + endLength) (length bs)) Form (at + endLength) Done (k .1) in
     let kind : isKind endKind (recordAt bs at) ≡ true = not-false _ (h .0) in

@@ -63,8 +63,8 @@ isKind k Unknown = false
 isKind k Missing = false
 
 -- the offset that goes with a fault of a record: its kind byte, or the file's length where it is due and missing
-abbrev pub placeOf : List ℕ → ℕ → ℕ
-placeOf bs at = cond (leb (length bs) at) (length bs) at
+abbrev pub offsetOf : List ℕ → ℕ → ℕ
+offsetOf bs at = cond (leb (length bs) at) (length bs) at
 
 -- the caller's number: FORM for all but a whole record; and the offset that goes with it: that of its kind byte, or the file's length where nothing stands
 abbrev pub recordNumber : Record → ℕ
@@ -73,11 +73,11 @@ recordNumber Cut = numberOf Form
 recordNumber Unknown = numberOf Form
 recordNumber Missing = numberOf Form
 
-abbrev pub recordPlace : Record → ℕ → List ℕ → ℕ
-recordPlace (Whole k next) at bs = 0
-recordPlace Cut at bs = at
-recordPlace Unknown at bs = at
-recordPlace Missing at bs = length bs
+abbrev pub recordOffset : Record → ℕ → List ℕ → ℕ
+recordOffset (Whole k next) at bs = 0
+recordOffset Cut at bs = at
+recordOffset Unknown at bs = at
+recordOffset Missing at bs = length bs
 
 -- the body of a record that stands at an offset, empty where it is not whole, and how many bytes of the file stand before it
 unfoldable pub bodyOf : Record → ℕ → List ℕ → List ℕ

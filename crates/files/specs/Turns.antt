@@ -10,7 +10,7 @@ use Rattle.params.specs.declared.answers.Answer.the-variants.{Done, Refused}
 use Rattle.params.specs.Lists.{least}
 use Rattle.params.specs.Answers.{refuseIf, first}
 use Rattle.files.specs.Bytes.{word}
-use Rattle.files.specs.Records.{recordAt, isKind, placeOf, endKind, headLength, packetsLength, bucketLength, endLength}
+use Rattle.files.specs.Records.{recordAt, isKind, offsetOf, endKind, headLength, packetsLength, bucketLength, endLength}
 use Rattle.files.specs.Fields.{recordsField}
 
 -- a refusal with an offset in place of its index
@@ -28,11 +28,11 @@ abbrev pub packetFrom : ℕ → ℕ → ℕ
 packetFrom o k = o + packetsLength * k
 
 -- where the k-th record after the head stands, in a stream and in a sketch file
-abbrev pub packetPlace : ℕ → ℕ
-packetPlace k = packetFrom headLength k
+abbrev pub packetOffset : ℕ → ℕ
+packetOffset k = packetFrom headLength k
 
-abbrev pub bucketPlace : ℕ → ℕ
-bucketPlace k = headLength + bucketLength * k
+abbrev pub bucketOffset : ℕ → ℕ
+bucketOffset k = headLength + bucketLength * k
 
 -- how many whole records of a kind stand one after the other at these places
 unfoldable pub recordsOf : ℕ → (ℕ → ℕ) → List ℕ → ℕ
@@ -41,7 +41,7 @@ recordsOf kind place bs = least 0 (length bs) (λ k. not (isKind kind (recordAt 
 -- what is due after n records: a whole end that says their number, and no byte after it
 unfoldable pub endAnswer : List ℕ → ℕ → ℕ → Answer
 endAnswer bs at n =
-    refuseIf (not (isKind endKind (recordAt bs at))) Form (placeOf bs at)
+    refuseIf (not (isKind endKind (recordAt bs at))) Form (offsetOf bs at)
     (refuseIf (not (eqb (word bs (at + recordsField)) n)) Form at
     (refuseIf (ltb (at + endLength) (length bs)) Form (at + endLength)
     Done))

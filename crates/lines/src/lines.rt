@@ -1,5 +1,5 @@
-// The lines of the report. A line is written at the start of the output and its length given. No line is longer than 64 bytes: where
-// the output has no room for so many, nothing is written and 0 given.
+// The lines of the report. A line is written at the start of the output and its length returned. No line is longer than 64 bytes: where
+// the output has no room for so many, nothing is written and 0 returned.
 ghost use Rattle.lines.specs.Lines.{lossLine, leftLine, endLine, refusedLine, lineFits, Lined};
 use crate::text::put;
 use crate::text::put_ending;

@@ -38,7 +38,7 @@ fn fits(
     counts < lines - entries
 }
 
-// A line for an entry, from an offset on; the offset after it is given, as by the functions below.
+// A line for an entry, from an offset on; the offset after it is returned, as by the functions below.
 fn put_loss(out: &mut [u8], at: usize, flow: u32, count: i32) -> usize
     requires { ⌜ at + 64 ≤ length (now out) ⌝ }
     ensures { λ r. ⌜ TextWritten (lossLine flow count) (now (out .entry)) at r (now (out .exit)) ⌝ }
@@ -92,7 +92,7 @@ fn put_lefts(out: &mut [u8], from: usize, counts: &[i32], idsums: &[u32]) -> usi
     at
 }
 
-// Writes the report of a walk: of the table's first entries, the buckets that are left, and the ending. Its length is given, or 0
+// Writes the report of a walk: of the table's first entries, the buckets that are left, and the ending. Its length is returned, or 0
 // where it does not fit, and nothing is written then.
 pub fn report(
     out: &mut [u8],

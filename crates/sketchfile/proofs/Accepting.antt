@@ -18,13 +18,13 @@ use Rattle.params.proofs.Rules.{good-dimensions, dimensions-small}
 use Rattle.files.specs.Bytes.{wordBytes}
 use Rattle.files.proofs.HeadStages.{openingAnswer}
 use Rattle.files.specs.Layout.{headBytes, endBytes}
-use Rattle.files.specs.Turns.{inTurn, bucketPlace, endAnswer}
+use Rattle.files.specs.Turns.{inTurn, bucketOffset, endAnswer}
 use Rattle.files.specs.Records.{bucketKind, headLength, endKind}
 use Rattle.files.proofs.HeadTrips.{headed-long, opening-written, opening-done, head-read}
 use Rattle.files.proofs.RecordTrips.{not-kind, end-written}
 use Rattle.files.proofs.Turning.{in-turn-done, done-in-turn, whole-within, records-are}
 use Rattle.sketchfile.specs.Reading.{bucketsIn, lowest, bucketJudged, bucketsJudged, sketchAnswer, stored, sketchIn}
-use Rattle.sketchfile.specs.Writing.{bucketsBytes, nonzeroBuckets, sketchBytes, sketchWriteAnswer}
+use Rattle.sketchfile.specs.Writing.{bucketsBytes, nonzeroFrom, sketchBytes, sketchWriteAnswer}
 use Rattle.sketchfile.proofs.BucketRecords.{sketch-opening}
 use Rattle.sketchfile.proofs.Written.{left-few, buckets-long, Writable}
 use Rattle.sketchfile.proofs.Filling.{filled-all, counts-long, idsums-long, Agrees, agrees-none, agrees-all}
@@ -47,7 +47,7 @@ module _ (P : Params) (S : Sketch) (able : Writable P S) where
   file = sketchBytes P S
 
   abbrev number : ℕ
-  number = nonzeroBuckets 0 (size P) S
+  number = nonzeroFrom 0 (size P) S
 
   abbrev before : List ℕ
   before = headBytes P ++ bucketsBytes 0 (size P) S
@@ -56,7 +56,7 @@ module _ (P : Params) (S : Sketch) (able : Writable P S) where
   unfolding sketchBytes
   file-is = sym (append-assoc (headBytes P) (bucketsBytes 0 (size P) S) (endBytes number))
 
-  end-place : length before ≡ bucketPlace number
+  end-place : length before ≡ bucketOffset number
   end-place = headed-long P (bucketsBytes 0 (size P) S) ∙ ap (λ (n : ℕ). headLength + n) (buckets-long S 0 (size P))
 
   short : size P ≤ 65536
@@ -66,15 +66,15 @@ module _ (P : Params) (S : Sketch) (able : Writable P S) where
   unfolding sketchBytes headBytes wordBytes
   agrees = rw (zero-add number) at (agrees-all P file S (endBytes number) short (able .undamaged) (size P) 0 0 (headBytes P) refl refl (zero-add (size P)) (agrees-none P file S))
 
-  ended : endAnswer file (bucketPlace number) number ≡ Done
-  ended = rw file-is (end-written before (bucketPlace number) number end-place (omega (arith, short, left-few S 0 (size P))))
+  ended : endAnswer file (bucketOffset number) number ≡ Done
+  ended = rw file-is (end-written before (bucketOffset number) number end-place (omega (arith, short, left-few S 0 (size P))))
 
   counted : bucketsIn file ≡ number
   unfolding endBytes
   counted =
-      let long : length file ≡ bucketPlace number + length (endBytes number) = ap length file-is ∙ length-append before (endBytes number) ∙ ap (λ (n : ℕ). n + length (endBytes number)) end-place in
-      let four : getD file (bucketPlace number) 0 ≡ endKind = rw file-is (getD-at before endKind (wordBytes number) 0 (bucketPlace number) end-place) in
-      records-are bucketKind bucketPlace file number (omega arith) (agrees .kinds) (not-kind file (bucketPlace number) bucketKind (λ q. omega arith))
+      let long : length file ≡ bucketOffset number + length (endBytes number) = ap length file-is ∙ length-append before (endBytes number) ∙ ap (λ (n : ℕ). n + length (endBytes number)) end-place in
+      let four : getD file (bucketOffset number) 0 ≡ endKind = rw file-is (getD-at before endKind (wordBytes number) 0 (bucketOffset number) end-place) in
+      records-are bucketKind bucketOffset file number (omega arith) (agrees .kinds) (not-kind file (bucketOffset number) bucketKind (λ q. omega arith))
 
   pub file-accepted : (c s : ℕ) → c ≡ size P → s ≡ size P → sketchAnswer P file c s ≡ Done
   unfolding sketchBytes bucketsJudged
@@ -100,8 +100,8 @@ accepted P bs c s small e =
     let n = bucketsIn bs in
     let h = first-done (openingAnswer P bs c s) (bucketsJudged (size P) bs) (sym (sketch-opening P bs c s) ∙ e) in
     let opened = opening-done P bs c s (h .0) in
-    let k = first-done (inTurn 0 n (bucketJudged (size P) bs)) (endAnswer bs (bucketPlace n) n) (h .1) in
+    let k = first-done (inTurn 0 n (bucketJudged (size P) bs)) (endAnswer bs (bucketOffset n) n) (h .1) in
     let head = head-read bs small P (opened .head) (opened .same) in
-    let r = rewritten-all P bs small n head (whole-within bucketKind bucketPlace bs) (done-in-turn n (bucketJudged (size P) bs) (k .0)) in
+    let r = rewritten-all P bs small n head (whole-within bucketKind bucketOffset bs) (done-in-turn n (bucketJudged (size P) bs) (k .0)) in
     let able : Writable P (stored bs n (zeros P)) = record { good = opened .good; counts = counts-long P bs n; idsums = idsums-long P bs n; undamaged = λ x l. r .undamaged x } in
     (able, same-bytes P bs small n (lowest bs n) (stored bs n (zeros P)) r (k .1))

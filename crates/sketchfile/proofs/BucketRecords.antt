@@ -24,7 +24,7 @@ use Rattle.files.specs.Bytes.{word, countOf}
 use Rattle.files.specs.Records.{recordAt, isKind, bucketKind, headLength, bucketLength}
 use Rattle.files.specs.Heads.{parametersAnswer}
 use Rattle.files.specs.Layout.{bucketAt}
-use Rattle.files.specs.Turns.{bucketPlace, endAnswer}
+use Rattle.files.specs.Turns.{bucketOffset, endAnswer}
 use Rattle.files.specs.Fields.{indexField, countField, idsumField}
 use Rattle.files.proofs.HeadStages.{openingAnswer, opening-first}
 use Rattle.files.proofs.HeadTrips.{opening-lent}
@@ -82,11 +82,11 @@ done-sound N low at x c s e =
 
 -- a reader has come to bucket n of the file, which is due at an offset
 pub record Reader (bs : List ℕ) (n at : ℕ) : Type 0 where
-  pub place : at ≡ bucketPlace n
-  pub come : Come bucketKind bucketPlace bs n
+  pub place : at ≡ bucketOffset n
+  pub come : Come bucketKind bucketOffset bs n
 
 pub reader-start : (bs : List ℕ) → Reader bs 0 headLength
-reader-start bs = record { place = refl; come = come-start bucketKind bucketPlace bs }
+reader-start bs = record { place = refl; come = come-start bucketKind bucketOffset bs }
 
 -- it found bucket n there, whole
 pub record Found (bs : List ℕ) (n at k : ℕ) (c : ℤ) (s : ℕ) : Type 0 where
@@ -122,19 +122,19 @@ module _ {bs : List ℕ} {n at : ℕ} {found : Bucket} (r : Reader bs n at) (e :
   pub found-bucket : {k : ℕ} {c : ℤ} {s : ℕ} → found ≡ BucketOf k c s → Found bs n at k c s
   found-bucket {k} {c} {s} q =
       let f = rw (r .place) at (fields bs at k c s (sym q ∙ e)) in
-      let short = bucket-ends bs (bucketPlace n) (f .0) in
-      let come-on = come-next bucketKind bucketPlace bs n (omega arith) (f .0) (r .come) in
+      let short = bucket-ends bs (bucketOffset n) (f .0) in
+      let come-on = come-next bucketKind bucketOffset bs n (omega arith) (f .0) (r .come) in
       record {
         index = f .1;
         count = f .2;
         idsum = f .3;
         before-end = omega arith;
-        counted = omega (arith, come-within bucketKind bucketPlace bs (n + 1) come-on);
+        counted = omega (arith, come-within bucketKind bucketOffset bs (n + 1) come-on);
         next = record { place = omega arith; come = come-on };
       }
 
   pub none-left : found ≡ NoBucket → n ≡ bucketsIn bs
-  none-left q = come-end bucketKind bucketPlace bs n (rw (r .place) at (no-bucket bs at (sym q ∙ e))) (r .come)
+  none-left q = come-end bucketKind bucketOffset bs n (rw (r .place) at (no-bucket bs at (sym q ∙ e))) (r .come)
 
 -- the answers for the buckets in turn
 module _ (N : ℕ) {bs : List ℕ} {n at : ℕ} where

@@ -27,13 +27,13 @@ unfoldable pub bucketsBytes : ℕ → ℕ → Sketch → List ℕ
 bucketsBytes k zero S = []
 bucketsBytes k (suc n) S = cond (zeroAt S k) [] (bucketBytes k (countIn S k) (idsumIn S k)) ++ bucketsBytes (suc k) n S
 
-unfoldable pub nonzeroBuckets : ℕ → ℕ → Sketch → ℕ
-nonzeroBuckets k zero S = 0
-nonzeroBuckets k (suc n) S = cond (zeroAt S k) 0 1 + nonzeroBuckets (suc k) n S
+unfoldable pub nonzeroFrom : ℕ → ℕ → Sketch → ℕ
+nonzeroFrom k zero S = 0
+nonzeroFrom k (suc n) S = cond (zeroAt S k) 0 1 + nonzeroFrom (suc k) n S
 
 -- the one file of a sketch
 unfoldable pub sketchBytes : Params → Sketch → List ℕ
-sketchBytes P S = headBytes P ++ (bucketsBytes 0 (size P) S ++ endBytes (nonzeroBuckets 0 (size P) S))
+sketchBytes P S = headBytes P ++ (bucketsBytes 0 (size P) S ++ endBytes (nonzeroFrom 0 (size P) S))
 
 -- the parameters and the lengths, of the output, o, too, then damage anywhere
 unfoldable pub sketchWriteAnswer : Params → Sketch → ℕ → Answer

@@ -5,7 +5,7 @@ ghost use lib.ListN.{length};
 ghost use Rattle.sketch.specs.Sketch.{sketch};
 ghost use Rattle.files.specs.Bytes.{overwritten};
 ghost use Rattle.files.specs.Records.{headLength, bucketLength};
-ghost use Rattle.sketchfile.specs.Writing.{bucketsBytes, nonzeroBuckets, sketchWriteAnswer, SketchWritten};
+ghost use Rattle.sketchfile.specs.Writing.{bucketsBytes, nonzeroFrom, sketchWriteAnswer, SketchWritten};
 use buckets::all_zero;
 use buckets::first_damaged;
 use files::records::BUCKET_LENGTH;
@@ -22,7 +22,7 @@ use params::Refusal;
 // How many buckets are not all zero.
 fn nonzero_buckets(counts: &[i32], idsums: &[u32]) -> usize
     requires { ⌜ length (now counts) ≡ length (now idsums) ⌝ }
-    ensures { λ r. ⌜ (r ≡ nonzeroBuckets 0 (length (now (counts .entry))) (sketch (now (counts .entry)) (now (idsums .entry)))) × (r ≤ length (now (counts .entry))) ⌝ }
+    ensures { λ r. ⌜ (r ≡ nonzeroFrom 0 (length (now (counts .entry))) (sketch (now (counts .entry)) (now (idsums .entry)))) × (r ≤ length (now (counts .entry))) ⌝ }
 {
     let mut n = 0;
     let mut k = 0;
@@ -56,8 +56,8 @@ fn judge(p: Params, counts: &[i32], idsums: &[u32], room: usize) -> Answer
 // The bucket records, after the head; gives the offset after them.
 fn put_all(out: &mut [u8], counts: &[i32], idsums: &[u32]) -> usize
     requires { ⌜ (length (now counts) ≡ length (now idsums)) × (length (now counts) ≤ 65536) ⌝ }
-    requires { ⌜ headLength + bucketLength * nonzeroBuckets 0 (length (now counts)) (sketch (now counts) (now idsums)) ≤ length (now out) ⌝ }
-    ensures { λ r. ⌜ r ≡ headLength + bucketLength * nonzeroBuckets 0 (length (now (counts .entry))) (sketch (now (counts .entry)) (now (idsums .entry))) ⌝ }
+    requires { ⌜ headLength + bucketLength * nonzeroFrom 0 (length (now counts)) (sketch (now counts) (now idsums)) ≤ length (now out) ⌝ }
+    ensures { λ r. ⌜ r ≡ headLength + bucketLength * nonzeroFrom 0 (length (now (counts .entry))) (sketch (now (counts .entry)) (now (idsums .entry))) ⌝ }
     ensures { λ r. ⌜ now (out .exit) ≡ overwritten (now (out .entry)) headLength (bucketsBytes 0 (length (now (counts .entry))) (sketch (now (counts .entry)) (now (idsums .entry)))) ⌝ }
 {
     let mut at = HEAD_LENGTH;

@@ -19,7 +19,7 @@ use Rattle.sketch.specs.Packets.{stepAnswer, changed, after, packetsAnswer, All
 use Rattle.sums.specs.History.{History, inserting-all}
 use Rattle.params.proofs.Judging.{number-done}
 use Rattle.sketch.proofs.ManyPackets.{after-more, packets-end, all-in-turn}
-use Rattle.files.specs.Turns.{atOffset, inTurn, packetPlace}
+use Rattle.files.specs.Turns.{atOffset, inTurn, packetOffset}
 use Rattle.files.specs.Records.{headLength}
 use Rattle.streamfile.specs.Streams.{packetsIn, flowsIn, numbersIn, afterFirst, packetJudged, StreamRead}
 use Rattle.streamfile.proofs.Found.{length-flows, length-numbers, flow-is, number-is}
@@ -43,7 +43,7 @@ module _ (P : Params) (bs : List ℕ) (S : Sketch) where
     abbrev next : Sketch
     next = changed P false flow number T
 
-    judged-so : packetJudged P bs S i ≡ atOffset (packetPlace i) (stepAnswer P false flow number T)
+    judged-so : packetJudged P bs S i ≡ atOffset (packetOffset i) (stepAnswer P false flow number T)
     unfolding packetJudged
     judged-so = rw (flow-is headLength bs i one, number-is headLength bs i one, made)
 
@@ -65,7 +65,7 @@ module _ (P : Params) (bs : List ℕ) (S : Sketch) where
   judged-from (suc n) i T e made =
       let one : i < packetsIn bs = omega arith in
       ap (λ (r : Answer). numberIn (first r (inTurn (suc i) n (packetJudged P bs S)))) (judged-so i T one made)
-      ∙ first-at-offset (packetPlace i) _ _ _ (judged-from n (suc i) (next i T one made) (omega arith) (made-next i T one made))
+      ∙ first-at-offset (packetOffset i) _ _ _ (judged-from n (suc i) (next i T one made) (omega arith) (made-next i T one made))
       ∙ sym (ap numberIn (opened i T one made))
 
   pub packets-judged : numberIn (inTurn 0 (packetsIn bs) (packetJudged P bs S)) ≡ numberIn (packetsAnswer P (flowsIn bs) (numbersIn bs) S)

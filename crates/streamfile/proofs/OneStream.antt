@@ -18,7 +18,7 @@ use Rattle.files.specs.declared.writing.Written.{Written}
 use Rattle.files.specs.declared.writing.Written.the-variants.{Bytes}
 use Rattle.files.specs.Writing.{writtenOf}
 use Rattle.files.specs.Layout.{endBytes}
-use Rattle.files.specs.Turns.{packetPlace}
+use Rattle.files.specs.Turns.{packetOffset}
 use Rattle.files.specs.Records.{packetsKind, headLength, packetsLength}
 use Rattle.files.proofs.HeadTrips.{head-read}
 use Rattle.files.proofs.RecordTrips.{end-read}
@@ -60,8 +60,8 @@ written-read-stream {P} {bs} {S} small read =
     let n = packetsIn bs in
     let done = stream-done P bs S (sym (read .answer)) in
     let head = head-read bs small P (done .opened .head) (done .opened .same) in
-    let packets = packets-read bs 0 n small (λ j l. whole-within packetsKind packetPlace bs j (omega arith)) in
-    let end = ap endBytes (length-flows headLength bs) ∙ end-read bs (packetPlace n) n small (done .ended) .1 in
+    let packets = packets-read bs 0 n small (λ j l. whole-within packetsKind packetOffset bs j (omega arith)) in
+    let end = ap endBytes (length-flows headLength bs) ∙ end-read bs (packetOffset n) n small (done .ended) .1 in
     ap₂ {C = List ℕ} _++_ head (ap₂ {C = List ℕ} _++_ packets (end ∙ sym (drop-drop (packetsLength * n) headLength bs)) ∙ take-append-drop (packetsLength * n) (drop headLength bs)) ∙ take-append-drop headLength bs
 
 -- and writing them gives it again

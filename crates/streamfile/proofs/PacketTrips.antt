@@ -10,7 +10,7 @@ use Rattle.params.specs.Lists.{from}
 use Rattle.files.specs.Bytes.{word, wordBytes}
 use Rattle.files.specs.Records.{recordAt, isKind, packetsKind, packetsLength}
 use Rattle.files.specs.Layout.{packetBytes}
-use Rattle.files.specs.Turns.{packetPlace}
+use Rattle.files.specs.Turns.{packetOffset}
 use Rattle.files.specs.Fields.{flowField, numberField}
 use Rattle.files.proofs.Standing.{kind-ends}
 use Rattle.files.proofs.RoundTrips.{digits-make, two-words}
@@ -45,13 +45,13 @@ packet-among (f ∷ fs) (n ∷ ns) (suc k) h l =
     ap (λ (xs : List ℕ). packetBytes f n ++ xs) (packet-among fs ns k (omega arith) (omega arith)) ∙ sym (append-assoc (packetBytes f n) _ _)
 
 -- whole records one after the other are written as they stand
-pub packets-read : (bs : List ℕ) (k n : ℕ) → ((j : ℕ) → getD bs j 0 < 256) → ((j : ℕ) → j < k + n → isKind packetsKind (recordAt bs (packetPlace j)) ≡ true)
-    → packetsBytes (from k n (packetFlow bs)) (from k n (packetNumber bs)) ≡ take (packetsLength * n) (drop (packetPlace k) bs)
+pub packets-read : (bs : List ℕ) (k n : ℕ) → ((j : ℕ) → getD bs j 0 < 256) → ((j : ℕ) → j < k + n → isKind packetsKind (recordAt bs (packetOffset j)) ≡ true)
+    → packetsBytes (from k n (packetFlow bs)) (from k n (packetNumber bs)) ≡ take (packetsLength * n) (drop (packetOffset k) bs)
 unfolding packetsBytes from
 packets-read bs k zero small whole = refl
 packets-read bs k (suc n) small whole =
-    let next : packetPlace (suc k) ≡ packetPlace k + packetsLength = omega arith in
+    let next : packetOffset (suc k) ≡ packetOffset k + packetsLength = omega arith in
     let bytes : packetsLength + packetsLength * n ≡ packetsLength * suc n = omega arith in
-    ap₂ {C = List ℕ} _++_ (packet-read bs (packetPlace k) small (whole k (omega arith)))
-    (packets-read bs (suc k) n small (λ j l. whole j (omega arith)) ∙ ap (λ (i : ℕ). take (packetsLength * n) (drop i bs)) next ∙ ap (take (packetsLength * n)) (sym (drop-drop packetsLength (packetPlace k) bs)))
-    ∙ sym (take-add packetsLength (packetsLength * n) (drop (packetPlace k) bs)) ∙ ap (λ (i : ℕ). take i (drop (packetPlace k) bs)) bytes
+    ap₂ {C = List ℕ} _++_ (packet-read bs (packetOffset k) small (whole k (omega arith)))
+    (packets-read bs (suc k) n small (λ j l. whole j (omega arith)) ∙ ap (λ (i : ℕ). take (packetsLength * n) (drop i bs)) next ∙ ap (take (packetsLength * n)) (sym (drop-drop packetsLength (packetOffset k) bs)))
+    ∙ sym (take-add packetsLength (packetsLength * n) (drop (packetOffset k) bs)) ∙ ap (λ (i : ℕ). take i (drop (packetOffset k) bs)) bytes

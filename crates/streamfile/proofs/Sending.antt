@@ -25,7 +25,7 @@ use Rattle.params.proofs.Judging.{first-end, first-number, refuse-done, refuse-
 use Rattle.files.specs.Bytes.{wordBytes}
 use Rattle.files.proofs.HeadStages.{openingAnswer}
 use Rattle.files.specs.Layout.{headBytes, packetBytes, endBytes}
-use Rattle.files.specs.Turns.{packetPlace, inTurn, endAnswer}
+use Rattle.files.specs.Turns.{packetOffset, inTurn, endAnswer}
 use Rattle.files.specs.Records.{packetsKind, headLength, packetsLength}
 use Rattle.files.proofs.HeadTrips.{headed-long, opening-written}
 use Rattle.files.proofs.RecordTrips.{not-kind, end-written}
@@ -97,11 +97,11 @@ module _ (P : Params) (fs ns : List ℕ) (able : Sendable P fs ns) where
   unfolding streamBytes
   file-is = sym (append-assoc (headBytes P) (packetsBytes fs ns) end)
 
-  end-place : length before ≡ packetPlace (length fs)
+  end-place : length before ≡ packetOffset (length fs)
   end-place = headed-long P (packetsBytes fs ns) ∙ ap (λ (n : ℕ). headLength + n) (packets-long fs ns (able .same))
 
   -- packet k stands at its place
-  there : (k : ℕ) → k < length fs → There file (packetPlace k) (getD fs k 0) (getD ns k 0)
+  there : (k : ℕ) → k < length fs → There file (packetOffset k) (getD fs k 0) (getD ns k 0)
   unfolding streamBytes
   there k l =
       let m : k < length ns = omega (arith, able .same) in
@@ -111,18 +111,18 @@ module _ (P : Params) (fs ns : List ℕ) (able : Sendable P fs ns) where
       let form : file ≡ (headBytes P ++ sofar) ++ (this ++ (rest ++ end)) = ap (λ (xs : List ℕ). headBytes P ++ (xs ++ end)) (packet-among fs ns k l m) ∙ simp append-assoc in
       let fl : length (take k fs) ≡ k = length-take-le k fs (omega arith) in
       let nl : length (take k ns) ≡ k = length-take-le k ns (omega arith) in
-      let long : length (headBytes P ++ sofar) ≡ packetPlace k = headed-long P sofar ∙ ap (λ (n : ℕ). headLength + n) (packets-long (take k fs) (take k ns) (fl ∙ sym nl) ∙ ap (λ (n : ℕ). packetsLength * n) fl) in
-      packet-written file (headBytes P ++ sofar) (rest ++ end) (packetPlace k) _ _ form long (omega (arith, flow-below P (getD fs k 0) (able .flows k l))) (omega (arith, able .numbers k m .1))
+      let long : length (headBytes P ++ sofar) ≡ packetOffset k = headed-long P sofar ∙ ap (λ (n : ℕ). headLength + n) (packets-long (take k fs) (take k ns) (fl ∙ sym nl) ∙ ap (λ (n : ℕ). packetsLength * n) fl) in
+      packet-written file (headBytes P ++ sofar) (rest ++ end) (packetOffset k) _ _ form long (omega (arith, flow-below P (getD fs k 0) (able .flows k l))) (omega (arith, able .numbers k m .1))
 
   counted : packetsIn file ≡ length fs
   unfolding endBytes
   counted =
-      let long : length file ≡ packetPlace (length fs) + length end = ap length file-is ∙ length-append before end ∙ ap (λ (n : ℕ). n + length end) end-place in
-      let four : getD file (packetPlace (length fs)) 0 ≡ 4 = rw file-is (getD-at before 4 (wordBytes (length fs)) 0 (packetPlace (length fs)) end-place) in
-      records-are packetsKind packetPlace file (length fs) (omega arith) (λ k l. there k l .whole) (not-kind file (packetPlace (length fs)) packetsKind (λ q. omega arith))
+      let long : length file ≡ packetOffset (length fs) + length end = ap length file-is ∙ length-append before end ∙ ap (λ (n : ℕ). n + length end) end-place in
+      let four : getD file (packetOffset (length fs)) 0 ≡ 4 = rw file-is (getD-at before 4 (wordBytes (length fs)) 0 (packetOffset (length fs)) end-place) in
+      records-are packetsKind packetOffset file (length fs) (omega arith) (λ k l. there k l .whole) (not-kind file (packetOffset (length fs)) packetsKind (λ q. omega arith))
 
-  ended : endAnswer file (packetPlace (packetsIn file)) (packetsIn file) ≡ Done
-  ended = rw (counted, file-is) (end-written before (packetPlace (length fs)) (length fs) end-place (omega (arith, able .few)))
+  ended : endAnswer file (packetOffset (packetsIn file)) (packetsIn file) ≡ Done
+  ended = rw (counted, file-is) (end-written before (packetOffset (length fs)) (length fs) end-place (omega (arith, able .few)))
 
   -- so its flows and numbers are those that were given
   pub flows-back : flowsIn file ≡ fs

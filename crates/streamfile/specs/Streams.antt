@@ -14,7 +14,7 @@ use Rattle.sketch.specs.Sketch.{Sketch, damagedAt}
 use Rattle.sketch.specs.Packets.{stepAnswer, after}
 use Rattle.files.specs.Bytes.{word}
 use Rattle.files.specs.Heads.{parametersAnswer}
-use Rattle.files.specs.Turns.{atOffset, inTurn, packetFrom, packetPlace, recordsOf, endAnswer}
+use Rattle.files.specs.Turns.{atOffset, inTurn, packetFrom, packetOffset, recordsOf, endAnswer}
 use Rattle.files.specs.Records.{packetsKind, headLength}
 use Rattle.files.specs.Fields.{flowField, numberField}
 
@@ -56,13 +56,13 @@ abbrev pub afterFirst : Params → List ℕ → ℕ → Sketch → Sketch
 afterFirst P bs k S = after P (take k (flowsIn bs)) (take k (numbersIn bs)) S
 
 unfoldable pub packetJudged : Params → List ℕ → Sketch → ℕ → Answer
-packetJudged P bs S k = atOffset (packetPlace k) (stepAnswer P false (packetFlow bs k) (packetNumber bs k) (afterFirst P bs k S))
+packetJudged P bs S k = atOffset (packetOffset k) (stepAnswer P false (packetFlow bs k) (packetNumber bs k) (afterFirst P bs k S))
 
 -- the records after the head: the earliest at fault decides
 unfoldable pub packetsJudged : Params → List ℕ → Sketch → Answer
 packetsJudged P bs S =
     first (inTurn 0 (packetsIn bs) (packetJudged P bs S))
-    (endAnswer bs (packetPlace (packetsIn bs)) (packetsIn bs))
+    (endAnswer bs (packetOffset (packetsIn bs)) (packetsIn bs))
 
 -- the head and the parameters, the lengths, damage anywhere in the sketch, the records
 unfoldable pub streamAnswer : Params → List ℕ → Sketch → Answer

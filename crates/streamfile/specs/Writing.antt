@@ -27,7 +27,7 @@ packetsBytes (f ∷ fs) (n ∷ ns) = packetBytes f n ++ packetsBytes fs ns
 unfoldable pub streamBytes : Params → List ℕ → List ℕ → List ℕ
 streamBytes P fs ns = headBytes P ++ (packetsBytes fs ns ++ endBytes (length fs))
 
--- every flow is one, and every number is one of packets
+-- the k-th flow is one, and the k-th number is one of packets
 unfoldable pub isFlowAt : Params → List ℕ → ℕ → Bool
 isFlowAt P fs k = isFlow P (getD fs k 0)
 

@@ -18,7 +18,7 @@ use params::Answer;
 use params::Params;
 use params::Refusal;
 
-// Whether every flow is one.
+// Whether all of these are numbers of flows.
 fn all_flows(p: Params, flows: &[u32]) -> bool
     ensures { λ r. ⌜ r ≡ below (length (now (flows .entry))) (isFlowAt p (now (flows .entry))) ⌝ }
 {
@@ -32,7 +32,7 @@ fn all_flows(p: Params, flows: &[u32]) -> bool
     true
 }
 
-// Whether every number is one of packets.
+// Whether all of these are numbers of packets.
 fn all_numbers(numbers: &[u32]) -> bool
     ensures { λ r. ⌜ r ≡ below (length (now (numbers .entry))) (isNumberAt (now (numbers .entry))) ⌝ }
 {

@@ -13,7 +13,7 @@ use Rattle.sketch.specs.Sketch.{sketch}
 use Rattle.files.specs.Bytes.{wordBytes}
 use Rattle.files.specs.Layout.{bucketBytes}
 use Rattle.files.specs.Records.{bucketLength}
-use Rattle.sketchfile.specs.Writing.{zeroAt, bucketsBytes, nonzeroBuckets}
+use Rattle.sketchfile.specs.Writing.{zeroAt, bucketsBytes, nonzeroFrom}
 use Rattle.sketchfile.proofs.Written.{left-few, buckets-long, all-left, none-left, zero-next, nonzero-next}
 use Rattle.sketchfile.proofs.writing.nonzero_buckets.Statement.{statement}
 use Rattle.sketchfile.proofs.writing.nonzero_buckets.Tie as tie
@@ -81,7 +81,7 @@ returns c =
     let a = c .before .before .before .args in
     let S = sketch (now (a .counts)) (now (a .idsums)) in
     let n = length (now (a .counts)) in
-    let count : l .n ≡ nonzeroBuckets 0 n S = omega (arith, ap length (none-left S n (l .k) (c .loop-test .left)), buckets-long S 0 n) in
+    let count : l .n ≡ nonzeroFrom 0 n S = omega (arith, ap length (none-left S n (l .k) (c .loop-test .left)), buckets-long S 0 n) in
     (count, omega (arith, left-few S 0 n))
 
 pub nonzero-buckets-spec : {M : Type 1} → statement M

@@ -8,7 +8,7 @@ use lib.ListN.{length}
 use Rattle.params.specs.Params.{size}
 use Rattle.sketch.specs.Sketch.{sketch}
 use Rattle.files.proofs.Overwriting.{overwritten-file, returned-length, returned-refusal, held-new, held-old}
-use Rattle.sketchfile.specs.Writing.{bucketsBytes, nonzeroBuckets, sketchBytes}
+use Rattle.sketchfile.specs.Writing.{bucketsBytes, nonzeroFrom, sketchBytes}
 use Rattle.sketchfile.proofs.Written.{left-few, buckets-long, sketch-long, Writable, writable-few, writing-done}
 use Rattle.sketchfile.proofs.writing.write_sketch.Statement.{statement}
 use Rattle.sketchfile.proofs.writing.write_sketch.Tie as tie
@@ -16,7 +16,7 @@ use Rattle.files.specs.Records.{headLength, bucketLength, endLength}
 
 passed : (c : tie.After-enum-told) → let a = c .before .before .before .before .before .args in
     let S = sketch (now (a .counts)) (now (a .idsums)) in
-    Writable (a .p) S × (headLength + bucketLength * nonzeroBuckets 0 (length (now (a .counts))) S + endLength ≤ length (now (a .out)))
+    Writable (a .p) S × (headLength + bucketLength * nonzeroFrom 0 (length (now (a .counts))) S + endLength ≤ length (now (a .out)))
 passed c = writing-done _ _ _ (sym (c .before .before .judge .ensures) ∙ c .enum-told .given .1)
 
 judge-requires : tie.Need-judge-requires
@@ -61,11 +61,11 @@ returns c =
     let S = sketch (now (a .counts)) (now (a .idsums)) in
     let h = passed t in
     let records = c .before .before .before .before .before .before .put-all in
-    let end : records .result ≡ headLength + bucketLength * nonzeroBuckets 0 (size (a .p)) S = rw (h .0 .counts) at (records .ensures .0) in
-    let count : (records .result - headLength) / bucketLength ≡ nonzeroBuckets 0 (size (a .p)) S = omega arith in
+    let end : records .result ≡ headLength + bucketLength * nonzeroFrom 0 (size (a .p)) S = rw (h .0 .counts) at (records .ensures .0) in
+    let count : (records .result - headLength) / bucketLength ≡ nonzeroFrom 0 (size (a .p)) S = omega arith in
     let judged = t .before .before .judge .ensures in
     let written =
-    overwritten-file (a .p) (now (a .out)) (bucketsBytes 0 (size (a .p)) S) (nonzeroBuckets 0 (size (a .p)) S) (records .result) (h .0 .good) (omega (arith, buckets-long S 0 (size (a .p)))) (omega (arith, h .0 .counts, h .1))
+    overwritten-file (a .p) (now (a .out)) (bucketsBytes 0 (size (a .p)) S) (nonzeroFrom 0 (size (a .p)) S) (records .result) (h .0 .good) (omega (arith, buckets-long S 0 (size (a .p)))) (omega (arith, h .0 .counts, h .1))
     (c .before .before .before .before .before .before .before .before .before .before .put-head .ensures)
     (rw (h .0 .counts) at (records .ensures .1))
     (rw count at (c .before .before .put-end .ensures)) in

@@ -11,7 +11,7 @@ use Rattle.params.proofs.Judging.{kept-old, kept-new}
 use Rattle.sketch.proofs.ManyPackets.{stepped-long}
 use Rattle.files.specs.Records.{recordAt, isKind, packetsKind, headLength}
 use Rattle.files.specs.Layout.{packetsAt}
-use Rattle.files.specs.Turns.{packetPlace, endAnswer, atOffset}
+use Rattle.files.specs.Turns.{packetOffset, endAnswer, atOffset}
 use Rattle.streamfile.specs.Streams.{packetsJudged}
 use Rattle.streamfile.proofs.Found.{There, packets-there, packets-not-there}
 use Rattle.streamfile.proofs.InTurn.{at-offset-refuses, Gone, gone-none, gone-within, next-ends, gone-more, packet-refused, end-judged, gone-all}
@@ -20,7 +20,7 @@ use Rattle.streamfile.proofs.reading.read_records.Tie as tie
 
 abbrev Inv-loop : tie.InvT-loop
 Inv-loop p counts₀ idsums₀ bytes at₀ n₀ counts idsums at n =
-    (at ≡ packetPlace n)
+    (at ≡ packetOffset n)
     × (length counts ≡ length counts₀)
     × (length idsums ≡ length idsums₀)
     × Gone p headLength bytes (sketch counts₀ idsums₀) n (sketch counts idsums)
@@ -51,12 +51,12 @@ enum-told-3 c = search needs
 
 -- packets stand next
 there : (c : tie.After-known-told Inv-loop μ-loop)
-    → There (now (c .before .before .before .before .before .before .before .args .bytes)) (packetPlace (c .before .before .before .before .loop .n)) (c .before .found .given .0 .0) (c .before .found .given .0 .1 .0)
+    → There (now (c .before .before .before .before .before .before .before .args .bytes)) (packetOffset (c .before .before .before .before .loop .n)) (c .before .found .given .0 .0) (c .before .found .given .0 .1 .0)
 there c = packets-there _ _ _ _ (sym (c .before .before .before .packets-at .ensures ∙ ap (packetsAt _) (c .before .before .before .before .loop .inv .0)) ∙ c .before .found .given .1)
 
 -- none do
 none : (c : tie.After-enum-told Inv-loop μ-loop)
-    → isKind packetsKind (recordAt (now (c .before .before .before .before .before .before .args .bytes)) (packetPlace (c .before .before .before .loop .n))) ≡ false
+    → isKind packetsKind (recordAt (now (c .before .before .before .before .before .before .args .bytes)) (packetOffset (c .before .before .before .loop .n))) ≡ false
 none c = packets-not-there _ _ _ (c .before .before .packets-at .ensures ∙ ap (packetsAt _) (c .before .before .before .loop .inv .0)) (c .before .match .keys2)
 
 withdraw-packets-requires : tie.Need-withdraw-packets-requires Inv-loop μ-loop

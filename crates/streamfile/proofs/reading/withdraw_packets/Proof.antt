@@ -9,7 +9,7 @@ use borrow.Author.Needs.{needs}
 use Rattle.sketch.specs.Sketch.{Sketch, sketch}
 use Rattle.sketch.specs.Packets.{after, Accepted}
 use Rattle.sketch.proofs.ManyPackets.{stepped-long, unwind}
-use Rattle.files.specs.Turns.{packetPlace}
+use Rattle.files.specs.Turns.{packetOffset}
 use Rattle.files.specs.Records.{packetsKind, headLength}
 use Rattle.files.proofs.Turning.{whole-within}
 use Rattle.streamfile.specs.Streams.{flowsIn, numbersIn, packetsIn}
@@ -56,7 +56,7 @@ enum-told c = search needs
 always-found : (c : tie.After-enum-told Inv-loop μ-loop) → ⊥
 always-found c =
     let at = c .before .before .before in
-    let whole = whole-within packetsKind packetPlace _ _ (earlier at) in
+    let whole = whole-within packetsKind packetOffset _ _ (earlier at) in
     let none = packets-not-there _ _ _ (c .before .before .packets-at .ensures) (c .before .match .keys2) in
     true≢false (sym whole ∙ none)
 
@@ -82,7 +82,7 @@ loop-again c =
     let test = c .before .before .before .before .before .before .before .before .before .before in
     let l = test .before .loop in
     let within : i ≤ packetsIn bs = omega (arith, earlier test) in
-    let there = packets-there bs (packetPlace (i - 1)) _ _ (sym (c .before .before .before .before .before .before .before .before .before .packets-at .ensures) ∙ c .before .before .before .before .before .before .before .found .given .1) in
+    let there = packets-there bs (packetOffset (i - 1)) _ _ (sym (c .before .before .before .before .before .before .before .before .before .packets-at .ensures) ∙ c .before .before .before .before .before .before .before .found .given .1) in
     let flow = there .flow ∙ flow-is headLength bs (i - 1) (earlier test) in
     let number = there .number ∙ number-is headLength bs (i - 1) (earlier test) in
     let z = c .before .before .before .step .ensures in
