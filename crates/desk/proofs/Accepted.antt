@@ -9,7 +9,8 @@ use lib.ListN.{length, take, drop, length-drop}
 use lib.Seq.{length-take-le, getD-take, getD-drop, drop-drop}
 use Rattle.params.specs.declared.params.Params.{Params}
 use Rattle.params.specs.declared.answers.Refusal.the-variants.{Param, Mismatch, Form}
-use Rattle.params.specs.declared.answers.Answer.the-variants.{Done}
+use Rattle.params.specs.declared.answers.Answer.{Answer}
+use Rattle.params.specs.declared.answers.Answer.the-variants.{Done, Refused}
 use Rattle.params.specs.Answers.{kept}
 use Rattle.params.specs.Params.{goodParams, sameParams}
 use Rattle.sketch.specs.Sketch.{Sketch, zeros}
@@ -27,10 +28,11 @@ use Rattle.streamfile.specs.Streams.{StreamRead}
 use Rattle.desk.specs.declared.states.Stage.{Stage}
 use Rattle.desk.specs.declared.states.Stage.the-variants.{UpstreamPackets, DownstreamHead, DownstreamPackets, Nothing, Refused as Stopped}
 use Rattle.desk.specs.declared.states.Fed.{Fed}
-use Rattle.desk.specs.Desk.{nothingDue, fewEnough, beginAnswer, beginOf, started, taken, takenAnswer, afterTaken, downstreamHeadAnswer, packetsSketch, offsetsFit, Feeds, finishAnswer}
+use Rattle.desk.specs.Desk.{nothingDue, fewEnough, beginAnswer, beginOf, started, taken, takenAnswer, afterTaken, downstreamHeadAnswer, packetsSketch, offsetsFit, lentBoth, Feeds, finishAnswer}
 use Rattle.desk.proofs.InTheRest.{whole-at, word-at}
 use Rattle.desk.proofs.Taking.{all-taken}
 use Rattle.desk.proofs.SameBytes.{fed-is-read}
+use Rattle.desk.proofs.Lending.{fed-taken, fed-turned-down, fresh-lent}
 use Rattle.desk.proofs.BothStreams.{upstreamNumber, downstreamFile, downstreamBody, downstreamNumber, Passed, passed}
 
 -- the parameters in a first part of the input that holds the head
@@ -176,19 +178,25 @@ few-begun P input e =
 -- and an input is accepted only where 64 bits hold its offsets
 pub near-done : {P : Params} {bs : List ℕ} {r : Fed} {up down up' down' : Sketch} → Feeds P bs up down started r up' down' → finishAnswer (r .state .stage) (r .state .at) ≡ Done
     → offsetsFit bs started ≡ true
-near-done {bs = bs} {r = r} fed done = at (offsetsFit bs started) refl
+near-done {P} {bs} {r} {up} {down} fed done = lent (lentBoth P up down) refl
   where
-    at : (b : Bool) → offsetsFit bs started ≡ b → b ≡ true
-    at true near = refl
-    at false far =
-        let nothing = finished-nothing (r .state .stage) (r .state .at) done in
-        absurd (true≢false (sym (ap nothingDue nothing) ∙ ap (λ s. nothingDue (s .stage)) (rw far at (fed .state))))
+    nothing : r .state .stage ≡ Nothing
+    nothing = finished-nothing (r .state .stage) (r .state .at) done
+
+    lent : (a : Answer) → lentBoth P up down ≡ a → offsetsFit bs started ≡ true
+    lent (Refused w k) e = absurd (true≢false (sym (ap nothingDue nothing) ∙ ap (λ s. nothingDue (s .stage)) (fed-turned-down e fed .state)))
+    lent Done e = at (offsetsFit bs started) refl
+      where
+        at : (b : Bool) → offsetsFit bs started ≡ b → b ≡ true
+        at true near = refl
+        at false far = absurd (true≢false (sym (ap nothingDue nothing) ∙ ap (λ s. nothingDue (s .stage)) (rw far at (fed-taken e fed .state))))
 
 pub accepted : (P : Params) (input : List ℕ) (r : Fed) (up down : Sketch) → beginOf input ≡ record { answer = Done; params = P }
     → Feeds P (drop headLength input) (zeros P) (zeros P) started r up down → finishAnswer (r .state .stage) (r .state .at) ≡ Done → TwoStreams P input up down
 unfolding packetsSketch
 accepted P input r up down head fed done =
     let near = near-done fed done in
+    let took = fed-taken (fresh-lent P (good-params P input (begun P input head))) fed in
     let nothing = finished-nothing (r .state .stage) (r .state .at) done in
-    let p = passed P (drop headLength input) (zeros P) (zeros P) (sym (ap (λ s. s .stage) (rw near at (fed .state))) ∙ nothing) in
-    rw (rw near at (fed .upstream), rw near at (fed .downstream) ∙ p .1) (two-streams P input (begun P input head) (p .0))
+    let p = passed P (drop headLength input) (zeros P) (zeros P) (sym (ap (λ s. s .stage) (rw near at (took .state))) ∙ nothing) in
+    rw (rw near at (took .upstream), rw near at (took .downstream) ∙ p .1) (two-streams P input (begun P input head) (p .0))

@@ -30,6 +30,7 @@ use Rattle.desk.proofs.Whole.{whole-record}
 use Rattle.desk.proofs.FirstHead.{begin-settled}
 use Rattle.desk.proofs.InTheRest.{word-at, whole-left}
 use Rattle.desk.proofs.SameBytes.{end-said-done, end-back, said-back, all-back, sketch-back}
+use Rattle.desk.proofs.Lending.{fed-taken, fresh-lent}
 use Rattle.desk.proofs.BothStreams.{upstreamNumber, downstreamFile, downstreamBody, downstreamNumber, Passed}
 
 -- each stage, where what is due stands there
@@ -199,10 +200,11 @@ module _ {P : Params} {a b : List ℕ} {S T : Sketch} (one : StreamRead P a (zer
   pub accepts : (r : Fed) (up down : Sketch) → offsetsFit bytes started ≡ true → Feeds P bytes (zeros P) (zeros P) started r up down
       → (finishAnswer (r .state .stage) (r .state .at) ≡ Done) × (up ≡ S) × (down ≡ T)
   accepts r up down near fed =
-      let came = rw near at (fed .state) ∙ passes P bytes (zeros P) (zeros P) all-stand in
-      let second = rw near at (fed .downstream) ∙ second-sketch P bytes (zeros P) (zeros P) all-stand ∙ ap (λ xs. afterTaken P xs (zeros P)) body-is in (
+      let took = fed-taken (fresh-lent P (file-opened one .good)) fed in
+      let came = rw near at (took .state) ∙ passes P bytes (zeros P) (zeros P) all-stand in
+      let second = rw near at (took .downstream) ∙ second-sketch P bytes (zeros P) (zeros P) all-stand ∙ ap (λ xs. afterTaken P xs (zeros P)) body-is in (
         ap (λ s. finishAnswer (s .stage) (s .at)) came,
-        rw near at (fed .upstream) ∙ first-sketch P bytes (zeros P) (zeros P) all-stand ∙ sketch-back P a bytes (packetsIn a) (file-long one) (omega (arith, bytes-long)) first-same one refl,
+        rw near at (took .upstream) ∙ first-sketch P bytes (zeros P) (zeros P) all-stand ∙ sketch-back P a bytes (packetsIn a) (file-long one) (omega (arith, bytes-long)) first-same one refl,
         second ∙ sketch-back P b (drop headLength b) (packetsIn b) (file-long two) second-room second-same two refl,
       )
 

@@ -7,6 +7,7 @@ pub mod OffsetsFit
 pub mod Onward
 pub mod InTheRest
 pub mod SameBytes
+pub mod Lending
 pub mod Back
 pub mod BothStreams
 pub mod Accepted

@@ -1,15 +1,18 @@
 -- The input may come in pieces: feeding one, and then what it left with the next behind it, is feeding both at once.
-use mathlib.Core.Path.{_≡_, ap}
+use mathlib.Core.Path.{_≡_, refl, ap, ap₂, _∙_}
 use mathlib.Core.Bool.{true, false}
 use mathlib.Core.List.{List, _++_}
 use Prim.Native.Nat.{ℕ, _+_, _-_, _≤_}
 use native.Mathlib.Omega.{arith}
 use lib.ListN.{length, drop, length-append, length-drop}
 use Rattle.params.specs.declared.params.Params.{Params}
+use Rattle.params.specs.declared.answers.Answer.{Answer}
+use Rattle.params.specs.declared.answers.Answer.the-variants.{Done, Refused}
+use Rattle.params.specs.Answers.{kept}
 use Rattle.sketch.specs.Sketch.{Sketch}
 use Rattle.desk.specs.declared.states.State.{State}
 use Rattle.desk.specs.declared.states.Fed.{Fed}
-use Rattle.desk.specs.Desk.{packetsSketch, rest, offsetsFit, upstreamTaken, upstreamEnded, downstreamHeaded, downstreamTaken, downstreamEnded, fedState, Feeds}
+use Rattle.desk.specs.Desk.{packetsSketch, rest, offsetsFit, upstreamTaken, upstreamEnded, downstreamHeaded, downstreamTaken, downstreamEnded, fedState, lentBoth, turnedDown, Takes, Feeds}
 use Rattle.desk.proofs.OffsetsFit.{bounded, offsets-fit}
 use Rattle.desk.proofs.Onward.{Onward, packets-onward, end-onward, head-onward, nothing-onward, onward-then}
 use Rattle.desk.proofs.OneRecord.{Moment, waits}
@@ -17,6 +20,7 @@ use Rattle.desk.proofs.Reaching.{Reaches, then, one-end, with-more, res
 use Rattle.desk.proofs.StagesReach.{end-reach, head-reach, nothing-reach}
 use Rattle.desk.proofs.PacketsReach.{packets-reach}
 use Rattle.desk.proofs.AtRest.{fed-waits}
+use Rattle.desk.proofs.Lending.{taken-fed, fed-taken, fed-turned-down, turned-down-waits, turned-down-again, still-lent}
 
 abbrev pub moment : State → Sketch → Sketch → Moment
 moment s up down = record { state = s; up = up; down = down }
@@ -70,7 +74,7 @@ record Fully (P : Params) (bs : List ℕ) (up down : Sketch) (s t : State) (up' 
 all-fed : (P : Params) (bs : List ℕ) (up down : Sketch) (s : State) → Fully P bs up down s (last P bs up down s) (up-left P bs up down s) (down-left P bs up down s)
 all-fed P bs up down s = let h = fed-reach P bs up down s in record { onward = h .0; come = h .1; waited = fed-waits P bs up down s }
 
-fully : {P : Params} {bs : List ℕ} {up down : Sketch} {s : State} {r : Fed} {up' down' : Sketch} → offsetsFit bs s ≡ true → Feeds P bs up down s r up' down'
+fully : {P : Params} {bs : List ℕ} {up down : Sketch} {s : State} {r : Fed} {up' down' : Sketch} → offsetsFit bs s ≡ true → Takes P bs up down s r up' down'
     → Fully P bs up down s (r .state) up' down'
 fully {P} {bs} {up} {down} {s} near fed =
     rw (rw near at (fed .state), rw near at (fed .upstream), rw near at (fed .downstream)) (all-fed P bs up down s)
@@ -78,16 +82,24 @@ fully {P} {bs} {up} {down} {s} near fed =
 -- no more bytes are used than are at hand
 pub used-within : {P : Params} {bs : List ℕ} {up down : Sketch} {s : State} {r : Fed} {up' down' : Sketch} → offsetsFit bs s ≡ true → Feeds P bs up down s r up' down'
     → r .used ≤ length bs
-used-within near fed = omega (arith, fully near fed .onward, fed .used)
+used-within {P} {bs} {up} {down} {s} {r} near fed = at (lentBoth P up down) refl
+  where
+    at : (a : Answer) → lentBoth P up down ≡ a → r .used ≤ length bs
+    at Done e = let t = fed-taken e fed in omega (arith, fully near t .onward, t .used)
+    at (Refused w k) e = omega (arith, fed-turned-down e fed .used)
 
 -- and of those that are left more are waited for, if the input is not refused
 pub fed-waiting : {P : Params} {bs : List ℕ} {up down : Sketch} {s : State} {r : Fed} {up' down' : Sketch} → offsetsFit bs s ≡ true → Feeds P bs up down s r up' down'
     → waits (drop (r .used) bs) (r .state) ≡ true
-fed-waiting {bs = bs} {r = r} near fed = rw (fed .used) (fully near fed .waited)
+fed-waiting {P} {bs} {up} {down} {s} {r} near fed = at (lentBoth P up down) refl
+  where
+    at : (a : Answer) → lentBoth P up down ≡ a → waits (drop (r .used) bs) (r .state) ≡ true
+    at Done e = let t = fed-taken e fed in rw (t .used) (fully near t .waited)
+    at (Refused w k) e = rw (fed-turned-down e fed .state) (turned-down-waits w (s .stage) _)
 
--- xs are fed, and then what they leave, with ys behind
+-- xs are taken, and then what they leave, with ys behind
 module _ {P : Params} {xs : List ℕ} {up down : Sketch} {s : State} {r : Fed} {up₁ down₁ : Sketch} (ys : List ℕ) (near : offsetsFit (xs ++ ys) s ≡ true)
-    (one : Feeds P xs up down s r up₁ down₁) where
+    (one : Takes P xs up down s r up₁ down₁) where
   abbrev behind : List ℕ
   behind = drop (r .used) xs ++ ys
 
@@ -100,10 +112,9 @@ module _ {P : Params} {xs : List ℕ} {up down : Sketch} {s : State} {r : Fed} {
       offsets-fit behind (r .state)
       (omega (arith, first-fully .onward, one .used, length-append xs ys, length-append (drop (r .used) xs) ys, length-drop (r .used) xs))
 
-  -- that is feeding xs ++ ys: the state and the sketches are the same, and so many bytes were used in all
-  pub pieces : {r₂ : Fed} {up₂ down₂ : Sketch} → Feeds P (drop (r .used) xs ++ ys) up₁ down₁ (r .state) r₂ up₂ down₂
-      → Feeds P (xs ++ ys) up down s record { state = r₂ .state; used = r .used + r₂ .used } up₂ down₂
-  pieces {r₂} {up₂} {down₂} two =
+  both-taken : {r₂ : Fed} {up₂ down₂ : Sketch} → Takes P (drop (r .used) xs ++ ys) up₁ down₁ (r .state) r₂ up₂ down₂
+      → Takes P (xs ++ ys) up down s record { state = r₂ .state; used = r .used + r₂ .used } up₂ down₂
+  both-taken {r₂} {up₂} {down₂} two =
       let h = first-fully in
       let k = fully second-near two in
       let m = all-fed P (xs ++ ys) up down s in
@@ -116,3 +127,27 @@ module _ {P : Params} {xs : List ℕ} {up down : Sketch} {s : State} {r : Fed} {
         upstream = rw near (ap (λ k. k .up) same);
         downstream = rw near (ap (λ k. k .down) same);
       }
+
+-- xs are fed, and then what they leave, with ys behind
+module _ {P : Params} {xs : List ℕ} {up down : Sketch} {s : State} {r : Fed} {up₁ down₁ : Sketch} (ys : List ℕ) (near : offsetsFit (xs ++ ys) s ≡ true)
+    (one : Feeds P xs up down s r up₁ down₁) where
+  -- that is feeding xs ++ ys: the state and the sketches are the same, and so many bytes were used in all
+  pub pieces : {r₂ : Fed} {up₂ down₂ : Sketch} → Feeds P (drop (r .used) xs ++ ys) up₁ down₁ (r .state) r₂ up₂ down₂
+      → Feeds P (xs ++ ys) up down s record { state = r₂ .state; used = r .used + r₂ .used } up₂ down₂
+  unfolding kept
+  pieces {r₂} {up₂} {down₂} two = at (lentBoth P up down) refl
+    where
+      at : (a : Answer) → lentBoth P up down ≡ a → Feeds P (xs ++ ys) up down s record { state = r₂ .state; used = r .used + r₂ .used } up₂ down₂
+      at Done e =
+          let t = fed-taken e one in
+          taken-fed e (both-taken ys near t (fed-taken (still-lent t ∙ e) two))
+      at (Refused w k) e =
+          let q = fed-turned-down e one in
+          let q₂ = fed-turned-down (ap₂ (lentBoth P) (q .upstream) (q .downstream) ∙ e) two in
+          let state : r₂ .state ≡ turnedDown w s = q₂ .state ∙ ap (turnedDown w) (q .state) ∙ turned-down-again w s in
+          record {
+            state = rw e state;
+            used = omega (arith, q .used, q₂ .used, ap (λ u. u .at) state);
+            upstream = rw e (q₂ .upstream ∙ q .upstream);
+            downstream = rw e (q₂ .downstream ∙ q .downstream);
+          }

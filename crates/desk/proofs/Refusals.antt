@@ -46,6 +46,7 @@ use Rattle.desk.proofs.Whole.{whole-record}
 use Rattle.desk.proofs.InTheRest.{word-at, whole-left}
 use Rattle.desk.proofs.WhatIsDue.{here-whole}
 use Rattle.desk.proofs.Taking.{all-taken}
+use Rattle.desk.proofs.Lending.{fed-taken, fresh-lent}
 use Rattle.desk.proofs.SameBytes.{opened-judged, all-back, end-back, said-back}
 use Rattle.desk.proofs.Accepts.{file-long}
 use Rattle.desk.proofs.AsRead.{Came, refused-there, unfinished, passed-by, came, streamEnded, taken-at, ends-right, all-read, more-behind}
@@ -123,7 +124,7 @@ module _ (P : Params) (input : List ℕ) (r : Fed) (up down : Sketch) (head : be
   opening = opened-judged P input (b .head) (good-params P input b) (b .good) (ap (sameParams P) (sym (b .params)) ∙ same-itself P)
 
   state-is : r .state ≡ fedState P xs (zeros P) (zeros P) started
-  state-is = rw near at (fed .state)
+  state-is = rw near at (fed-taken (fresh-lent P (good-params P input b)) fed .state)
 
   -- a right end stands behind the upstream's packets
   abbrev RightEnd : Type 0

@@ -38,7 +38,7 @@ use Rattle.desk.proofs.Taking.{AllTaken, all-taken, none-refused}
 
 -- a fresh sketch has the right lengths and no damage
 module _ (P : Params) where
-  fresh-lengths : lengthsAnswer P (length (zeros P .counts)) (length (zeros P .idsums)) ≡ Done
+  pub fresh-lengths : lengthsAnswer P (length (zeros P .counts)) (length (zeros P .idsums)) ≡ Done
   unfolding lengthsAnswer zeros
   fresh-lengths = rw (eq-eqb _ _ (length-replicate (size P) (pos 0)), eq-eqb _ _ (length-replicate {A = ℕ} (size P) 0))
 

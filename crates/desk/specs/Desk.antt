@@ -12,7 +12,7 @@ use Rattle.params.specs.declared.answers.Answer.{Answer}
 use Rattle.params.specs.declared.answers.Answer.the-variants.{Done, Refused}
 use Rattle.params.specs.Lists.{least}
 use Rattle.params.specs.Answers.{refuseIf, first, kept}
-use Rattle.params.specs.Params.{size, goodParams, sameParams}
+use Rattle.params.specs.Params.{size, goodParams, sameParams, lentAnswer}
 use Rattle.sketch.specs.Sketch.{Sketch}
 use Rattle.sketch.specs.Packets.{stepAnswer, after}
 use Rattle.files.specs.declared.heads.Headed.{Headed}
@@ -186,6 +186,27 @@ rest s t bs = drop (t .at - s .at) bs
 unfoldable pub offsetsFit : List ℕ → State → Bool
 offsetsFit bs s = ltb (s .at + length bs) 18446744073709551616 && ltb (s .records + length bs) 18446744073709551616
 
+-- what a desk is lent: the parameters, then the lengths of the upstream's sketch and of the downstream's, which has the same parameters
+unfoldable pub lentBoth : Params → Sketch → Sketch → Answer
+lentBoth P up down =
+    first (lentAnswer P (length (up .counts)) (length (up .idsums)))
+    (lentAnswer P (length (down .counts)) (length (down .idsums)))
+
+-- refused for what is lent, at the offset where the reading stands; a refusal that was there stays
+abbrev pub stageTurnedDown : Refusal → Stage → Stage
+stageTurnedDown w UpstreamPackets = Stopped w
+stageTurnedDown w DownstreamHead = Stopped w
+stageTurnedDown w DownstreamPackets = Stopped w
+stageTurnedDown w Nothing = Stopped w
+stageTurnedDown w (Stopped v) = Stopped v
+
+abbrev pub turnedDown : Refusal → State → State
+turnedDown w s = record { stage = stageTurnedDown w (s .stage); at = s .at; records = s .records }
+
+abbrev pub unlessTurnedDown : Answer → State → State → State
+unlessTurnedDown Done s next = next
+unlessTurnedDown (Refused w k) s next = turnedDown w s
+
 -- the upstream's records and its end, the downstream head, the downstream's records and its end, and nothing more
 module _ (P : Params) (bs : List ℕ) (up down : Sketch) (s : State) where
   abbrev pub upstreamTaken : State
@@ -206,12 +227,19 @@ module _ (P : Params) (bs : List ℕ) (up down : Sketch) (s : State) where
   abbrev pub fedState : State
   fedState = nothingStage (rest s downstreamEnded bs) downstreamEnded
 
-  -- what feeding answers and leaves; a state out of reach takes nothing
-  pub record Feeds (r : Fed) (up' down' : Sketch) : Type 0 where
+  -- what is then taken: all whole records of the bytes at hand; a state out of reach takes nothing
+  pub record Takes (r : Fed) (up' down' : Sketch) : Type 0 where
     pub state : r .state ≡ cond (offsetsFit bs s) fedState s
     pub used : r .used ≡ r .state .at - s .at
     pub upstream : up' ≡ cond (offsetsFit bs s) (packetsSketch false P bs up s) up
     pub downstream : down' ≡ cond (offsetsFit bs s) (packetsSketch true P (rest s downstreamHeaded bs) down downstreamHeaded) down
+
+  -- what feeding answers and leaves: what is lent is judged first, and where it is refused nothing is used and no sketch altered
+  pub record Feeds (r : Fed) (up' down' : Sketch) : Type 0 where
+    pub state : r .state ≡ unlessTurnedDown (lentBoth P up down) s (cond (offsetsFit bs s) fedState s)
+    pub used : r .used ≡ r .state .at - s .at
+    pub upstream : up' ≡ kept (lentBoth P up down) up (cond (offsetsFit bs s) (packetsSketch false P bs up s) up)
+    pub downstream : down' ≡ kept (lentBoth P up down) down (cond (offsetsFit bs s) (packetsSketch true P (rest s downstreamHeaded bs) down downstreamHeaded) down)
 
 -- the end of the input: nothing more was due, or a record is cut or missing
 abbrev pub finishAnswer : Stage → ℕ → Answer

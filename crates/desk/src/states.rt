@@ -3,7 +3,7 @@ ghost use mathlib.Core.Path.{_≡_};
 ghost use mathlib.Core.Bool.{_&&_};
 ghost use Prim.Native.Nat.{_+_};
 ghost use lib.Dec.{ltb};
-ghost use Rattle.desk.specs.Desk.{started, stopped, finishAnswer};
+ghost use Rattle.desk.specs.Desk.{started, stopped, stageTurnedDown, turnedDown, finishAnswer};
 use files::records::HEAD_LENGTH;
 use params::Answer;
 use params::Refusal;
@@ -49,6 +49,31 @@ pub(crate) fn stop(refusal: Refusal, s: State) -> State
 {
     State {
         stage: Stage::Refused(refusal),
+        at: s.at,
+        records: s.records,
+    }
+}
+
+// A refusal that is there already stays.
+fn stage_turned_down(refusal: Refusal, stage: Stage) -> Stage
+    ensures { λ r. ⌜ r ≡ stageTurnedDown refusal stage ⌝ }
+{
+    match stage {
+        Stage::Refused(_) => stage,
+        Stage::UpstreamPackets => Stage::Refused(refusal),
+        Stage::DownstreamHead => Stage::Refused(refusal),
+        Stage::DownstreamPackets => Stage::Refused(refusal),
+        Stage::Nothing => Stage::Refused(refusal),
+    }
+}
+
+// The input is refused for what a caller lent, unless it is refused already.
+pub(crate) fn turn_down(refusal: Refusal, s: State) -> State
+    ensures { λ r. ⌜ r ≡ turnedDown refusal s ⌝ }
+{
+    let stage = s.stage;
+    State {
+        stage: stage_turned_down(refusal, stage),
         at: s.at,
         records: s.records,
     }

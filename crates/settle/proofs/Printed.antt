@@ -33,8 +33,9 @@ use Rattle.streamfile.proofs.FreshStreams.{fresh-grown}
 use Rattle.lines.specs.Lines.{refusedLine, Lined, lineFits}
 use Rattle.lines.specs.Reports.{reportText, walkText, reportFits}
 use Rattle.desk.specs.declared.states.Fed.{Fed}
-use Rattle.desk.specs.Desk.{mostBuckets, fewEnough, beginOf, started, offsetsFit, packetsSketch, rest, downstreamHeaded, fedState, Feeds, finishAnswer}
+use Rattle.desk.specs.Desk.{mostBuckets, fewEnough, beginOf, started, offsetsFit, packetsSketch, rest, downstreamHeaded, fedState, lentBoth, Feeds, finishAnswer}
 use Rattle.desk.proofs.Accepts.{accepts, begins}
+use Rattle.desk.proofs.Lending.{taken-fed, fresh-lent}
 use Rattle.desk.proofs.FirstHead.{begin-refused}
 use Rattle.desk.proofs.Refusals.{DownstreamRefused, refused-as}
 use Rattle.settle.specs.Settling.{settleJudged, lessDownstream, Settles}
@@ -75,10 +76,13 @@ module _ {a b : List ℕ} {S T : Sketch} (one : StreamRead (paramsIn a) a (zeros
       let s = cond (offsetsFit bytes started) (fedState P bytes (zeros P) (zeros P) started) started in
       record { state = s; used = s .at - started .at }
 
+  lent-right : lentBoth P (zeros P) (zeros P) ≡ Done
+  lent-right = fresh-lent P (fresh-grown one .good)
+
   feeds : Feeds P bytes (zeros P) (zeros P) started fed
       (cond (offsetsFit bytes started) (packetsSketch false P bytes (zeros P) started) (zeros P))
       (cond (offsetsFit bytes started) (packetsSketch true P (rest started (downstreamHeaded P bytes (zeros P) (zeros P) started) bytes) (zeros P) (downstreamHeaded P bytes (zeros P) (zeros P) started)) (zeros P))
-  feeds = record { state = refl; used = refl; upstream = refl; downstream = refl }
+  feeds = taken-fed lent-right (record { state = refl; used = refl; upstream = refl; downstream = refl })
 
   -- what the program lends for the walk
   abbrev lent : Slices
@@ -121,7 +125,7 @@ module _ {a b : List ℕ} {S T : Sketch} (one : StreamRead (paramsIn a) a (zeros
         down = T;
         fed = fed;
         head = begins one two few;
-        feeding = record { state = refl; used = refl; upstream = sym (same .1); downstream = sym (same .2) };
+        feeding = taken-fed lent-right (record { state = refl; used = refl; upstream = sym (same .1); downstream = sym (same .2) });
         finished = same .0;
         long = (many, length-replicate (size P) (pos 0), many, many);
         figures = figuresOf outcome;
