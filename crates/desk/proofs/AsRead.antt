@@ -32,7 +32,7 @@ use Rattle.desk.specs.declared.states.Stage.the-variants.{UpstreamPacket
 use Rattle.desk.specs.declared.states.State.{State}
 use Rattle.desk.specs.declared.stages.Due.{Due}
 use Rattle.desk.specs.declared.stages.Due.the-variants.{Here, NotYet, Other}
-use Rattle.desk.specs.Desk.{refuses, stopped, stageAfter, packetAnswer, taken, takenAnswer, isDue, packetsDue, packetsState, dueOf, dueEnd, endedState, endState, packetsStage, endStage, rest}
+use Rattle.desk.specs.Desk.{refuses, stopped, stageAfter, recordAnswer, taken, takenAnswer, isDue, packetsDue, packetsState, dueOf, dueEnd, endedState, endState, packetsStage, endStage, rest}
 use Rattle.desk.proofs.Whole.{whole-record}
 use Rattle.desk.proofs.InTheRest.{word-at, whole-at, whole-left}
 use Rattle.desk.proofs.Taking.{taken-within, taken-bytes, accepted-before, next-refused, AllTaken, all-taken}
@@ -122,16 +122,16 @@ module _ (P : Params) (fs : List ℕ) (long : headLength ≤ length fs) (S : Ske
   numbers-same = ap (λ (m : ℕ). from 0 m (numberFrom headLength fs)) number-same ∙ from-same 0 n (numberFrom headLength fs) (numberFrom 0 xs) (λ j a b. packets-same j)
 
   -- each packet record has one answer
-  judged-same : (k : ℕ) → packetJudged P fs S k ≡ atOffset (packetOffset k) (packetAnswer P xs S k)
-  unfolding packetJudged packetAnswer
+  judged-same : (k : ℕ) → packetJudged P fs S k ≡ atOffset (packetOffset k) (recordAnswer P xs S k)
+  unfolding packetJudged recordAnswer
   judged-same k = rw (flow-same k, packets-same k, flows-same, numbers-same)
 
-  judged-done : (k : ℕ) → packetAnswer P xs S k ≡ Done → packetJudged P fs S k ≡ Done
+  judged-done : (k : ℕ) → recordAnswer P xs S k ≡ Done → packetJudged P fs S k ≡ Done
   unfolding atOffset
   judged-done k e = judged-same k ∙ rw e
 
   -- the first that is refused decides
-  one-refused : (w : Refusal) (i : ℕ) → packetAnswer P xs S (taken P xs S) ≡ Refused w i → taken P xs S < n → packetsJudged P fs S ≡ Refused w (packetOffset (taken P xs S))
+  one-refused : (w : Refusal) (i : ℕ) → recordAnswer P xs S (taken P xs S) ≡ Refused w i → taken P xs S < n → packetsJudged P fs S ≡ Refused w (packetOffset (taken P xs S))
   unfolding packetsJudged atOffset
   one-refused w i e l =
       let k : ℕ = taken P xs S in
@@ -177,7 +177,7 @@ module _ (P : Params) (fs : List ℕ) (long : headLength ≤ length fs) (S : Ske
     unfolding endStage
     stopped-ends t w e q = ap (λ u. endStage (rest s u xs) u) e ∙ rw q
 
-    by-packet : taken P xs S < n → (r : Answer) → packetAnswer P xs S (taken P xs S) ≡ r → refuses r ≡ true → takenAnswer P xs S ≡ r → Came
+    by-packet : taken P xs S < n → (r : Answer) → recordAnswer P xs S (taken P xs S) ≡ r → refuses r ≡ true → takenAnswer P xs S ≡ r → Came
     by-packet l Done e q f = absurd (true≢false (sym q))
     by-packet l (Refused w i) e q f =
         let ends = stopped-ends _ w (packet-stops w i f) refl in
@@ -269,5 +269,5 @@ module _ (P : Params) (fs : List ℕ) (long : headLength ≤ length fs) (S : Ske
         at true e =
             let l = ltb-true (taken P xs S) n e in
             let r = next-refused P xs S l in
-            by-packet l (packetAnswer P xs S (taken P xs S)) refl (r .1) (r .0)
+            by-packet l (recordAnswer P xs S (taken P xs S)) refl (r .1) (r .0)
         at false e = by-end (rw e)

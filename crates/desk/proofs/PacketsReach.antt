@@ -25,7 +25,7 @@ use Rattle.files.proofs.Turning.{whole-within}
 use Rattle.streamfile.specs.Streams.{packetsFrom, flowFrom, numberFrom, flowsFrom, numbersFrom}
 use Rattle.streamfile.proofs.Found.{length-flows, length-numbers, flow-is, number-is}
 use Rattle.desk.specs.declared.states.State.{State}
-use Rattle.desk.specs.Desk.{refuses, stageAfter, packetAnswer, taken, takenAnswer, afterTaken, isDue, packetsState, packetsStage, packetsSketch, rest}
+use Rattle.desk.specs.Desk.{refuses, stageAfter, recordAnswer, taken, takenAnswer, afterTaken, isDue, packetsState, packetsStage, packetsSketch, rest}
 use Rattle.desk.proofs.InTheRest.{word-at, whole-left}
 use Rattle.desk.proofs.Taking.{taken-within, accepted-before, next-refused}
 use Rattle.desk.proofs.Back.{upstream-stage, downstream-stage}
@@ -73,8 +73,8 @@ module _ (P : Params) (downstream : Bool) (bs : List ℕ) (k : Moment) where
     number-first : (j : ℕ) → word (drop (packetsLength * j) bs) numberField ≡ numberFrom 0 bs j
     number-first j = word-at bs (packetsLength * j) numberField ∙ ap (word bs) (omega arith)
 
-    answer-first : (j : ℕ) → packetFirst P (drop (packetsLength * j) bs) (left j) ≡ packetAnswer P bs S j
-    unfolding packetAnswer
+    answer-first : (j : ℕ) → packetFirst P (drop (packetsLength * j) bs) (left j) ≡ recordAnswer P bs S j
+    unfolding recordAnswer
     answer-first j = rw (flow-first j, number-first j)
 
     next-bytes : (j : ℕ) → rest (midState j) (packetAnswered Done (midState j)) (drop (packetsLength * j) bs) ≡ drop (packetsLength * suc j) bs
@@ -146,7 +146,7 @@ module _ (P : Params) (downstream : Bool) (bs : List ℕ) (k : Moment) where
         at true e =
             let l = ltb-true (taken P bs S) (packetsFrom 0 bs) e in
             let r = next-refused P bs S l in
-            to-refused (packetAnswer P bs S (taken P bs S)) (answer-first (taken P bs S)) (r .0) (r .1) l
+            to-refused (recordAnswer P bs S (taken P bs S)) (answer-first (taken P bs S)) (r .0) (r .1) l
 
   pub packets-reach : Reaches P bs k (rest s (packetsStage downstream P bs S s) bs) (putIn downstream (packetsStage downstream P bs S s) (packetsSketch downstream P bs S s) k)
   unfolding packetsStage packetsSketch

@@ -33,7 +33,7 @@ use Rattle.files.proofs.Turning.{whole-within, in-turn-done}
 use Rattle.streamfile.specs.Streams.{packetsFrom, flowFrom, numberFrom, flowsFrom, numbersFrom, packetsIn, flowsIn, numbersIn, packetJudged, packetsJudged, streamAnswer, StreamRead}
 use Rattle.streamfile.proofs.Accepting.{StreamDone, stream-done}
 use Rattle.streamfile.proofs.Found.{length-flows, length-numbers, flow-is, number-is}
-use Rattle.desk.specs.Desk.{packetAnswer, taken, takenAnswer, afterTaken}
+use Rattle.desk.specs.Desk.{recordAnswer, taken, takenAnswer, afterTaken}
 use Rattle.desk.proofs.Taking.{AllTaken, all-taken, none-refused}
 
 -- a fresh sketch has the right lengths and no damage
@@ -115,7 +115,7 @@ module _ (P : Params) (fs xs : List ℕ) (n : ℕ) (long : length fs ≡ headLen
 
     module _ (S : Sketch) (done : AllTaken P xs S) where
       judged-done : (k : ℕ) → k < n → packetJudged P fs S k ≡ Done
-      unfolding packetJudged atOffset packetAnswer
+      unfolding packetJudged atOffset recordAnswer
       judged-done k l = rw (flow-same k l, packets-same k l, flows-same, numbers-same, done .each k (omega arith))
 
       records-done : packetsJudged P fs S ≡ Done
@@ -166,8 +166,8 @@ module _ (P : Params) (fs xs : List ℕ) (n : ℕ) (long : length fs ≡ headLen
         (λ k l. whole-back packetsKind (packetOffset k) (packetFrom 0 k) (omega arith) (omega arith) (omega arith) (whole-within packetsKind packetOffset fs k (omega (arith, are))))
         (not-kind xs (packetFrom 0 n) packetsKind (λ e. let two : getD xs (packetsLength * n) 0 ≡ packetsKind = ap (λ (k : ℕ). getD xs k 0) (omega arith) ∙ e in omega (arith, two, whole-record xs (packetsLength * n) endKind end-back .0)))
 
-    each-accepted : (k : ℕ) → k < packetsFrom 0 xs → packetAnswer P xs (zeros P) k ≡ Done
-    unfolding packetAnswer
+    each-accepted : (k : ℕ) → k < packetsFrom 0 xs → recordAnswer P xs (zeros P) k ≡ Done
+    unfolding recordAnswer
     each-accepted k l =
         rw (flow-is 0 xs k l, number-is 0 xs k l, ← flows-same number-back end-back said-back, ← numbers-same number-back end-back said-back)
         (done .accepted k (omega (arith, are, number-back)))

@@ -23,7 +23,7 @@ use Rattle.streamfile.specs.Streams.{packetsFrom}
 use Rattle.streamfile.proofs.Found.{There, packet-within, flow-is, number-is}
 use Rattle.streamfile.proofs.InTurn.{Gone, gone-within, one-of-them, all-gone}
 use Rattle.desk.specs.declared.stages.Run.{Run}
-use Rattle.desk.specs.Desk.{refuses, packetAnswer, taken, takenAnswer, afterTaken}
+use Rattle.desk.specs.Desk.{refuses, recordAnswer, taken, takenAnswer, afterTaken}
 
 -- a search by what it meets: the first number that passes, or none
 least-at : (n k : ℕ) (t : ℕ → Bool) → k < n → ((j : ℕ) → j < k → t j ≡ false) → t k ≡ true → least 0 n t ≡ k
@@ -58,7 +58,7 @@ not-refused (Refused w k) e = absurd (true≢false e)
 
 module _ (P : Params) (bs : List ℕ) (S : Sketch) where
   abbrev refusedAt : ℕ → Bool
-  refusedAt k = refuses (packetAnswer P bs S k)
+  refusedAt k = refuses (recordAnswer P bs S k)
 
   -- they are at most the packets at hand, which lie within the bytes
   pub taken-within : taken P bs S ≤ packetsFrom 0 bs
@@ -73,37 +73,37 @@ module _ (P : Params) (bs : List ℕ) (S : Sketch) where
       at (suc n) e = omega (arith, taken-within, packet-within 0 bs n (omega arith))
 
   -- each of them was accepted
-  pub accepted-before : (j : ℕ) → j < taken P bs S → packetAnswer P bs S j ≡ Done
+  pub accepted-before : (j : ℕ) → j < taken P bs S → recordAnswer P bs S j ≡ Done
   unfolding taken
   accepted-before j l = at (ltb (taken P bs S) (packetsFrom 0 bs)) refl
     where
-      at : (b : Bool) → ltb (taken P bs S) (packetsFrom 0 bs) ≡ b → packetAnswer P bs S j ≡ Done
+      at : (b : Bool) → ltb (taken P bs S) (packetsFrom 0 bs) ≡ b → recordAnswer P bs S j ≡ Done
       at true e = not-refused _ (least-lowest (packetsFrom 0 bs) refusedAt (ltb-true _ _ e) .none-lower j l)
       at false e = not-refused _ (none-found (packetsFrom 0 bs) refusedAt e j (omega (arith, taken-within)))
 
   -- the next one, if there is one, was not
   pub next-refused : taken P bs S < packetsFrom 0 bs
-      → (takenAnswer P bs S ≡ packetAnswer P bs S (taken P bs S)) × (refuses (packetAnswer P bs S (taken P bs S)) ≡ true)
+      → (takenAnswer P bs S ≡ recordAnswer P bs S (taken P bs S)) × (refuses (recordAnswer P bs S (taken P bs S)) ≡ true)
   unfolding taken takenAnswer
   next-refused l = (rw (lt-ltb (taken P bs S) (packetsFrom 0 bs) l), least-lowest (packetsFrom 0 bs) refusedAt l .here)
 
   -- where nothing is refused, all packets at hand were taken
   pub record AllTaken : Type 0 where
     pub number : taken P bs S ≡ packetsFrom 0 bs
-    pub each : (k : ℕ) → k < packetsFrom 0 bs → packetAnswer P bs S k ≡ Done
+    pub each : (k : ℕ) → k < packetsFrom 0 bs → recordAnswer P bs S k ≡ Done
 
   pub all-taken : takenAnswer P bs S ≡ Done → AllTaken
   unfolding taken takenAnswer
   all-taken = at (ltb (taken P bs S) (packetsFrom 0 bs)) refl
     where
-      at : (b : Bool) → ltb (taken P bs S) (packetsFrom 0 bs) ≡ b → cond b (packetAnswer P bs S (taken P bs S)) Done ≡ Done → AllTaken
+      at : (b : Bool) → ltb (taken P bs S) (packetsFrom 0 bs) ≡ b → cond b (recordAnswer P bs S (taken P bs S)) Done ≡ Done → AllTaken
       at true l e = absurd (true≢false (sym (least-lowest (packetsFrom 0 bs) refusedAt (ltb-true _ _ l) .here) ∙ ap refuses e))
       at false l e =
           let past : packetsFrom 0 bs ≤ taken P bs S = ltb-false (taken P bs S) (packetsFrom 0 bs) l in
           record { number = omega (arith, taken-within); each = λ k m. not-refused _ (none-found (packetsFrom 0 bs) refusedAt l k m) }
 
   -- and the other way
-  pub none-refused : ((k : ℕ) → k < packetsFrom 0 bs → packetAnswer P bs S k ≡ Done) → (taken P bs S ≡ packetsFrom 0 bs) × (takenAnswer P bs S ≡ Done)
+  pub none-refused : ((k : ℕ) → k < packetsFrom 0 bs → recordAnswer P bs S k ≡ Done) → (taken P bs S ≡ packetsFrom 0 bs) × (takenAnswer P bs S ≡ Done)
   unfolding taken takenAnswer
   none-refused each =
       let all = least-past-all (packetsFrom 0 bs) refusedAt (λ k l. ap refuses (each k l)) in
@@ -114,13 +114,13 @@ module _ (P : Params) (bs : List ℕ) (S : Sketch) where
 
   -- n packets went in and made T
   module _ (n : ℕ) (T : Sketch) (g : Gone P 0 bs S n T) where
-    accepted-each : (j : ℕ) → j < n → packetAnswer P bs S j ≡ Done
-    unfolding packetAnswer
+    accepted-each : (j : ℕ) → j < n → recordAnswer P bs S j ≡ Done
+    unfolding recordAnswer
     accepted-each j l =
         let one : j < packetsFrom 0 bs = omega (arith, gone-within P 0 bs S n T g) in
         rw (flow-is 0 bs j one, number-is 0 bs j one, g .accepted j l)
 
-    none-refuse : (j : ℕ) → j < n → refuses (packetAnswer P bs S j) ≡ false
+    none-refuse : (j : ℕ) → j < n → refuses (recordAnswer P bs S j) ≡ false
     none-refuse j l = ap refuses (accepted-each j l)
 
     made-so : taken P bs S ≡ n → T ≡ afterTaken P bs S
@@ -129,8 +129,8 @@ module _ (P : Params) (bs : List ℕ) (S : Sketch) where
 
     -- the next is refused
     module _ (f k : ℕ) (there : There bs (packetFrom 0 n) f k) (r : Answer) (e : r ≡ stepAnswer P false f k T) (h : Refuses r) where
-      next-answer : packetAnswer P bs S n ≡ r
-      unfolding packetAnswer
+      next-answer : recordAnswer P bs S n ≡ r
+      unfolding recordAnswer
       next-answer = sym (e ∙ rw (← there .flow, ← there .number, ← g .made))
 
       next : n < packetsFrom 0 bs

@@ -100,16 +100,16 @@ refuses Done = false
 refuses (Refused w k) = true
 
 -- the answer for the k-th of the packet records at hand, which goes into the sketch that those before it left
-unfoldable pub packetAnswer : Params → List ℕ → Sketch → ℕ → Answer
-packetAnswer P bs S k =
+unfoldable pub recordAnswer : Params → List ℕ → Sketch → ℕ → Answer
+recordAnswer P bs S k =
     stepAnswer P false (flowFrom 0 bs k) (numberFrom 0 bs k) (after P (take k (flowsFrom 0 bs)) (take k (numbersFrom 0 bs)) S)
 
 -- how many of them are accepted, up to the first that is refused; and that one's answer
 unfoldable pub taken : Params → List ℕ → Sketch → ℕ
-taken P bs S = least 0 (packetsFrom 0 bs) (λ k. refuses (packetAnswer P bs S k))
+taken P bs S = least 0 (packetsFrom 0 bs) (λ k. refuses (recordAnswer P bs S k))
 
 unfoldable pub takenAnswer : Params → List ℕ → Sketch → Answer
-takenAnswer P bs S = cond (ltb (taken P bs S) (packetsFrom 0 bs)) (packetAnswer P bs S (taken P bs S)) Done
+takenAnswer P bs S = cond (ltb (taken P bs S) (packetsFrom 0 bs)) (recordAnswer P bs S (taken P bs S)) Done
 
 unfoldable pub afterTaken : Params → List ℕ → Sketch → Sketch
 afterTaken P bs S = after P (take (taken P bs S) (flowsFrom 0 bs)) (take (taken P bs S) (numbersFrom 0 bs)) S
