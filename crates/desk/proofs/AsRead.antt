@@ -1,10 +1,10 @@
 -- One stream at the desk, from its head to its end: what is refused of it, and at which byte, is what the stream's reader refuses of the file.
-use mathlib.Core.Path.{_≡_, refl, sym, ap, ap₂, _∙_}
+use mathlib.Core.Path.{_≡_, refl, sym, ap, _∙_}
 use mathlib.Core.Bool.{Bool, true, false, cond, true≢false}
 use mathlib.Core.List.{List}
 use Prim.Native.Nat.{ℕ, zero, suc, _+_, _-_, _*_, _≤_, _<_}
 use native.Mathlib.Omega.{arith}
-use borrow.Author.Tests.{ltb-true, ltb-false, le-leb, lt-leb, leb-true, leb-false, eq-eqb, ne-eqb, eqb-true, eqb-false, not-true}
+use borrow.Author.Tests.{ltb-true, ltb-false, lt-leb, leb-true, eq-eqb, ne-eqb, eqb-true, eqb-false, not-true}
 use lib.Dec.{eqb, leb, ltb}
 use lib.ListN.{length, getD, drop, length-drop}
 use lib.Seq.{drop-drop}
@@ -19,8 +19,8 @@ use Rattle.params.proofs.Judging.{first-refused, first-passed}
 use Rattle.sketch.specs.Sketch.{Sketch}
 use Rattle.sketch.proofs.Tables.{from-same}
 use Rattle.files.specs.Bytes.{word}
-use Rattle.files.specs.Records.{bodyLength, recordAt, isKind, offsetOf, packetsKind, endKind, headLength, packetsLength, endLength}
-use Rattle.files.specs.Turns.{atOffset, inTurn, packetFrom, packetOffset, recordsOf, endAnswer}
+use Rattle.files.specs.Records.{bodyLength, recordAt, isKind, packetsKind, endKind, headLength, packetsLength, endLength}
+use Rattle.files.specs.Turns.{atOffset, packetFrom, packetOffset, recordsOf, endAnswer}
 use Rattle.files.specs.Fields.{flowField, numberField, recordsField}
 use Rattle.files.proofs.Standing.{nothing-stands}
 use Rattle.files.proofs.Turning.{records-are, whole-within, in-turn-refused, in-turn-done}
@@ -35,7 +35,7 @@ use Rattle.desk.specs.declared.stages.Due.the-variants.{Here, NotYet, Ot
 use Rattle.desk.specs.Desk.{refuses, stopped, stageAfter, recordAnswer, taken, takenAnswer, isDue, packetsDue, packetsState, dueOf, dueEnd, endedState, endState, packetsStage, endStage, rest}
 use Rattle.desk.proofs.Whole.{whole-record}
 use Rattle.desk.proofs.InTheRest.{word-at, whole-at, whole-left}
-use Rattle.desk.proofs.Taking.{taken-within, taken-bytes, accepted-before, next-refused, AllTaken, all-taken}
+use Rattle.desk.proofs.Taking.{accepted-before, next-refused, AllTaken, all-taken}
 use Rattle.desk.proofs.WhatIsDue.{end-whole}
 
 -- a record of a kind stands first in what is left exactly where it stands in the whole

@@ -7,7 +7,6 @@ use native.Mathlib.Omega.{arith}
 use lib.ListN.{length, take}
 use Rattle.params.specs.declared.params.Params.{Params}
 use Rattle.params.specs.declared.answers.Refusal.{Refusal}
-use Rattle.params.specs.declared.answers.Answer.{Answer}
 use Rattle.params.specs.declared.answers.Answer.the-variants.{Done, Refused}
 use Rattle.params.specs.Answers.{kept}
 use Rattle.params.specs.Params.{goodParams, lentAnswer}

@@ -7,13 +7,13 @@
 -- is given other parameters, says MISMATCH. One of the two always holds (`either-stream`), so every refusal is one of these (`refused-as`).
 -- A byte behind a right upstream end is FORM for the reader, which takes it for the same file, and the downstream's first byte for the desk.
 use mathlib.Core.Path.{_≡_, refl, sym, ap, ap₂, _∙_}
-use mathlib.Core.Bool.{Bool, true, false, not, cond, _&&_, true≢false}
+use mathlib.Core.Bool.{Bool, true, false, not, _&&_, true≢false}
 use mathlib.Core.Logic.{_⊎_, inl, inr, ⊎-elim}
 use mathlib.Core.List.{List}
 use Prim.Native.Nat.{ℕ, _+_, _-_, _*_, _≤_, _<_}
 use native.Mathlib.Nat.{zero-add}
 use native.Mathlib.Omega.{arith}
-use borrow.Author.Tests.{lt-leb, le-leb, leb-true, leb-false, not-false}
+use borrow.Author.Tests.{lt-leb, leb-true, leb-false, not-false}
 use lib.Dec.{leb}
 use lib.ListN.{length, getD, take, drop, length-drop}
 use lib.Seq.{length-take-le, getD-take, getD-drop, drop-drop}

@@ -2,7 +2,7 @@
 -- output; and an input that is refused has the one line with the reader's number and byte.
 use mathlib.Core.Path.{_≡_, refl, sym, ap, ap₂, subst, _∙_}
 use mathlib.Core.Bool.{Bool, true, false, cond}
-use mathlib.Core.Logic.{_⊎_, inl, inr, ⊎-elim}
+use mathlib.Core.Logic.{⊎-elim}
 use mathlib.Core.List.{List, _++_}
 use Prim.Native.Nat.{ℕ, _+_, _-_, _*_, _≤_}
 use native.Mathlib.Omega.{arith}
@@ -23,7 +23,7 @@ use Rattle.sums.specs.Sums.{combined}
 use Rattle.walk.specs.Walk.{Outcome, walk}
 use Rattle.walk.specs.Purity.{ruleOf}
 use Rattle.peel.specs.declared.peeling.Peeled.the-variants.{Ended}
-use Rattle.peel.specs.Slices.{Slices, slices, lentSketch}
+use Rattle.peel.specs.Slices.{Slices, slices}
 use Rattle.peel.specs.Peel.{figuresOf, unlessRefused, peeledOf, closedSlices, judged, walked, peelReturns}
 use Rattle.files.specs.Bytes.{overwritten}
 use Rattle.files.specs.Records.{headLength}
