@@ -4,12 +4,13 @@
 -- into a fresh sketch, the desk's number and byte are those of the reader on the whole input (`upstream-refused`). Where a first part is, the
 -- rest is the downstream's file, and the desk answers what the reader answers for it, with its bytes counted from the start of the input
 -- (`downstream-answered`). The one exception is a head that keeps the rules but has too many buckets for a desk: that is PARAM, where the reader, which
--- is given other parameters, says MISMATCH. One of the two always holds (`either-stream`), so every refusal is one of these (`refused-as`).
+-- is given other parameters, says MISMATCH. `either-stream` and `refused-as` say less by themselves: that the answer is the reader's on the whole
+-- input, or that a first part is accepted, where `downstream-answered` then gives it. What is refused stays refused, whatever comes behind (`refusal-stays`).
 -- A byte behind a right upstream end is FORM for the reader, which takes it for the same file, and the downstream's first byte for the desk.
-use mathlib.Core.Path.{_≡_, refl, sym, ap, ap₂, _∙_}
-use mathlib.Core.Bool.{Bool, true, false, not, _&&_, true≢false}
+use mathlib.Core.Path.{_≡_, refl, sym, ap, ap₂, _∙_, subst}
+use mathlib.Core.Bool.{Bool, true, false, not, cond, _&&_, true≢false}
 use mathlib.Core.Logic.{_⊎_, inl, inr, ⊎-elim}
-use mathlib.Core.List.{List}
+use mathlib.Core.List.{List, _++_}
 use Prim.Native.Nat.{ℕ, _+_, _-_, _*_, _≤_, _<_}
 use native.Mathlib.Nat.{zero-add}
 use native.Mathlib.Omega.{arith}
@@ -35,18 +36,19 @@ use Rattle.files.specs.Heads.{paramsIn, isHead, parametersAnswer}
 use Rattle.files.specs.Turns.{packetOffset}
 use Rattle.files.specs.Fields.{recordsField}
 use Rattle.streamfile.specs.Streams.{packetsFrom, packetsIn, flowsIn, numbersIn, packetsJudged, streamAnswer, StreamRead}
-use Rattle.desk.specs.declared.states.Stage.the-variants.{DownstreamHead, DownstreamPackets, Nothing}
+use Rattle.desk.specs.declared.states.Stage.the-variants.{DownstreamHead, DownstreamPackets, Nothing, Refused as Stopped}
 use Rattle.desk.specs.declared.stages.Due.{Due}
 use Rattle.desk.specs.declared.stages.Due.the-variants.{Here, NotYet, Other}
 use Rattle.desk.specs.declared.states.State.{State}
 use Rattle.desk.specs.declared.states.Fed.{Fed}
-use Rattle.desk.specs.Desk.{fewEnough, beginOf, started, stopped, taken, takenAnswer, dueOf, downstreamHeadAnswer, isDue, packetsDue, headDue, nothingDue, packetsStage, endStage, headStage, nothingStage, rest, offsetsFit, upstreamEnded, downstreamHeaded, downstreamTaken, downstreamEnded, fedState, Feeds, finishAnswer}
+use Rattle.desk.specs.Desk.{fewEnough, beginOf, started, stopped, taken, takenAnswer, dueOf, downstreamHeadAnswer, isDue, packetsDue, headDue, nothingDue, packetsStage, endStage, headStage, nothingStage, rest, offsetsFit, upstreamEnded, downstreamHeaded, downstreamTaken, downstreamEnded, fedState, Feeds, finishAnswer, packetsSketch, upstreamTaken, lentBoth, stageTurnedDown}
 use Rattle.desk.proofs.Accepted.{Begun, begun, good-params, input-long, firstNumber, atFirstEnd, firstLength, split-within, first-file}
 use Rattle.desk.proofs.Whole.{whole-record}
 use Rattle.desk.proofs.InTheRest.{word-at, whole-left}
 use Rattle.desk.proofs.WhatIsDue.{here-whole}
 use Rattle.desk.proofs.Taking.{all-taken}
-use Rattle.desk.proofs.Lending.{fed-taken, fresh-lent}
+use Rattle.desk.proofs.Lending.{turned-down, taken-fed, fed-taken, fresh-lent}
+use Rattle.desk.proofs.Pieces.{pieces}
 use Rattle.desk.proofs.SameBytes.{opened-judged, all-back, end-back, said-back}
 use Rattle.desk.proofs.Accepts.{file-long}
 use Rattle.desk.proofs.AsRead.{Came, refused-there, unfinished, passed-by, came, streamEnded, taken-at, ends-right, all-read, more-behind}
@@ -323,3 +325,43 @@ module _ (P : Params) (input : List ℕ) (r : Fed) (up down : Sketch) (head : be
       from-rest : (p : AcceptedPart P input) (a : Answer) → downstreamAnswer P (drop (p .split) input) ≡ a → shifted (p .split) a ≡ Refused w k → DownstreamRefused P input w k
       from-rest p Done h q = absurd (let z : _≡_ {A = ℕ} 0 1 = cc in omega arith)
       from-rest p (Refused v j) h q = record { upstream = p; offset = j; reader-refuses = h ∙ cc; place = cc }
+
+-- a refused state takes nothing more
+module _ (P : Params) (bs : List ℕ) (up down : Sketch) (s : State) {w : Refusal} (e : s .stage ≡ Stopped w) where
+  headed-stays : downstreamHeaded P bs up down s ≡ s
+  headed-stays =
+      let taken : upstreamTaken P bs up down s ≡ s = packets-skip false P bs up s (ap (isDue false) e) in
+      let ended : upstreamEnded P bs up down s ≡ s = ap (λ u. endStage (rest s u bs) u) taken ∙ end-skips (rest s s bs) s (ap packetsDue e) in
+      ap (λ u. headStage P (rest s u bs) u) ended ∙ head-skips P (rest s s bs) s (ap headDue e)
+
+  fed-stays : fedState P bs up down s ≡ s
+  fed-stays = after-head-stay P bs up down s s headed-stays (ap (isDue true) e) (end-skips (rest s s bs) s (ap packetsDue e)) (ap nothingDue e)
+
+  sketch-stays : (downstream : _) (cs : List ℕ) (S : Sketch) → packetsSketch downstream P cs S s ≡ S
+  unfolding packetsSketch
+  sketch-stays downstream cs S = rw (ap (isDue downstream) e)
+
+  chosen : {A : Type 0} (b : Bool) (x y : A) → x ≡ y → y ≡ cond b x y
+  chosen true x y p = sym p
+  chosen false x y p = refl
+
+  fed-again : Feeds P bs up down s record { state = s; used = 0 } up down
+  fed-again = at (lentBoth P up down) refl
+    where
+      at : (a : Answer) → lentBoth P up down ≡ a → Feeds P bs up down s record { state = s; used = 0 } up down
+      at Done h =
+          taken-fed h (record {
+            state = chosen (offsetsFit bs s) (fedState P bs up down s) s fed-stays;
+            used = omega arith;
+            upstream = chosen (offsetsFit bs s) (packetsSketch false P bs up s) up (sketch-stays false bs up);
+            downstream = chosen (offsetsFit bs s) _ down (ap (λ u. packetsSketch true P (rest s u bs) down u) headed-stays ∙ sketch-stays true (rest s s bs) down);
+          })
+      at (Refused v k) h = turned-down h (λ i. record { stage = (e ∙ sym (ap (stageTurnedDown v) e)) i; at = s .at; records = s .records })
+
+-- so what is refused of the bytes that came is refused of the whole input, with the same number, byte and sketches
+pub refusal-stays : {P : Params} {xs : List ℕ} {up down : Sketch} {s : State} {r : Fed} {up₁ down₁ : Sketch} {w : Refusal} (ys : List ℕ) → offsetsFit (xs ++ ys) s ≡ true
+    → Feeds P xs up down s r up₁ down₁ → r .state .stage ≡ Stopped w → Feeds P (xs ++ ys) up down s r up₁ down₁
+refusal-stays {P} {xs} {up} {down} {s} {r} {up₁} {down₁} ys near one e =
+    let both = pieces ys near one (fed-again P (drop (r .used) xs ++ ys) up₁ down₁ (r .state) e) in
+    let used : r .used + 0 ≡ r .used = omega arith in
+    subst (λ (n : ℕ). Feeds P (xs ++ ys) up down s record { state = r .state; used = n } up₁ down₁) used both
