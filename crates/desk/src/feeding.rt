@@ -16,7 +16,8 @@ use params::Answer;
 use params::Params;
 
 // Takes all whole records of the bytes at hand, up to one at fault; their first byte is the next of the input. Says how many bytes that used. The
-// rest is to be at hand again, with more behind it, at the next call. Bad parameters and wrong lengths are refused before anything is taken.
+// rest is to be at hand again, with more behind it, at the next call. Parameters that break a rule and wrong lengths are refused before anything is taken; how many
+// buckets there are is judged with the heads.
 pub fn feed(
     p: Params,
     s: State,

@@ -22,7 +22,7 @@ fn few_enough(p: Params) -> bool
     p.size() <= MOST_BUCKETS
 }
 
-// Judges the first head of the input, once as many bytes as a head has are at hand or the input has ended.
+// Judges the first head of the input, once as many bytes as a head has are at hand, or a first byte that none has, or the input has ended.
 pub fn begin(bytes: &[u8]) -> Headed
     ensures { λ r. ⌜ r ≡ beginOf (now (bytes .entry)) ⌝ }
 {
