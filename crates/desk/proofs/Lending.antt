@@ -20,7 +20,7 @@ use Rattle.desk.specs.declared.states.Stage.{Stage}
 use Rattle.desk.specs.declared.states.Stage.the-variants.{UpstreamPackets, DownstreamHead, DownstreamPackets, Nothing, Refused as Stopped}
 use Rattle.desk.specs.declared.states.State.{State}
 use Rattle.desk.specs.declared.states.Fed.{Fed}
-use Rattle.desk.specs.Desk.{isDue, taken, afterTaken, packetsSketch, offsetsFit, lentBoth, stageTurnedDown, turnedDown, Takes, Feeds}
+use Rattle.desk.specs.Desk.{isDue, taken, afterTaken, packetsSketch, offsetsFit, lentBoth, stageTurnedDown, turnedDown, TakesRecords, Feeds}
 use Rattle.desk.proofs.SameBytes.{fresh-lengths}
 use Rattle.desk.proofs.OneRecord.{waitsAt}
 
@@ -43,11 +43,11 @@ module _ {P : Params} {bs : List ℕ} {up down : Sketch} {s : State} where
       record { state = state; used = omega (arith, f .used, ap (λ u. u .at) state); upstream = rw e at (f .upstream); downstream = rw e at (f .downstream) }
 
   module _ {r : Fed} {up' down' : Sketch} (done : lentBoth P up down ≡ Done) where
-    pub taken-fed : Takes P bs up down s r up' down' → Feeds P bs up down s r up' down'
+    pub taken-fed : TakesRecords P bs up down s r up' down' → Feeds P bs up down s r up' down'
     unfolding kept
     taken-fed t = record { state = rw done (t .state); used = t .used; upstream = rw done (t .upstream); downstream = rw done (t .downstream) }
 
-    pub fed-taken : Feeds P bs up down s r up' down' → Takes P bs up down s r up' down'
+    pub fed-taken : Feeds P bs up down s r up' down' → TakesRecords P bs up down s r up' down'
     unfolding kept
     fed-taken f = record { state = rw done at (f .state); used = f .used; upstream = rw done at (f .upstream); downstream = rw done at (f .downstream) }
 
@@ -99,7 +99,7 @@ lent-long : (P : Params) (up down up' down' : Sketch) → Long up up' → Long d
 unfolding lentBoth
 lent-long P up down up' down' h k = rw (h .counts, h .idsums, k .counts, k .idsums)
 
-pub still-lent : {P : Params} {bs : List ℕ} {up down : Sketch} {s : State} {r : Fed} {up' down' : Sketch} → Takes P bs up down s r up' down' → lentBoth P up' down' ≡ lentBoth P up down
+pub still-lent : {P : Params} {bs : List ℕ} {up down : Sketch} {s : State} {r : Fed} {up' down' : Sketch} → TakesRecords P bs up down s r up' down' → lentBoth P up' down' ≡ lentBoth P up down
 still-lent {P} {bs} {up} {down} {s} t =
     ap₂ (lentBoth P) (t .upstream) (t .downstream)
     ∙ lent-long P up down _ _ (unless-far (offsetsFit bs s) up _ (packets-long false P bs up s)) (unless-far (offsetsFit bs s) down _ (packets-long true P _ down _))

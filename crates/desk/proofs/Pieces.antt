@@ -12,7 +12,7 @@ use Rattle.params.specs.Answers.{kept}
 use Rattle.sketch.specs.Sketch.{Sketch}
 use Rattle.desk.specs.declared.states.State.{State}
 use Rattle.desk.specs.declared.states.Fed.{Fed}
-use Rattle.desk.specs.Desk.{packetsSketch, rest, offsetsFit, upstreamTaken, upstreamEnded, downstreamHeaded, downstreamTaken, downstreamEnded, fedState, lentBoth, turnedDown, Takes, Feeds}
+use Rattle.desk.specs.Desk.{packetsSketch, rest, offsetsFit, upstreamTaken, upstreamEnded, downstreamHeaded, downstreamTaken, downstreamEnded, fedState, lentBoth, turnedDown, TakesRecords, Feeds}
 use Rattle.desk.proofs.OffsetsFit.{bounded, offsets-fit}
 use Rattle.desk.proofs.Onward.{Onward, packets-onward, end-onward, head-onward, nothing-onward, onward-then}
 use Rattle.desk.proofs.OneRecord.{Moment, waits}
@@ -74,7 +74,7 @@ record Fully (P : Params) (bs : List ℕ) (up down : Sketch) (s t : State) (up' 
 all-fed : (P : Params) (bs : List ℕ) (up down : Sketch) (s : State) → Fully P bs up down s (last P bs up down s) (up-left P bs up down s) (down-left P bs up down s)
 all-fed P bs up down s = let h = fed-reach P bs up down s in record { onward = h .0; come = h .1; waited = fed-waits P bs up down s }
 
-fully : {P : Params} {bs : List ℕ} {up down : Sketch} {s : State} {r : Fed} {up' down' : Sketch} → offsetsFit bs s ≡ true → Takes P bs up down s r up' down'
+fully : {P : Params} {bs : List ℕ} {up down : Sketch} {s : State} {r : Fed} {up' down' : Sketch} → offsetsFit bs s ≡ true → TakesRecords P bs up down s r up' down'
     → Fully P bs up down s (r .state) up' down'
 fully {P} {bs} {up} {down} {s} near fed =
     rw (rw near at (fed .state), rw near at (fed .upstream), rw near at (fed .downstream)) (all-fed P bs up down s)
@@ -99,7 +99,7 @@ fed-waiting {P} {bs} {up} {down} {s} {r} near fed = at (lentBoth P up down) refl
 
 -- xs are taken, and then what they leave, with ys behind
 module _ {P : Params} {xs : List ℕ} {up down : Sketch} {s : State} {r : Fed} {up₁ down₁ : Sketch} (ys : List ℕ) (near : offsetsFit (xs ++ ys) s ≡ true)
-    (one : Takes P xs up down s r up₁ down₁) where
+    (one : TakesRecords P xs up down s r up₁ down₁) where
   abbrev behind : List ℕ
   behind = drop (r .used) xs ++ ys
 
@@ -112,8 +112,8 @@ module _ {P : Params} {xs : List ℕ} {up down : Sketch} {s : State} {r : Fed} {
       offsets-fit behind (r .state)
       (omega (arith, first-fully .onward, one .used, length-append xs ys, length-append (drop (r .used) xs) ys, length-drop (r .used) xs))
 
-  both-taken : {r₂ : Fed} {up₂ down₂ : Sketch} → Takes P (drop (r .used) xs ++ ys) up₁ down₁ (r .state) r₂ up₂ down₂
-      → Takes P (xs ++ ys) up down s record { state = r₂ .state; used = r .used + r₂ .used } up₂ down₂
+  both-taken : {r₂ : Fed} {up₂ down₂ : Sketch} → TakesRecords P (drop (r .used) xs ++ ys) up₁ down₁ (r .state) r₂ up₂ down₂
+      → TakesRecords P (xs ++ ys) up down s record { state = r₂ .state; used = r .used + r₂ .used } up₂ down₂
   both-taken {r₂} {up₂} {down₂} two =
       let h = first-fully in
       let k = fully second-near two in

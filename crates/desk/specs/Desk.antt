@@ -228,7 +228,7 @@ module _ (P : Params) (bs : List ℕ) (up down : Sketch) (s : State) where
   fedState = nothingStage (rest s downstreamEnded bs) downstreamEnded
 
   -- what is then taken: all whole records of the bytes at hand; a state out of reach takes nothing
-  pub record Takes (r : Fed) (up' down' : Sketch) : Type 0 where
+  pub record TakesRecords (r : Fed) (up' down' : Sketch) : Type 0 where
     pub state : r .state ≡ cond (offsetsFit bs s) fedState s
     pub used : r .used ≡ r .state .at - s .at
     pub upstream : up' ≡ cond (offsetsFit bs s) (packetsSketch false P bs up s) up

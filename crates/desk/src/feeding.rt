@@ -3,7 +3,7 @@ ghost use mathlib.Core.Path.{_≡_};
 ghost use Rattle.params.specs.Answers.{first};
 ghost use Rattle.params.specs.Params.{lentAnswer};
 ghost use Rattle.sketch.specs.Sketch.{sketch};
-ghost use Rattle.desk.specs.Desk.{Takes, Feeds};
+ghost use Rattle.desk.specs.Desk.{TakesRecords, Feeds};
 use crate::stages::end_stage;
 use crate::stages::head_stage;
 use crate::stages::nothing_stage;
@@ -72,7 +72,7 @@ fn take_records(
     down_idsums: &mut [u32],
     bytes: &[u8],
 ) -> Fed
-    ensures { λ r. ⌜ Takes p (now (bytes .entry)) (sketch (now («up_counts» .entry)) (now («up_idsums» .entry))) (sketch (now («down_counts» .entry)) (now («down_idsums» .entry))) s r (sketch (now («up_counts» .exit)) (now («up_idsums» .exit))) (sketch (now («down_counts» .exit)) (now («down_idsums» .exit))) ⌝ }
+    ensures { λ r. ⌜ TakesRecords p (now (bytes .entry)) (sketch (now («up_counts» .entry)) (now («up_idsums» .entry))) (sketch (now («down_counts» .entry)) (now («down_idsums» .entry))) s r (sketch (now («up_counts» .exit)) (now («up_idsums» .exit))) (sketch (now («down_counts» .exit)) (now («down_idsums» .exit))) ⌝ }
 {
     if !offsets_fit(s, bytes.len()) {
         return Fed { state: s, used: 0 };
