@@ -2,3 +2,4 @@
 pub mod Limits
 pub mod Idsums
 pub mod Zeros
+pub mod Multiples

@@ -4,5 +4,6 @@ pub mod Parts
 pub mod Casts
 pub mod Primes
 pub mod Residues
+pub mod Multiples
 pub mod Inverses
 pub mod OneFlow

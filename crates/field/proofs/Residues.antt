@@ -32,7 +32,7 @@ unfolding residue
 residue-pos zero h n = absurd (omega arith)
 residue-pos (suc q) h n = refl
 
-residue-negsuc : (p : ℕ) → 0 < p → (n : ℕ) → residue p (negsuc n) ≡ p - suc (n % p)
+pub residue-negsuc : (p : ℕ) → 0 < p → (n : ℕ) → residue p (negsuc n) ≡ p - suc (n % p)
 unfolding residue
 residue-negsuc zero h n = absurd (omega arith)
 residue-negsuc (suc q) h n = omega arith
