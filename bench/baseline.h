@@ -12,7 +12,7 @@
 enum refusal { DONE, PARAM, LENGTH, FLOW, COUNT, DAMAGE, RANGE, MISMATCH, FORM };
 
 // How a walk ends, with the library's numbers.
-enum ending { CLEAN = 1, STUCK, SPENT, NO_INVERSE, OUT_OF_RANGE, FULL };
+enum ending { CLEAN = 1, STUCK = 2, SPENT = 3, OUT_OF_RANGE = 5, FULL = 6 };
 
 enum { HEAD_BYTES = 38, PACKETS_BYTES = 9, END_BYTES = 5 };
 
@@ -53,6 +53,23 @@ struct figures {
     int64_t net;
     uint32_t pops;
 };
+
+// The word of an ending in a report.
+static inline const char *word_of(enum ending ending) {
+    switch (ending) {
+    case CLEAN:
+        return "clean";
+    case STUCK:
+        return "stuck";
+    case SPENT:
+        return "spent";
+    case OUT_OF_RANGE:
+        return "range";
+    case FULL:
+        return "full";
+    }
+    return "";
+}
 
 static inline uint32_t size_of(const struct params *params) {
     return params->d * params->m;

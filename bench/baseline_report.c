@@ -96,13 +96,12 @@ static enum refusal take_both(struct sketch *upstream, struct sketch *downstream
 }
 
 static void print_walk(const struct sketch *sketch, const struct table *table, struct figures figures) {
-    static const char *const words[] = {"", "clean", "stuck", "spent", "no inverse", "range", "full"};
     for (uint32_t slot = 0; slot < figures.entries; slot++)
         printf("loss %u %d\n", table->flows[slot], table->counts[slot]);
     for (uint32_t k = 0; k < size_of(&sketch->params); k++)
         if (sketch->counts[k] != 0 || sketch->idsums[k] != 0)
             printf("left %u %d %u\n", k, sketch->counts[k], sketch->idsums[k]);
-    printf("end %s pops %u net %ld\n", words[figures.ending], figures.pops, figures.net);
+    printf("end %s pops %u net %ld\n", word_of(figures.ending), figures.pops, figures.net);
 }
 
 static void peel_and_print(struct sketch *sketch) {

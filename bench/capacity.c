@@ -192,16 +192,16 @@ static void add_walk(struct tally *tally, const struct setting *setting, uint64_
     tally->told_apart += (uint64_t)are_told_apart(&params);
 }
 
-// Prints one line of the data file: what became of the walks of seeds 1 to the last. The ending 'no inverse' cannot occur.
+// Prints one line of the data file: what became of the walks of seeds 1 to the last.
 static void print_tally(const struct setting *setting, uint64_t last_seed) {
+    static const enum ending endings[] = {CLEAN, STUCK, SPENT, OUT_OF_RANGE, FULL};
     struct tally tally = {0};
     for (uint64_t seed = 1; seed <= last_seed; seed++)
         add_walk(&tally, setting, seed);
     printf("%u,%u,%u,%u,%u,%u,%lu,%lu", setting->d, setting->d * setting->m, setting->pops, setting->flows,
            setting->least, setting->most, (unsigned long)last_seed, (unsigned long)tally.told_apart);
-    for (int ending = CLEAN; ending <= MOST_ENDING; ending++)
-        if (ending != NO_INVERSE)
-            printf(",%lu", (unsigned long)tally.walks[ending]);
+    for (size_t i = 0; i < sizeof endings / sizeof *endings; i++)
+        printf(",%lu", (unsigned long)tally.walks[endings[i]]);
     printf(",%lu,%lu", (unsigned long)tally.wrong_clean, (unsigned long)tally.clean_pops);
     for (int ending = STUCK; ending <= SPENT; ending++)
         printf(",%lu,%lu,%lu", (unsigned long)tally.listed[ending], (unsigned long)tally.right[ending],
@@ -228,12 +228,11 @@ static void write_input(const struct setting *setting, uint64_t seed) {
 
 // Prints the table and the end of a walk with the words of the report program.
 static void print_walk(const struct setting *setting, uint64_t seed) {
-    static const char *const words[] = {"", "clean", "stuck", "spent", "no inverse", "range", "full"};
     struct params params;
     struct figures figures = walk(setting, seed, &params);
     for (uint32_t slot = 0; slot < figures.entries; slot++)
         printf("loss %u %d\n", table_flows[slot], table_counts[slot]);
-    printf("end %s pops %u net %ld\n", words[figures.ending], figures.pops, (long)figures.net);
+    printf("end %s pops %u net %ld\n", word_of(figures.ending), figures.pops, (long)figures.net);
 }
 
 static uint32_t draw_flow(uint64_t *seed) {

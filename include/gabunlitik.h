@@ -67,14 +67,13 @@ enum {
     GABUNLITIK_POPS = 3
 };
 
-/* How a walk ends. */
+/* How a walk ends. 4 is no ending, and is not given again. */
 enum {
-    GABUNLITIK_ENDED_CLEAN = 1,      /* every count and every idsum is 0 */
-    GABUNLITIK_ENDED_STUCK = 2,      /* something is left, and nothing waits in the queue */
-    GABUNLITIK_ENDED_SPENT = 3,      /* the allowance of pops is used up */
-    GABUNLITIK_ENDED_NO_INVERSE = 4, /* never, for a sketch within its limits */
-    GABUNLITIK_ENDED_RANGE = 5,      /* a take would bring a count or a table entry outside its limits */
-    GABUNLITIK_ENDED_FULL = 6        /* a take needs a table slot, and none is left */
+    GABUNLITIK_ENDED_CLEAN = 1, /* every count and every idsum is 0 */
+    GABUNLITIK_ENDED_STUCK = 2, /* something is left, and nothing waits in the queue */
+    GABUNLITIK_ENDED_SPENT = 3, /* the allowance of pops is used up */
+    GABUNLITIK_ENDED_RANGE = 5, /* a take would bring a count or a table entry outside its limits */
+    GABUNLITIK_ENDED_FULL = 6   /* a take needs a table slot, and none is left */
 };
 
 /* Writes zeros into every bucket, whatever was there. */

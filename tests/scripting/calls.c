@@ -57,17 +57,21 @@ static void combine(sum *call, struct given given) {
               counts_of(&other->counts), other->counts.length, other->idsums.room, other->idsums.length, &place));
 }
 
-static const char *const endings[] = {
-    [GABUNLITIK_ENDED_CLEAN] = "clean",
-    [GABUNLITIK_ENDED_STUCK] = "stuck",
-    [GABUNLITIK_ENDED_SPENT] = "spent",
-    [GABUNLITIK_ENDED_NO_INVERSE] = "no inverse",
-    [GABUNLITIK_ENDED_RANGE] = "range",
-    [GABUNLITIK_ENDED_FULL] = "full",
-};
-
 static const char *ending_of(int64_t ending) {
-    return ending >= GABUNLITIK_ENDED_CLEAN && ending <= GABUNLITIK_ENDED_FULL ? endings[ending] : "unknown";
+    switch (ending) {
+    case GABUNLITIK_ENDED_CLEAN:
+        return "clean";
+    case GABUNLITIK_ENDED_STUCK:
+        return "stuck";
+    case GABUNLITIK_ENDED_SPENT:
+        return "spent";
+    case GABUNLITIK_ENDED_RANGE:
+        return "range";
+    case GABUNLITIK_ENDED_FULL:
+        return "full";
+    default:
+        return "unknown";
+    }
 }
 
 static void peel(struct given given) {

@@ -114,7 +114,6 @@ fn ending_number(ending: Ending) -> u32
         Ending::Clean => 1,
         Ending::Stuck => 2,
         Ending::Spent => 3,
-        Ending::NoInverse => 4,
         Ending::Range => 5,
         Ending::Full => 6,
     }

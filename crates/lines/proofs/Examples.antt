@@ -2,7 +2,7 @@
 use mathlib.Core.Path.{_≡_, refl}
 use lib.IntN.{pos, negsuc}
 use Rattle.params.specs.declared.answers.Refusal.the-variants.{Form}
-use Rattle.walk.specs.declared.Ending.the-variants.{Clean, NoInverse}
+use Rattle.walk.specs.declared.Ending.the-variants.{Clean, Full}
 use Rattle.walk.specs.Ascii.{ascii}
 use Rattle.lines.specs.Decimal.{digits, decimal, signedDecimal}
 use Rattle.lines.specs.Lines.{lossLine, leftLine, endLine, refusedLine}
@@ -41,9 +41,9 @@ clean-end : endLine Clean 3 (pos 3) ≡ ascii "end clean pops 3 net 3\n"
 unfolding endLine digits
 clean-end = refl
 
-no-inverse-end : endLine NoInverse 0 (negsuc 1) ≡ ascii "end no inverse pops 0 net -2\n"
+full-end : endLine Full 0 (negsuc 1) ≡ ascii "end full pops 0 net -2\n"
 unfolding endLine digits
-no-inverse-end = refl
+full-end = refl
 
 refused-at-131 : refusedLine Form 131 ≡ ascii "refused 8 at 131\n"
 unfolding refusedLine digits

@@ -9,7 +9,7 @@ use lib.ListN.{length, set, length-append}
 use Rattle.files.specs.Bytes.{overwritten}
 use Rattle.files.proofs.Overwriting.{overwritten-store, overwritten-next}
 use Rattle.walk.specs.declared.Ending.{Ending}
-use Rattle.walk.specs.declared.Ending.the-variants.{Clean, Stuck, Spent, NoInverse, Range, Full}
+use Rattle.walk.specs.declared.Ending.the-variants.{Clean, Stuck, Spent, Range, Full}
 use Rattle.walk.specs.Endings.{endingWord}
 use Rattle.lines.specs.Texts.{TextWritten}
 use Rattle.lines.specs.Lines.{lineFits, Lined}
@@ -53,10 +53,9 @@ pub not-lined : (xs line : List ℕ) → length xs < 64 → Lined (lineFits xs) 
 not-lined xs line h = not-written xs line (lt-leb 64 (length xs) h)
 
 -- the longest word of an ending
-pub length-ending : (e : Ending) → length (endingWord e) ≤ 10
+pub length-ending : (e : Ending) → length (endingWord e) ≤ 5
 length-ending Clean = omega arith
 length-ending Stuck = omega arith
 length-ending Spent = omega arith
-length-ending NoInverse = omega arith
 length-ending Range = omega arith
 length-ending Full = omega arith

@@ -66,14 +66,13 @@ pub(crate) fn put_named_signed(out: &mut [u8], at: usize, word: &[u8], z: i64) -
 
 // Writes the word of an ending.
 pub(crate) fn put_ending(out: &mut [u8], at: usize, ending: Ending) -> usize
-    requires { ⌜ at + 10 ≤ length (now out) ⌝ }
+    requires { ⌜ at + 5 ≤ length (now out) ⌝ }
     ensures { λ r. ⌜ TextWritten (endingWord ending) (now (out .entry)) at r (now (out .exit)) ⌝ }
 {
     match ending {
         Ending::Clean => put(out, at, b"clean"),
         Ending::Stuck => put(out, at, b"stuck"),
         Ending::Spent => put(out, at, b"spent"),
-        Ending::NoInverse => put(out, at, b"no inverse"),
         Ending::Range => put(out, at, b"range"),
         Ending::Full => put(out, at, b"full"),
     }

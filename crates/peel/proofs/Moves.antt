@@ -7,18 +7,14 @@ use native.Mathlib.Omega.{arith}
 use lib.IntN.{ℤ}
 use Rattle.sketch.specs.Sketch.{sketch, countIn, idsumIn}
 use Rattle.walk.specs.declared.Ending.{Ending}
-use Rattle.walk.specs.declared.Ending.the-variants.{Clean, Stuck, Spent, NoInverse, Range, Full}
-use Rattle.walk.specs.declared.Found.the-variants.{Undefined, Impure, Pure}
+use Rattle.walk.specs.declared.Ending.the-variants.{Clean, Stuck, Spent, Range, Full}
+use Rattle.walk.specs.declared.Found.the-variants.{Impure, Pure}
 use Rattle.walk.specs.Walk.{Rule, State, stops, goes, out, queued, join, nothingRemains, requeue, inRange, hasRoom, taken, takes, follows, popped, before, after, run}
 use Rattle.buckets.specs.Buckets.{isZero}
 
 module _ (R : Rule) (slots : ℕ) where
   -- the moves
   module _ (k : ℕ) (st : State) where
-    pub popped-no-inverse : R .test k (countIn (st .held) k) (idsumIn (st .held) k) ≡ Undefined → popped R slots k st ≡ stops NoInverse
-    unfolding popped follows
-    popped-no-inverse e = rw e
-
     pub popped-impure : R .test k (countIn (st .held) k) (idsumIn (st .held) k) ≡ Impure → popped R slots k st ≡ goes st
     unfolding popped follows
     popped-impure e = rw e

@@ -21,13 +21,14 @@ use Rattle.sketch.specs.Sketch.{Sketch, Entry, by, countIn, idsumIn, sketchOf}
 use Rattle.sums.specs.Sums.{combined}
 use Rattle.sketch.proofs.Tables.{getD-from}
 use Rattle.walk.specs.Endings.{endingNumber}
-use Rattle.walk.specs.Walk.{Outcome, closedTable, netFigure}
+use Rattle.walk.specs.Walk.{Outcome, walk, closedTable, netFigure}
 use Rattle.walk.specs.Purity.{pureTest, foundNumber}
-use Rattle.walk.proofs.Numbers.{pure-by-number}
+use Rattle.walk.proofs.Numbers.{pure-by-number, never-four as no-ending-four}
 use Rattle.walk.proofs.Promises as walks
-use Rattle.walk.proofs.Promises.{Whole, Nothing}
+use Rattle.walk.proofs.Promises.{Whole, Nothing, scopeRule}
 use Rattle.params.proofs.Judging.{number-some}
 use Rattle.peel.specs.declared.peeling.Peeled.{Peeled}
+use Rattle.peel.specs.declared.peeling.Peeled.the-variants.{Ended, Refused as NotPeeled}
 use Rattle.peel.specs.Slices.{Slices, lentSketch}
 use Rattle.peel.specs.Table.{row, tableOf}
 use Rattle.peel.specs.Peel.{peeledOf, peeledNumber, peeledIndex, peeledEnding, peeledPops, peeledNet, peeledEntries, flowsOf, numbersOf, padded, closedSlices, judged, walked, Peels}
@@ -54,6 +55,11 @@ refusal-keeps (Refused w k) old new n = refl
 done-alters : {A : Type 0} (x : Answer) (old new : A) → x ≡ Done → kept x old new ≡ new
 unfolding kept
 done-alters x old new e = rw e
+
+-- no answer of peeling has the ending 4
+pub never-four : (r : Peeled) → peeledEnding r ≡ 4 → ⊥
+never-four (Ended g) e = no-ending-four (g .ending) e
+never-four (NotPeeled w k) e = omega arith
 
 -- h is what the contract of `peel` gives: L is what was lent, L' what it holds after
 module _ {P : Params} {a : ℕ} {L : Slices} {r : Peeled} {L' : Slices} (h : Peels P a L r L') where
@@ -121,6 +127,12 @@ module _ {P : Params} {a : ℕ} {L : Slices} {r : Peeled} {L' : Slices} (h : Pee
     pub sound-input : Whole P S
     sound-input = judged-whole P L done
 
+    -- what is returned and what the slices hold are those of the walk as the scope has it
+    pub as-in-scope : let x = walk (scopeRule P) (length (L .flows)) a S in (r ≡ peeledOf Done x) × (L' ≡ closedSlices P x L)
+    as-in-scope =
+        let same = walks.as-in-scope P (length (L .flows)) a S sound-input in
+        (answer-is ∙ ap (peeledOf Done) same, after-is ∙ ap (λ (x : Outcome). closedSlices P x L) same)
+
     -- the table's sketch, added to the remainder, is the input
     pub balance : combined false S' (sketchOf P listed) ≡ S
     balance = rw (remainder-is, listed-is) (walks.balance P (length (L .flows)) a S sound-input)
@@ -153,10 +165,6 @@ module _ {P : Params} {a : ℕ} {L : Slices} {r : Peeled} {L' : Slices} (h : Pee
     stuck-stands e k l d =
         subst (λ (T : Sketch). stands P (flow (primeOf P) (countIn T k) (idsumIn T k)) k ≡ false) (sym remainder-is)
         (walks.stuck-stands P (length (L .flows)) a S sound-input (sym ending-is ∙ e) k l (λ z. d (ap (λ (T : Sketch). countIn T k) remainder-is ∙ z)))
-
-    -- the end is never no inverse
-    pub no-inverse-never : peeledEnding r ≡ 4 → ⊥
-    no-inverse-never e = walks.no-inverse-never P (length (L .flows)) a S sound-input (sym ending-is ∙ e)
 
     -- never more pops than allowed, and all of them where the end is spent
     pops-are : peeledPops r ≡ o .pops

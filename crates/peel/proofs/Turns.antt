@@ -14,8 +14,8 @@ use Rattle.params.specs.Lists.{from}
 use Rattle.params.specs.Positions.{Positioned}
 use Rattle.buckets.specs.Buckets.{inLimits}
 use Rattle.walk.specs.declared.Ending.{Ending}
-use Rattle.walk.specs.declared.Ending.the-variants.{Clean, Stuck, Spent, NoInverse, Range, Full}
-use Rattle.walk.specs.declared.Found.the-variants.{Undefined, Impure, Pure}
+use Rattle.walk.specs.declared.Ending.the-variants.{Clean, Stuck, Spent, Range, Full}
+use Rattle.walk.specs.declared.Found.the-variants.{Impure, Pure}
 use Rattle.walk.specs.Walk.{State, Outcome, out, stops, goes, nothingRemains, entryOf, taken, popped, run}
 use Rattle.walk.specs.Purity.{pureTest, ruleOf}
 use Rattle.peel.specs.declared.take.Taken.{Taken}
@@ -27,7 +27,7 @@ use Rattle.peel.specs.Rep.{stateOf, Holds, fitsAt, Takes, Took}
 use Rattle.peel.proofs.Chains.{chains-kept}
 use Rattle.peel.proofs.Entries.{table-held, table-new, table-room, table-full}
 use Rattle.peel.proofs.Nonzero.{nonzero-none, nonzero-some}
-use Rattle.peel.proofs.Moves.{popped-no-inverse, popped-impure, popped-pure, takes-range, takes-full, takes-goes, run-clean, run-stuck, run-spent, run-stops, run-goes}
+use Rattle.peel.proofs.Moves.{popped-impure, popped-pure, takes-range, takes-full, takes-goes, run-clean, run-stuck, run-spent, run-stops, run-goes}
 use Rattle.peel.proofs.RangeLoop.{leaves-count, entry-decides}
 
 -- the ring's list where none waits, and where some do
@@ -125,9 +125,6 @@ module _ {P : Params} {slots allowance : ℕ} {goal : Outcome} {L : Slices} {hea
           ap (λ (n : ℕ). run (ruleOf P) slots (allowance - (pops + 1)) n st) (add-one pops)
           ∙ (sym (run-goes (ruleOf P) slots pops k _ here remains (p .list) (allowance - (pops + 1)) st m)
           ∙ rw one-more at (v .runs))
-
-      pub no-inverse : pureTest P k c s ≡ Undefined → out NoInverse (pops + 1) next ≡ goal
-      no-inverse e = stop NoInverse (popped-no-inverse (ruleOf P) slots k next e)
 
       pub impure : pureTest P k c s ≡ Impure → Inv P slots allowance goal (withMarks ms L) next-head (waiting - 1) nonzero entries (pops + 1)
       impure e =

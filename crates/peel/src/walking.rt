@@ -69,9 +69,6 @@ fn walk(
         let s = idsums[k];
         let found = walk::test(p, k, c, s);
         match found {
-            Found::Undefined => {
-                break Ending::NoInverse;
-            }
             Found::Impure => {}
             Found::Pure(f) => {
                 p.positions(f, &mut ks);

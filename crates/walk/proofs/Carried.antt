@@ -7,9 +7,9 @@ use lib.Dec.{eqb}
 use borrow.Author.Tests.{eqb-false}
 use Rattle.sketch.specs.Sketch.{Sketch, countIn, idsumIn}
 use Rattle.walk.specs.declared.Ending.{Ending}
-use Rattle.walk.specs.declared.Ending.the-variants.{Clean, Stuck, Spent, NoInverse, Range, Full}
+use Rattle.walk.specs.declared.Ending.the-variants.{Clean, Stuck, Spent, Range, Full}
 use Rattle.walk.specs.declared.Found.{Found}
-use Rattle.walk.specs.declared.Found.the-variants.{Undefined, Impure, Pure}
+use Rattle.walk.specs.declared.Found.the-variants.{Impure, Pure}
 use Rattle.walk.specs.Endings.{endingNumber}
 use Rattle.walk.specs.Walk.{Rule, State, Move, stops, goes, Outcome, out, queued, nothingRemains, inRange, hasRoom, taken, takes, follows, popped, before, after, run}
 
@@ -17,16 +17,11 @@ use Rattle.walk.specs.Walk.{Rule, State, Move, stops, goes, Outcome, out
 abbrev pub found : Rule → ℕ → Sketch → Found
 found R k S = R .test k (countIn S k) (idsumIn S k)
 
--- a bucket has a count with no inverse
-abbrev pub Lacking : Rule → Sketch → Type 0
-Lacking R S = (k : ℕ) × (found R k S ≡ Undefined)
-
--- an ending at a state: clean where nothing remains and only there, stuck only where no bucket waits, no inverse only where a count has none
-pub record Ended (R : Rule) (e : Ending) (st : State) : Type 0 where
+-- an ending at a state: clean where nothing remains and only there, stuck only where no bucket waits
+pub record Ended (e : Ending) (st : State) : Type 0 where
   pub clean : e ≡ Clean → nothingRemains (st .held) ≡ true
   pub nothing : nothingRemains (st .held) ≡ true → e ≡ Clean
   pub stuck : e ≡ Stuck → st .queue ≡ []
-  pub no-inverse : e ≡ NoInverse → Lacking R (st .held)
 
 -- bucket k is pure with flow f, and the take is within the range and the slots
 pub record Takeable (R : Rule) (slots k f : ℕ) (st : State) : Type 0 where
@@ -49,9 +44,8 @@ pub record NoSlot (R : Rule) (slots k f : ℕ) (st : State) : Type 0 where
   pub range : inRange R f (countIn (st .held) k) st ≡ true
   pub room : hasRoom slots f (st .table) ≡ false
 
--- endings 4 to 6, at the pop of bucket k that leaves the state st
+-- range and full, at the pop of bucket k that leaves the state st
 pub data AtPop (R : Rule) (slots k : ℕ) (st : State) : Ending → Type 0 where
-  lacks : found R k (st .held) ≡ Undefined → AtPop R slots k st NoInverse
   out-of-range : (f : ℕ) → OutOfRange R k f st → AtPop R slots k st Range
   table-full : (f : ℕ) → NoSlot R slots k f st → AtPop R slots k st Full
 
@@ -64,19 +58,17 @@ Keeps R slots k st K (goes st') = K st'
 pub apart : (e x : Ending) → eqb (endingNumber e) (endingNumber x) ≡ false → e ≡ x → ⊥
 apart e x h p = eqb-false _ _ h (ap endingNumber p)
 
-clean-end : (R : Rule) (st : State) → nothingRemains (st .held) ≡ true → Ended R Clean st
-clean-end R st h =
-    record { clean = λ x. h; nothing = λ x. refl; stuck = λ x. absurd (apart Clean Stuck refl x); no-inverse = λ x. absurd (apart Clean NoInverse refl x) }
+clean-end : (st : State) → nothingRemains (st .held) ≡ true → Ended Clean st
+clean-end st h = record { clean = λ x. h; nothing = λ x. refl; stuck = λ x. absurd (apart Clean Stuck refl x) }
 
 -- an ending other than clean, where something remains
-other-end : (R : Rule) (e : Ending) (st : State) → (e ≡ Clean → ⊥) → (e ≡ Stuck → st .queue ≡ []) → (e ≡ NoInverse → Lacking R (st .held)) → nothingRemains (st .held) ≡ false → Ended R e st
-other-end R e st c s l h = record { clean = λ x. absurd (c x); nothing = λ x. absurd (true≢false (sym x ∙ h)); stuck = s; no-inverse = l }
+other-end : (e : Ending) (st : State) → (e ≡ Clean → ⊥) → (e ≡ Stuck → st .queue ≡ []) → nothingRemains (st .held) ≡ false → Ended e st
+other-end e st c s h = record { clean = λ x. absurd (c x); nothing = λ x. absurd (true≢false (sym x ∙ h)); stuck = s }
 
 -- the pop took k from the queue, and left q of it
-pop-end : (R : Rule) (slots k : ℕ) (q : List ℕ) (e : Ending) (st : State) → AtPop R slots k (queued st q) e → nothingRemains (st .held) ≡ false → Ended R e st
-pop-end R slots k q e st (lacks l) h = other-end R NoInverse st (apart NoInverse Clean refl) (λ x. absurd (apart NoInverse Stuck refl x)) (λ x. (k, l)) h
-pop-end R slots k q e st (out-of-range f o) h = other-end R Range st (apart Range Clean refl) (λ x. absurd (apart Range Stuck refl x)) (λ x. absurd (apart Range NoInverse refl x)) h
-pop-end R slots k q e st (table-full f o) h = other-end R Full st (apart Full Clean refl) (λ x. absurd (apart Full Stuck refl x)) (λ x. absurd (apart Full NoInverse refl x)) h
+pop-end : (R : Rule) (slots k : ℕ) (q : List ℕ) (e : Ending) (st : State) → AtPop R slots k (queued st q) e → nothingRemains (st .held) ≡ false → Ended e st
+pop-end R slots k q e st (out-of-range f o) h = other-end Range st (apart Range Clean refl) (λ x. absurd (apart Range Stuck refl x)) h
+pop-end R slots k q e st (table-full f o) h = other-end Full st (apart Full Clean refl) (λ x. absurd (apart Full Stuck refl x)) h
 
 module _ (R : Rule) (slots : ℕ) where
   -- a move keeps K where an impure pop and a take do
@@ -92,20 +84,19 @@ module _ (R : Rule) (slots : ℕ) where
     pop-keeps k st i t = go (found R k (st .held)) refl
       where
         go : (w : Found) → found R k (st .held) ≡ w → Keeps R slots k st K (follows R slots (countIn (st .held) k) (idsumIn (st .held) k) st w)
-        go Undefined e = lacks e
         go Impure e = i e
         go (Pure f) e = chosen k f st _ _ refl refl e (t f)
 
   module _ (K : State → Type 0) (O : Outcome → Type 0)
-      (ends : (e : Ending) (n : ℕ) (st : State) → K st → Ended R e st → O (out e n st))
+      (ends : (e : Ending) (n : ℕ) (st : State) → K st → Ended e st → O (out e n st))
       (goes-on : (k : ℕ) (q : List ℕ) (st : State) → K st → st .queue ≡ k ∷ q → found R k (st .held) ≡ Impure → K (queued st q))
       (takes-on : (k f : ℕ) (q : List ℕ) (st : State) → K st → st .queue ≡ k ∷ q → Takeable R slots k f (queued st q) → K (takenAt R k f (queued st q))) where
     -- the tests before a pop
     tested : (b : Bool) (q : List ℕ) (n : ℕ) (st : State) (pop : ℕ → List ℕ → Outcome) → K st → nothingRemains (st .held) ≡ b → st .queue ≡ q
         → ((k : ℕ) (r : List ℕ) → nothingRemains (st .held) ≡ false → st .queue ≡ k ∷ r → O (pop k r)) → O (before b q n st pop)
     unfolding before
-    tested true q n st pop h l e f = ends Clean n st h (clean-end R st l)
-    tested false [] n st pop h l e f = ends Stuck n st h (other-end R Stuck st (apart Stuck Clean refl) (λ x. e) (λ x. absurd (apart Stuck NoInverse refl x)) l)
+    tested true q n st pop h l e f = ends Clean n st h (clean-end st l)
+    tested false [] n st pop h l e f = ends Stuck n st h (other-end Stuck st (apart Stuck Clean refl) (λ x. e) l)
     tested false (k ∷ q) n st pop h l e f = f k q l e
 
     moved : (m : Move) (k : ℕ) (q : List ℕ) (n : ℕ) (st : State) (next : State → Outcome) → K st → nothingRemains (st .held) ≡ false → Keeps R slots k (queued st q) K m → ((st' : State) → K st' → O (next st')) → O (after m n st next)
@@ -117,7 +108,7 @@ module _ (R : Rule) (slots : ℕ) where
     unfolding run
     carried zero n st h =
         tested (nothingRemains (st .held)) (st .queue) n st _ h refl refl
-        (λ k q l e. ends Spent n st h (other-end R Spent st (apart Spent Clean refl) (λ x. absurd (apart Spent Stuck refl x)) (λ x. absurd (apart Spent NoInverse refl x)) l))
+        (λ k q l e. ends Spent n st h (other-end Spent st (apart Spent Clean refl) (λ x. absurd (apart Spent Stuck refl x)) l))
     carried (suc a) n st h =
         tested (nothingRemains (st .held)) (st .queue) n st _ h refl refl
         (λ k q l e.

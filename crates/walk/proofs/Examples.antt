@@ -1,4 +1,4 @@
--- The examples E1 to E10 of the bench as one table, under a single theorem, `all-right`: the checker works every line out by the definitions.
+-- The examples E1 to E10 of the bench and the edges of the purity test as one table, under a single theorem, `all-right`: the checker works every line out by the definitions.
 use mathlib.Core.Path.{_≡_, refl}
 use mathlib.Core.Bool.{false}
 use mathlib.Core.List.{List, [], _∷_, map}
@@ -162,6 +162,11 @@ examples =
     ∷ (peeling S1 10 0 gives ends 3 0 (pos 0) [] S1)
     -- E10
     ∷ (peeling S1 0 80 gives ends 6 2 (pos 0) [] S1)
+    -- counts that are multiples of the prime, the second outside the limits; the greatest and the least within them
+    ∷ (test-of 2 (pos 0) 7 gives finds 0 Impure)
+    ∷ (test-of 2 (negsuc 2147483646) 7 gives finds 0 Impure)
+    ∷ (test-of 1 (pos 2147483646) 1 gives finds 2147483646 (Pure 2147483646))
+    ∷ (test-of 1 (negsuc 2147483645) 1 gives finds 1 (Pure 1))
     ∷ []
 
 -- every line of the table is right, and the walk of E3 goes on without end: it is spent whatever it is allowed

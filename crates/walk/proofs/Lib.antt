@@ -7,12 +7,12 @@ pub mod Credits
 pub mod Entries
 pub mod Carried
 pub mod Clean
-pub mod NoInverse
 pub mod Pops
 pub mod Balance
 pub mod Rebuilt
 pub mod Stuck
 pub mod Remainder
+pub mod Retested
 pub mod TableFacts
 pub mod Purity
 pub mod Narrowed

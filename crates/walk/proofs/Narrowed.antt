@@ -5,14 +5,13 @@ use Prim.Native.Nat.{ℕ}
 use native.Mathlib.Omega.{arith}
 use lib.IntN.{ℤ}
 use Rattle.walk.specs.declared.Found.{Found}
-use Rattle.walk.specs.declared.Found.the-variants.{Undefined, Impure, Pure}
+use Rattle.walk.specs.declared.Found.the-variants.{Impure, Pure}
 use Rattle.walk.specs.Walk.{Rule}
 use Rattle.walk.specs.Narrowed.{onlyIf, narrowed}
 use Rattle.walk.proofs.Balance.{Sound}
 use Rattle.walk.proofs.Stuck.{ByArrays}
 
 only-if-pure : (ok : ℕ → Bool) (w : Found) (f : ℕ) → onlyIf ok w ≡ Pure f → w ≡ Pure f
-only-if-pure ok Undefined f e = absurd (let z : _≡_ {A = ℕ} 0 1 = cc in omega arith)
 only-if-pure ok Impure f e = absurd (let z : _≡_ {A = ℕ} 0 1 = cc in omega arith)
 only-if-pure ok (Pure g) f e = go (ok g) e
   where
@@ -21,7 +20,6 @@ only-if-pure ok (Pure g) f e = go (ok g) e
     go false x = absurd (let z : _≡_ {A = ℕ} 0 1 = cc in omega arith)
 
 only-if-passes : (ok : ℕ → Bool) (w : Found) (f : ℕ) → onlyIf ok w ≡ Pure f → ok f ≡ true
-only-if-passes ok Undefined f e = absurd (let z : _≡_ {A = ℕ} 0 1 = cc in omega arith)
 only-if-passes ok Impure f e = absurd (let z : _≡_ {A = ℕ} 0 1 = cc in omega arith)
 only-if-passes ok (Pure g) f e = go (ok g) refl e
   where

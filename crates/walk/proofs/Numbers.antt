@@ -5,37 +5,39 @@ use Prim.Native.Nat.{ℕ}
 use native.Mathlib.Omega.{arith}
 use lib.ListN.{getD}
 use Rattle.walk.specs.declared.Ending.{Ending}
-use Rattle.walk.specs.declared.Ending.the-variants.{Clean, Stuck, Spent, NoInverse, Range, Full}
+use Rattle.walk.specs.declared.Ending.the-variants.{Clean, Stuck, Spent, Range, Full}
 use Rattle.walk.specs.declared.Found.{Found}
-use Rattle.walk.specs.declared.Found.the-variants.{Undefined, Impure, Pure}
+use Rattle.walk.specs.declared.Found.the-variants.{Impure, Pure}
 use Rattle.walk.specs.Endings.{endingNumber}
 use Rattle.walk.specs.Purity.{foundNumber, foundFlow}
 
--- the ending with that number; any one for 0 and for those above 6
+-- the ending with that number; any one for 0, for 4 and for those above 6
 abbrev numbered : ℕ → Ending
-numbered n = getD (Clean ∷ Clean ∷ Stuck ∷ Spent ∷ NoInverse ∷ Range ∷ Full ∷ []) n Clean
+numbered n = getD (Clean ∷ Clean ∷ Stuck ∷ Spent ∷ Clean ∷ Range ∷ Full ∷ []) n Clean
 
 number-back : (e : Ending) → numbered (endingNumber e) ≡ e
 number-back Clean = refl
 number-back Stuck = refl
 number-back Spent = refl
-number-back NoInverse = refl
 number-back Range = refl
 number-back Full = refl
 
 pub ending-by-number : (e x : Ending) → endingNumber e ≡ endingNumber x → e ≡ x
 ending-by-number e x h = sym (number-back e) ∙ ap numbered h ∙ number-back x
 
+-- 4 is given at no ending
+pub never-four : (e : Ending) → endingNumber e ≡ 4 → ⊥
+never-four Clean h = omega arith
+never-four Stuck h = omega arith
+never-four Spent h = omega arith
+never-four Range h = omega arith
+never-four Full h = omega arith
+
 pub found-by-number : (x y : Found) → foundNumber x ≡ foundNumber y → foundFlow x ≡ foundFlow y → x ≡ y
 found-by-number Impure Impure e h = refl
 found-by-number Impure (Pure f) e h = absurd (omega arith)
-found-by-number Impure Undefined e h = absurd (omega arith)
 found-by-number (Pure f) Impure e h = absurd (omega arith)
 found-by-number (Pure f) (Pure g) e h = ap (λ (n : ℕ). Pure n) h
-found-by-number (Pure f) Undefined e h = absurd (omega arith)
-found-by-number Undefined Impure e h = absurd (omega arith)
-found-by-number Undefined (Pure f) e h = absurd (omega arith)
-found-by-number Undefined Undefined e h = refl
 
 -- with the number 1 it is the flow
 pub pure-by-number : (x : Found) → foundNumber x ≡ 1 → x ≡ Pure (foundFlow x)

@@ -6,9 +6,9 @@ use Prim.Native.Nat.{ℕ, zero, suc, _+_, _≤_}
 use native.Mathlib.Omega.{arith}
 use Rattle.sketch.specs.Sketch.{Sketch}
 use Rattle.walk.specs.declared.Ending.{Ending}
-use Rattle.walk.specs.declared.Ending.the-variants.{Clean, Stuck, Spent, NoInverse, Range, Full}
+use Rattle.walk.specs.declared.Ending.the-variants.{Clean, Stuck, Spent, Range, Full}
 use Rattle.walk.specs.Walk.{Rule, State, Move, stops, goes, Outcome, out, queued, nothingRemains, popped, before, after, run, walk}
-use Rattle.walk.proofs.Carried.{AtPop, lacks, out-of-range, table-full, Keeps, pop-keeps, apart}
+use Rattle.walk.proofs.Carried.{AtPop, out-of-range, table-full, Keeps, pop-keeps, apart}
 
 -- all pops: those made before, and those allowed
 pub record Made (all : ℕ) (o : Outcome) : Type 0 where
@@ -16,7 +16,6 @@ pub record Made (all : ℕ) (o : Outcome) : Type 0 where
   pub spent : o .ending ≡ Spent → o .pops ≡ all
 
 at-pop : (R : Rule) (slots k : ℕ) (st : State) (e : Ending) → AtPop R slots k st e → e ≡ Spent → ⊥
-at-pop R slots k st e (lacks l) = apart NoInverse Spent refl
 at-pop R slots k st e (out-of-range f o) = apart Range Spent refl
 at-pop R slots k st e (table-full f o) = apart Full Spent refl
 

@@ -19,22 +19,22 @@ use Rattle.sketch.specs.Sketch.{Sketch, countIn, idsumIn, damagedAt, Entry, by,
 use Rattle.sums.specs.Sums.{combined}
 use Rattle.buckets.proofs.Idsums.{prime-pos}
 use Rattle.buckets.proofs.Limits.{limits-size, whole, whole-back}
-use Rattle.walk.specs.declared.Ending.the-variants.{Clean, Stuck, Spent, NoInverse}
+use Rattle.walk.specs.declared.Ending.the-variants.{Clean, Stuck, Spent}
 use Rattle.walk.specs.declared.Found.the-variants.{Pure}
 use Rattle.walk.specs.Endings.{endingNumber}
-use Rattle.walk.specs.Walk.{Outcome, nothingRemains, walk, closedTable, netFigure, netOf}
+use Rattle.walk.specs.Walk.{Rule, Outcome, nothingRemains, walk, closedTable, netFigure, netOf}
 use Rattle.buckets.specs.Buckets.{isZero}
 use Rattle.walk.specs.Purity.{pureTest, ruleOf}
 use Rattle.walk.proofs.Numbers.{ending-by-number}
-use Rattle.buckets.proofs.Zeros.{is-zero}
+use Rattle.buckets.proofs.Zeros.{is-zero, not-zero}
 use Rattle.walk.proofs.Alls.{all-at, nothing-count, nothing-idsum, all-zero}
 use Rattle.walk.proofs.Balance.{Balanced, balanced, balanced-closed}
 use Rattle.walk.proofs.Rebuilt.{rebuilt, rebuilt-alone}
-use Rattle.walk.proofs.Purity.{sound, by-arrays, has-inverse, flow-pure, nonzero-residue}
+use Rattle.walk.proofs.Purity.{scopeTest, sound, by-arrays, test-within}
 use Rattle.walk.proofs.Stuck.{stuck-only as none-passes}
-use Rattle.walk.proofs.Remainder.{within}
+use Rattle.walk.proofs.Remainder.{Within, within}
+use Rattle.walk.proofs.Retested.{retested, same-walk}
 use Rattle.walk.proofs.Clean.{cleanly}
-use Rattle.walk.proofs.NoInverse.{no-inverse-only}
 use Rattle.walk.proofs.Pops.{made}
 use Rattle.walk.proofs.Entries.{all-close, close-nonzero, close-fewer, once-close, once-at}
 use Rattle.walk.proofs.Credits.{net-close as same-net}
@@ -54,11 +54,12 @@ idsum-below : (P : Params) (S : Sketch) → Whole P S → (k : ℕ) → Dec (k <
 idsum-below P S w k (yes l) = whole (countIn S k) (idsumIn S k) (w .undamaged k (omega (arith, w .idsums-long))) .1
 idsum-below P S w k (no l) = rw (List·getD-eq-default (S .idsums) 0 {n = k} (omega arith)) prime-pos
 
-count-below : (P : Params) (S : Sketch) → Whole P S → (k : ℕ) → Dec (k < length (S .counts)) → natAbs (countIn S k) < primeOf P
-count-below P S w k (yes l) =
-    let i = limits-size (countIn S k) (whole (countIn S k) (idsumIn S k) (w .undamaged k (omega (arith, w .counts-long))) .0) in
-    omega arith
-count-below P S w k (no l) = rw (List·getD-eq-default (S .counts) (pos 0) {n = k} (omega arith)) prime-pos
+counts-within : (P : Params) (S : Sketch) → Whole P S → Within (ruleOf P) (size P) (by-arrays P) S
+counts-within P S w = record { long = w .counts-long; limits = λ k l. whole (countIn S k) (idsumIn S k) (w .undamaged k l) .0 }
+
+-- the rule of P with its test in the scope's words
+abbrev pub scopeRule : Params → Rule
+scopeRule P = retested (ruleOf P) (scopeTest (primeOf P) (stands P))
 
 module _ (P : Params) (slots allowance : ℕ) (S : Sketch) where
   -- the walk's outcome, and its table after the close
@@ -67,6 +68,11 @@ module _ (P : Params) (slots allowance : ℕ) (S : Sketch) where
 
   abbrev pub listed : List Entry
   listed = closedTable outcome
+
+  -- it is that of the walk as the scope has it
+  pub as-in-scope : Whole P S → outcome ≡ walk (scopeRule P) slots allowance S
+  as-in-scope w =
+      same-walk (ruleOf P) (scopeTest (primeOf P) (stands P)) (λ k c s. test-within (primeOf P) (stands P) k c s (omega arith)) (size P) (by-arrays P) slots allowance S (counts-within P S w)
 
   in-balance : Whole P S → Balanced (ruleOf P) S (outcome .remainder) listed
   in-balance w = balanced-closed (balanced (ruleOf P) (sound P) S slots allowance (λ k. idsum-below P S w k (decLt k (length (S .idsums)))))
@@ -87,7 +93,7 @@ module _ (P : Params) (slots allowance : ℕ) (S : Sketch) where
   pub remainder-whole : Whole P S → Whole P (outcome .remainder)
   remainder-whole w =
       let b = in-balance w in
-      let c = within (ruleOf P) (size P) (by-arrays P) slots allowance S (record { long = w .counts-long; limits = λ k l. whole (countIn S k) (idsumIn S k) (w .undamaged k l) .0 }) in
+      let c = within (ruleOf P) (size P) (by-arrays P) slots allowance S (counts-within P S w) in
       record {
         counts-long = c .long;
         idsums-long = b .idsums-long ∙ w .idsums-long;
@@ -122,15 +128,8 @@ module _ (P : Params) (slots allowance : ℕ) (S : Sketch) where
       go : (b : Bool) → stands P (flow (primeOf P) c s) k ≡ b → b ≡ false
       go true h =
           let i = whole c s (remainder-whole w .undamaged k l) .0 in
-          absurd (stuck-only w e k (flow (primeOf P) c s) l (flow-pure (primeOf P) (stands P) k c s d (nonzero-residue P c d i) h))
+          absurd (stuck-only w e k (flow (primeOf P) c s) l (test-within (primeOf P) (stands P) k c s (omega arith) i ∙ rw (not-zero c d, h)))
       go false h = refl
-
-  -- the end is never no inverse: within the limits, every count other than 0 has one
-  pub no-inverse-never : Whole P S → endingNumber (outcome .ending) ≡ 4 → ⊥
-  no-inverse-never w e =
-      let n = no-inverse-only (ruleOf P) slots allowance S (ending-by-number (outcome .ending) NoInverse e) in
-      has-inverse (primeOf P) (stands P) (n .0) (countIn (outcome .remainder) (n .0)) (idsumIn (outcome .remainder) (n .0)) prime-pos
-      (count-below P (outcome .remainder) (remainder-whole w) (n .0) (decLt (n .0) (length (outcome .remainder .counts)))) (n .1)
 
   -- never more pops than allowed
   pub pops-within : outcome .pops ≤ allowance

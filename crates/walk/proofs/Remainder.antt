@@ -24,7 +24,7 @@ module _ (R : Rule) (size : ℕ) (by-arrays : ByArrays R) where
     pub long : length (S .counts) ≡ size
     pub limits : (k : ℕ) → k < size → inLimits (countIn S k) ≡ true
 
-  taken-keeps : (slots k f : ℕ) (st : State) → Within (st .held) → Takeable R slots k f st → Within (takenAt R k f st .held)
+  pub taken-keeps : (slots k f : ℕ) (st : State) → Within (st .held) → Takeable R slots k f st → Within (takenAt R k f st .held)
   unfolding taken
   taken-keeps slots k f st h t =
       record {

@@ -2,14 +2,14 @@
 use mathlib.Core.List.{List}
 use Prim.Native.Nat.{ℕ}
 use Rattle.walk.specs.declared.Ending.{Ending}
-use Rattle.walk.specs.declared.Ending.the-variants.{Clean, Stuck, Spent, NoInverse, Range, Full}
+use Rattle.walk.specs.declared.Ending.the-variants.{Clean, Stuck, Spent, Range, Full}
 use Rattle.walk.specs.Ascii.{ascii}
 
+-- no ending has the number 4
 abbrev pub endingNumber : Ending → ℕ
 endingNumber Clean = 1
 endingNumber Stuck = 2
 endingNumber Spent = 3
-endingNumber NoInverse = 4
 endingNumber Range = 5
 endingNumber Full = 6
 
@@ -18,6 +18,5 @@ abbrev pub endingWord : Ending → List ℕ
 endingWord Clean = ascii "clean"
 endingWord Stuck = ascii "stuck"
 endingWord Spent = ascii "spent"
-endingWord NoInverse = ascii "no inverse"
 endingWord Range = ascii "range"
 endingWord Full = ascii "full"

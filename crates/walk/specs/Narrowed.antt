@@ -2,12 +2,11 @@
 use mathlib.Core.Bool.{Bool, cond}
 use Prim.Native.Nat.{ℕ}
 use Rattle.walk.specs.declared.Found.{Found}
-use Rattle.walk.specs.declared.Found.the-variants.{Undefined, Impure, Pure}
+use Rattle.walk.specs.declared.Found.the-variants.{Impure, Pure}
 use Rattle.walk.specs.Walk.{Rule}
 
 -- only a flow that passes `ok` is pure
 abbrev pub onlyIf : (ℕ → Bool) → Found → Found
-onlyIf ok Undefined = Undefined
 onlyIf ok Impure = Impure
 onlyIf ok (Pure f) = cond (ok f) (Pure f) Impure
 

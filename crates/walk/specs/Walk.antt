@@ -10,9 +10,9 @@ use Rattle.params.specs.Lists.{below, touched}
 use Rattle.buckets.specs.Buckets.{inLimits, isZero}
 use Rattle.sketch.specs.Sketch.{Sketch, sketch, Entry, by, countIn, idsumIn}
 use Rattle.walk.specs.declared.Ending.{Ending}
-use Rattle.walk.specs.declared.Ending.the-variants.{Clean, Stuck, Spent, NoInverse, Range, Full}
+use Rattle.walk.specs.declared.Ending.the-variants.{Clean, Stuck, Spent, Range, Full}
 use Rattle.walk.specs.declared.Found.{Found}
-use Rattle.walk.specs.declared.Found.the-variants.{Undefined, Impure, Pure}
+use Rattle.walk.specs.declared.Found.the-variants.{Impure, Pure}
 
 -- what a walk goes by: the prime, the number of arrays, the index of a flow's bucket in array i (arrays count from 1), whether a flow
 -- stands in a bucket, and the test of bucket k with count c and idsum s
@@ -100,7 +100,6 @@ takes R slots f c s st =
 
 -- what the test found in a bucket with count c and idsum s
 unfoldable pub follows : Rule → ℕ → ℤ → ℕ → State → Found → Move
-follows R slots c s st Undefined = stops NoInverse
 follows R slots c s st Impure = goes st
 follows R slots c s st (Pure f) = takes R slots f c s st
 

@@ -10,28 +10,23 @@ pub enum Ending {
     Clean,
     Stuck,
     Spent,
-    NoInverse,
     Range,
     Full,
 }
 
-// What the test finds in a bucket: a count with no inverse, no pure bucket, or a flow.
+// What the test finds in a bucket: that it is not pure, or its flow.
 pub enum Found {
-    Undefined,
     Impure,
     Pure(u32),
 }
 
 // The purity test of bucket k with count c and idsum s. Where the dimensions break a rule, nothing is pure. The pairs are not
-// judged, and any count and idsum is taken.
+// judged, and any count and idsum is taken: a count that is a multiple of the prime is not pure, which within the limits is 0 alone.
 pub fn test(p: Params, k: usize, c: i32, s: u32) -> Found
     ensures { λ r. ⌜ r ≡ guardedTest p k c s ⌝ }
 {
-    if c == 0 {
-        return Found::Impure;
-    }
     if field::raise(PRIME, c) == 0 {
-        return Found::Undefined;
+        return Found::Impure;
     }
     let f = field::flow(PRIME, c, s);
     if p.stands(f, k) {

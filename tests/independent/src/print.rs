@@ -40,7 +40,6 @@ fn word(ending: &Ending) -> &'static str {
         Ending::Clean => "clean",
         Ending::Stuck => "stuck",
         Ending::Spent => "spent",
-        Ending::NoInverse => "no inverse",
         Ending::Range => "range",
         Ending::Full => "full",
     }

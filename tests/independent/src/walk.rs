@@ -1,4 +1,4 @@
-//! The walk: the purity test, the six endings, and the table of flows that the walk takes out of a sketch.
+//! The walk: the purity test, the five endings, and the table of flows that the walk takes out of a sketch.
 
 use crate::sketch::{Bucket, Params, Sketch, MOST, P};
 use std::collections::{HashMap, VecDeque};
@@ -7,7 +7,6 @@ pub enum Ending {
     Clean,
     Stuck,
     Spent,
-    NoInverse,
     Range,
     Full,
 }
@@ -49,9 +48,6 @@ pub fn walk(sketch: &mut Sketch, slots: usize, allowance: usize) -> Walked {
 
         // Read once: the popped bucket is among those that the take changes.
         let read = sketch.buckets[index];
-        if read.count != 0 && read.count % P == 0 {
-            break Ending::NoInverse;
-        }
         let Some(flow) = pure(&sketch.params, index, read) else {
             continue;
         };

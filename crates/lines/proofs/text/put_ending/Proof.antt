@@ -48,15 +48,6 @@ slice-aggregate-put-5 c = search needs
 put-requires-5 : tie.Need-put-requires-5
 put-requires-5 c κs = search needs
 
-enum-told-6 : tie.Need-enum-told-6
-enum-told-6 c = search needs
-
-slice-aggregate-put-6 : tie.Need-slice-aggregate-put-6
-slice-aggregate-put-6 c = search needs
-
-put-requires-6 : tie.Need-put-requires-6
-put-requires-6 c κs = search needs
-
 same-length : tie.Need-same-length
 same-length c = search needs
 
@@ -87,12 +78,6 @@ same-length-5 c = search needs
 returns-5 : tie.Need-returns-5
 returns-5 c = rw (c .before .before .before .before .before .enum-told5 .given .1) (c .before .before .put5 .ensures)
 
-same-length-6 : tie.Need-same-length-6
-same-length-6 c = search needs
-
-returns-6 : tie.Need-returns-6
-returns-6 c = rw (c .before .before .before .before .before .enum-told6 .given .1) (c .before .before .put6 .ensures)
-
 pub put-ending-spec : {M : Type 1} → statement M
 put-ending-spec =
     tie.close
@@ -112,9 +97,6 @@ put-ending-spec =
     enum-told-5
     slice-aggregate-put-5
     put-requires-5
-    enum-told-6
-    slice-aggregate-put-6
-    put-requires-6
     same-length
     returns
     same-length-2
@@ -124,6 +106,4 @@ put-ending-spec =
     same-length-4
     returns-4
     same-length-5
-    returns-5
-    same-length-6
-    returns-6)
+    returns-5)

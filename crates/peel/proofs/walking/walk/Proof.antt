@@ -274,9 +274,6 @@ test-requires c κs = search needs
 enum-told : tie.Need-enum-told Inv-loop μ-loop Inv-walk μ-walk
 enum-told c = search needs
 
-enum-told-2 : tie.Need-enum-told-2 Inv-loop μ-loop Inv-walk μ-walk
-enum-told-2 c = search needs
-
 walk-less : tie.Need-walk-less Inv-loop μ-loop Inv-walk μ-walk
 walk-less c = search needs
 
@@ -286,7 +283,7 @@ walk-again c =
     let p = pop-of t in
     let a = head-of p in
     let v = a .walk .inv .0 in (
-      rw (place-is t) (turn.impure v (unclean-of p) (popped-is p) (more-of p) (sym (test-is t) ∙ c .enum-told2 .given .1)),
+      rw (place-is t) (turn.impure v (unclean-of p) (popped-is p) (more-of p) (sym (test-is t) ∙ c .enum-told .given .1)),
       at-pop p,
       a .walk .inv .2,
     )
@@ -391,27 +388,21 @@ returns-3 c =
 
 returns-4 : tie.Need-returns-4 Inv-loop μ-loop Inv-walk μ-walk
 returns-4 c =
-    let t = c .before .before in
-    let p = pop-of t in
-    record { outcome = turn.no-inverse (head-of p .walk .inv .0) (unclean-of p) (popped-is p) (more-of p) (sym (test-is t) ∙ c .enum-told .given .1); room = room-of (head-of p) }
-
-returns-5 : tie.Need-returns-5 Inv-loop μ-loop Inv-walk μ-walk
-returns-5 c =
     let n = c .before .before .before in
     let l = n .before in
     let p = pop-of (test-of l) in
     record { outcome = turn.range-count (walk-of l .walk .inv .0) (unclean-of p) (popped-is p) (more-of p) (pure-is l) (positions-are l) (l .loop .i) (n .loop-test .taken) (sym (fits-is (c .before)) ∙ not-true _ (c .if4 .taken)); room = room-of (walk-of l) }
 
-returns-6 : tie.Need-returns-6 Inv-loop μ-loop Inv-walk μ-walk
-returns-6 c =
+returns-5 : tie.Need-returns-5 Inv-loop μ-loop Inv-walk μ-walk
+returns-5 c =
     let f = c .before .before .before .before in
     let d = f .before .before .before .before .before in
     let l = d .before in
     let p = pop-of (test-of l) in
     record { outcome = turn.range-entry (walk-of l .walk .inv .0) (unclean-of p) (popped-is p) (more-of p) (pure-is l) (positions-are l) (all-fit d) (f .find .ensures) (c .before .before .before .if5 .taken) (sym (more-is (c .before)) ∙ not-true _ (c .if6 .taken)); room = room-of (walk-of l) }
 
-returns-7 : tie.Need-returns-7 Inv-loop μ-loop Inv-walk μ-walk
-returns-7 c =
+returns-6 : tie.Need-returns-6 Inv-loop μ-loop Inv-walk μ-walk
+returns-6 c =
     let f = c .before .before in
     let d = f .before .before .before .before .before in
     let l = d .before in
@@ -437,7 +428,6 @@ walk-spec =
     slice-read-s
     test-requires
     enum-told
-    enum-told-2
     walk-less
     walk-again
     enum-known-found
@@ -482,31 +472,24 @@ walk-spec =
     (λ c. at-head (c .before .before .before) .queue)
     (λ c. at-head (c .before .before .before) .marks)
     returns-3
-    (λ c. at-pop (pop-of (c .before .before)) .counts)
-    (λ c. at-pop (pop-of (c .before .before)) .idsums)
-    (λ c. at-pop (pop-of (c .before .before)) .flows)
-    (λ c. at-pop (pop-of (c .before .before)) .numbers)
-    (λ c. at-pop (pop-of (c .before .before)) .queue)
-    (λ c. at-pop (pop-of (c .before .before)) .marks)
-    returns-4
     (λ c. at-pop (range-pop c) .counts)
     (λ c. at-pop (range-pop c) .idsums)
     (λ c. at-pop (range-pop c) .flows)
     (λ c. at-pop (range-pop c) .numbers)
     (λ c. at-pop (range-pop c) .queue)
     (λ c. at-pop (range-pop c) .marks)
-    returns-5
+    returns-4
     (λ c. at-pop (entry-pop c) .counts)
     (λ c. at-pop (entry-pop c) .idsums)
     (λ c. at-pop (entry-pop c) .flows)
     (λ c. at-pop (entry-pop c) .numbers)
     (λ c. at-pop (entry-pop c) .queue)
     (λ c. at-pop (entry-pop c) .marks)
-    returns-6
+    returns-5
     (λ c. at-pop (full-pop c) .counts)
     (λ c. at-pop (full-pop c) .idsums)
     (λ c. at-pop (full-pop c) .flows)
     (λ c. at-pop (full-pop c) .numbers)
     (λ c. at-pop (full-pop c) .queue)
     (λ c. at-pop (full-pop c) .marks)
-    returns-7)
+    returns-6)
