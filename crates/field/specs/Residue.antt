@@ -10,6 +10,6 @@ residue zero z = 0
 residue (suc q) (pos n) = n % suc q
 residue (suc q) (negsuc n) = q - n % suc q
 
--- a multiple of p, by its residue
+-- z is a multiple of p, where p is above 0
 abbrev pub isMultiple : ℕ → ℤ → Bool
 isMultiple p z = eqb (residue p z) 0

@@ -21,7 +21,7 @@ pub enum Found {
 }
 
 // The purity test of bucket k with count c and idsum s. Where the dimensions break a rule, nothing is pure. The pairs are not
-// judged, and any count and idsum is taken: a count that is a multiple of the prime is not pure, which within the limits is 0 alone.
+// judged, and any count and idsum is taken. A count that is a multiple of the prime is not pure; within the limits that is 0 alone.
 pub fn test(p: Params, k: usize, c: i32, s: u32) -> Found
     ensures { λ r. ⌜ r ≡ guardedTest p k c s ⌝ }
 {
