@@ -119,6 +119,27 @@ static void range(void) {
     CHECK(same(&s, &kept));
 }
 
+/* The greatest and the least count have their flow like any other. One further are the multiples of the prime, which are damage. */
+static void edges(void) {
+    struct sketch s = e7(), kept;
+    struct walk w = unwalked();
+    CHECK_DONE(peel(&s, &w, MOST_SLOTS, 80));
+    CHECK(figures_are(&w, GABUNLITIK_ENDED_CLEAN, 1, 2147483646, 1));
+    CHECK(w.flows[0] == 2147483646 && w.counts[0] == 2147483646);
+    s = fresh_sketch();
+    w = unwalked();
+    CHECK_DONE(withdraw(&s, 2147483646, 2147483646));
+    CHECK_DONE(peel(&s, &w, MOST_SLOTS, 80));
+    CHECK(figures_are(&w, GABUNLITIK_ENDED_CLEAN, 1, -2147483646, 1));
+    CHECK(w.flows[0] == 2147483646 && w.counts[0] == -2147483646);
+    s = e7();
+    s.counts[8] = 2147483647;
+    kept = s;
+    CHECK_REFUSED(peel(&s, &w, MOST_SLOTS, 80), GABUNLITIK_DAMAGE, 8, &s, &kept);
+    s.counts[8] = kept.counts[8] = -2147483647;
+    CHECK_REFUSED(peel(&s, &w, MOST_SLOTS, 80), GABUNLITIK_DAMAGE, 8, &s, &kept);
+}
+
 /* A refused walk tells figures that are all 0, and alters nothing else. */
 static void check_unwalked(struct walk *w) {
     struct walk untouched = unwalked();
@@ -165,5 +186,6 @@ void test_walks(void) {
     spent();
     stuck_and_full();
     range();
+    edges();
     refused();
 }

@@ -9,11 +9,9 @@ use lib.IntN.{pos}
 use lib.ListN.{length, getD, replicate}
 use Rattle.field.specs.Flow.{flow}
 use Rattle.params.specs.declared.params.Params.{Params}
-use Rattle.params.specs.declared.answers.Refusal.{Refusal}
-use Rattle.params.specs.declared.answers.Refusal.the-variants.{Param, Length, Flow, Count, Damage, Range as OutOfRange, Mismatch, Form}
 use Rattle.params.specs.declared.answers.Answer.{Answer}
 use Rattle.params.specs.declared.answers.Answer.the-variants.{Done, Refused}
-use Rattle.params.specs.Answers.{numberOf, numberIn, indexIn, kept}
+use Rattle.params.specs.Answers.{numberIn, indexIn, kept}
 use Rattle.params.specs.Params.{primeOf, size, isFlow}
 use Rattle.params.specs.Positions.{stands}
 use Rattle.buckets.specs.Buckets.{inLimits}

@@ -8,7 +8,7 @@ use native.Mathlib.Nat.{le-trans}
 use native.Mathlib.Omega.{arith}
 use borrow.Author.Tests.{not-true}
 use lib.Dec.{ltb}
-use lib.IntN.{ℤ, pos, natAbs}
+use lib.IntN.{ℤ, pos}
 use lib.ListN.{length, getD, List·getD-eq-default}
 use Rattle.field.specs.Flow.{flow}
 use Rattle.params.specs.declared.params.Params.{Params}
@@ -18,7 +18,7 @@ use Rattle.buckets.specs.Buckets.{inLimits}
 use Rattle.sketch.specs.Sketch.{Sketch, countIn, idsumIn, damagedAt, Entry, by, sketchOf}
 use Rattle.sums.specs.Sums.{combined}
 use Rattle.buckets.proofs.Idsums.{prime-pos}
-use Rattle.buckets.proofs.Limits.{limits-size, whole, whole-back}
+use Rattle.buckets.proofs.Limits.{whole, whole-back}
 use Rattle.walk.specs.declared.Ending.the-variants.{Clean, Stuck, Spent}
 use Rattle.walk.specs.declared.Found.the-variants.{Pure}
 use Rattle.walk.specs.Endings.{endingNumber}
