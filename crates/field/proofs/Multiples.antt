@@ -11,7 +11,7 @@ use Rattle.field.specs.Residue.{residue, isMultiple}
 use Rattle.field.proofs.Residues.{residue-pos, residue-negsuc, residue-own, residue-mul, residue-nonzero}
 
 module _ (p : ℕ) (h : 0 < p) where
-  -- it is p times some number, and p times any number is one
+  -- a multiple, by its test, is p times some number, and p times any number is one
   pub multiple-is : (z : ℤ) → isMultiple p z ≡ true → (q : ℤ) × (q *ℤ pos p ≡ z)
   multiple-is (pos n) e = (pos (n / p), ap pos (omega (arith, eqb-true (residue p (pos n)) 0 e, residue-pos p h n, mod-add-div' n p)))
   multiple-is (negsuc n) e =

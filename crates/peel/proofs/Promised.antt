@@ -125,10 +125,10 @@ module _ {P : Params} {a : ℕ} {L : Slices} {r : Peeled} {L' : Slices} (h : Pee
     pub sound-input : Whole P S
     sound-input = judged-whole P L done
 
-    -- what is returned and what the slices hold are those of the walk as the scope has it
-    pub as-in-scope : let x = walk (scopeRule P) (length (L .flows)) a S in (r ≡ peeledOf Done x) × (L' ≡ closedSlices P x L)
-    as-in-scope =
-        let same = walks.as-in-scope P (length (L .flows)) a S sound-input in
+    -- what is returned and what the slices hold are those of the walk by the scope's test
+    pub by-scope-test : let x = walk (scopeRule P) (length (L .flows)) a S in (r ≡ peeledOf Done x) × (L' ≡ closedSlices P x L)
+    by-scope-test =
+        let same = walks.by-scope-test P (length (L .flows)) a S sound-input in
         (answer-is ∙ ap (peeledOf Done) same, after-is ∙ ap (λ (x : Outcome). closedSlices P x L) same)
 
     -- the table's sketch, added to the remainder, is the input

@@ -1,4 +1,4 @@
--- The examples E1 to E10 of the bench and the edges of the purity test as one table, under a single theorem, `all-right`: the checker works every line out by the definitions.
+-- The examples E1 to E10 of the bench, the ending that they do not come to and the edges of the purity test as one table, under a single theorem, `all-right`: the checker works every line out by the definitions.
 use mathlib.Core.Path.{_≡_, refl}
 use mathlib.Core.Bool.{false}
 use mathlib.Core.List.{List, [], _∷_, map}
@@ -117,6 +117,10 @@ S6 = buckets (o ∷ o ∷ b (negsuc 3) 2147483619 ∷ o ∷ o ∷ o ∷ o ∷ b 
 abbrev S7 : Sketch
 S7 = buckets (o ∷ b (pos 2147483646) 1 ∷ o ∷ o ∷ o ∷ o ∷ o ∷ o ∷ b (pos 2147483646) 1 ∷ o ∷ [])
 
+-- index 2 is pure with flow 7, whose other bucket the take would bring to -2147483647
+abbrev SR : Sketch
+SR = buckets (o ∷ o ∷ b (pos 2147483646) 2147483640 ∷ o ∷ o ∷ o ∷ o ∷ b (negsuc 0) 0 ∷ o ∷ o ∷ [])
+
 abbrev pub examples : List Line
 examples =
     -- K
@@ -162,9 +166,12 @@ examples =
     ∷ (peeling S1 10 0 gives ends 3 0 (pos 0) [] S1)
     -- E10
     ∷ (peeling S1 0 80 gives ends 6 2 (pos 0) [] S1)
-    -- counts that are multiples of the prime, the second outside the limits; the greatest and the least within them
-    ∷ (test-of 2 (pos 0) 7 gives finds 0 Impure)
-    ∷ (test-of 2 (negsuc 2147483646) 7 gives finds 0 Impure)
+    -- a take that would leave the range
+    ∷ (peeling SR 10 80 gives ends 5 1 (pos 0) [] SR)
+    -- counts that are multiples of the prime, where flow 0 stands, the last two outside the limits; the greatest and the least count within them
+    ∷ (test-of 0 (pos 0) 7 gives finds 0 Impure)
+    ∷ (test-of 0 (pos 2147483647) 7 gives finds 0 Impure)
+    ∷ (test-of 0 (negsuc 2147483646) 7 gives finds 0 Impure)
     ∷ (test-of 1 (pos 2147483646) 1 gives finds 2147483646 (Pure 2147483646))
     ∷ (test-of 1 (negsuc 2147483645) 1 gives finds 1 (Pure 1))
     ∷ []

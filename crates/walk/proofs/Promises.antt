@@ -69,9 +69,9 @@ module _ (P : Params) (slots allowance : ℕ) (S : Sketch) where
   abbrev pub listed : List Entry
   listed = closedTable outcome
 
-  -- it is that of the walk as the scope has it
-  pub as-in-scope : Whole P S → outcome ≡ walk (scopeRule P) slots allowance S
-  as-in-scope w =
+  -- it is that of the walk by the scope's test
+  pub by-scope-test : Whole P S → outcome ≡ walk (scopeRule P) slots allowance S
+  by-scope-test w =
       same-walk (ruleOf P) (scopeTest (primeOf P) (stands P)) (λ k c s. test-within (primeOf P) (stands P) k c s (omega arith)) (size P) (by-arrays P) slots allowance S (counts-within P S w)
 
   in-balance : Whole P S → Balanced (ruleOf P) S (outcome .remainder) listed

@@ -1,4 +1,4 @@
--- The purity test is sound modulo every prime and for every placing of flows; with a sketch's parameters it passes exactly where the one flow stands, and that bucket is one of the flow's.
+-- The purity test is sound modulo every prime and for every placing of flows; modulo a prime above the limits of counts it passes exactly where the scope says; with a sketch's parameters that bucket is one of the flow's.
 use mathlib.Core.Path.{_≡_, refl, sym, ap, subst, _∙_}
 use mathlib.Core.Bool.{Bool, true, false, cond, _&&_, true≢false}
 use Prim.Native.Nat.{ℕ, suc, _+_, _-_, _*_, _/_, _%_, _<_}
@@ -50,12 +50,12 @@ module _ (p : ℕ) (on : ℕ → ℕ → Bool) (k : ℕ) (c : ℤ) (s : ℕ) whe
       let w = passed (isMultiple p c) (on (flow p c s) k) (flow p c s) f e in
       (w .0, subst (λ (g : ℕ). on g k ≡ true) (w .2) (w .1), w .2)
 
-  -- within the limits it is the test, where p is above them
+  -- within the limits the test is the scope's, where p is above them
   pub test-within : 2147483646 < p → inLimits c ≡ true → testIn p on k c s ≡ scopeTest p on k c s
   unfolding testIn
   test-within above within = ap (λ b. cond b Impure (cond (on (flow p c s) k) (Pure (flow p c s)) Impure)) (multiple-zero p above c within)
 
--- the flow of a bucket that passes is one, and solves c * f = s
+-- what is found is below p, and solves c * f = s
 module _ (p : ℕ) (prime : Prime p) (on : ℕ → ℕ → Bool) (k : ℕ) (c : ℤ) (s f : ℕ) (e : testIn p on k c s ≡ Pure f) where
   pure-below : f < p
   unfolding flow
