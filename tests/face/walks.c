@@ -126,12 +126,16 @@ static void edges(void) {
     CHECK_DONE(peel(&s, &w, MOST_SLOTS, 80));
     CHECK(figures_are(&w, GABUNLITIK_ENDED_CLEAN, 1, 2147483646, 1));
     CHECK(w.flows[0] == 2147483646 && w.counts[0] == 2147483646);
+    CHECK(cleared(&w));
+    CHECK(used(&s) == 0);
     s = fresh_sketch();
     w = unwalked();
     CHECK_DONE(withdraw(&s, 2147483646, 2147483646));
     CHECK_DONE(peel(&s, &w, MOST_SLOTS, 80));
     CHECK(figures_are(&w, GABUNLITIK_ENDED_CLEAN, 1, -2147483646, 1));
     CHECK(w.flows[0] == 2147483646 && w.counts[0] == -2147483646);
+    CHECK(cleared(&w));
+    CHECK(used(&s) == 0);
     s = e7();
     s.counts[8] = 2147483647;
     kept = s;

@@ -41,7 +41,7 @@ clean-end : endLine Clean 3 (pos 3) ≡ ascii "end clean pops 3 net 3\n"
 unfolding endLine digits
 clean-end = refl
 
-full-end : endLine Full 0 (negsuc 1) ≡ ascii "end full pops 0 net -2\n"
+full-end : endLine Full 2 (negsuc 1) ≡ ascii "end full pops 2 net -2\n"
 unfolding endLine digits
 full-end = refl
 

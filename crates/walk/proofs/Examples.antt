@@ -1,4 +1,4 @@
--- The examples E1 to E10 of the bench, the ending that they do not come to and the edges of the purity test as one table, under a single theorem, `all-right`: the checker works every line out by the definitions.
+-- The examples E1 to E10 of the bench, a walk that ends by its range, to which they do not come, and the edges of the purity test as one table, under a single theorem, `all-right`: the checker works every line out by the definitions.
 use mathlib.Core.Path.{_≡_, refl}
 use mathlib.Core.Bool.{false}
 use mathlib.Core.List.{List, [], _∷_, map}

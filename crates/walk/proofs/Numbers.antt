@@ -25,7 +25,7 @@ number-back Full = refl
 pub ending-by-number : (e x : Ending) → endingNumber e ≡ endingNumber x → e ≡ x
 ending-by-number e x h = sym (number-back e) ∙ ap numbered h ∙ number-back x
 
--- 4 is given at no ending
+-- no ending has the number 4
 pub never-four : (e : Ending) → endingNumber e ≡ 4 → ⊥
 never-four Clean h = omega arith
 never-four Stuck h = omega arith

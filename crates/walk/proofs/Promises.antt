@@ -69,7 +69,7 @@ module _ (P : Params) (slots allowance : ℕ) (S : Sketch) where
   abbrev pub listed : List Entry
   listed = closedTable outcome
 
-  -- it is that of the walk by the scope's test
+  -- the outcome is that of the walk by the scope's test
   pub by-scope-test : Whole P S → outcome ≡ walk (scopeRule P) slots allowance S
   by-scope-test w =
       same-walk (ruleOf P) (scopeTest (primeOf P) (stands P)) (λ k c s. test-within (primeOf P) (stands P) k c s (omega arith)) (size P) (by-arrays P) slots allowance S (counts-within P S w)

@@ -21,8 +21,8 @@ pub enum Found {
 }
 
 // The purity test of bucket k with count c and idsum s. Where the dimensions break a rule, nothing is pure. The pairs are not
-// judged, and any count and idsum is taken. A bucket whose count is a multiple of the prime is not
-// pure; within the limits that count is 0.
+// judged, and any count and idsum is taken. A bucket whose count is a multiple of the prime is not pure; within the limits that
+// count is 0.
 pub fn test(p: Params, k: usize, c: i32, s: u32) -> Found
     ensures { λ r. ⌜ r ≡ guardedTest p k c s ⌝ }
 {

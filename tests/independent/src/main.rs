@@ -2,9 +2,9 @@
 //! from standard input; the lost flows, what is left and the ending to standard output. With the argument `script` it does
 //! the commands of a script from standard input and prints what they answer.
 //!
-//! It is written from the scope and shares nothing with the proved library, so that the two can be compared. Where
-//! that document can be read in two ways it takes the readings of docs/DECISIONS.md. It is plain rather than lean: it holds
-//! the whole input, copies a sketch for each call, and looks at every bucket before every pop.
+//! It is written from the scope and the requests that are done, and shares nothing with the proved library, so that the two
+//! can be compared. Where these can be read in two ways it takes the readings of docs/DECISIONS.md. It is plain rather than
+//! lean: it holds the whole input, copies a sketch for each call, and looks at every bucket before every pop.
 
 mod input;
 mod library;
