@@ -1,4 +1,4 @@
--- A flow's buckets by their indexes: it stands in bucket k exactly where k is its index in some array from 1 to d.
+-- A flow's buckets by their indexes: each lies within the sketch, and the flow stands in bucket k exactly where k is its index in some array from 1 to d.
 use mathlib.Core.Path.{_≡_, refl, sym, _∙_}
 use mathlib.Core.Bool.{true}
 use Prim.Native.Nat.{ℕ, suc, _+_, _-_, _*_, _/_, _%_, _≤_, _<_}
@@ -7,8 +7,9 @@ use native.Mathlib.Omega.{arith}
 use borrow.Author.Tests.{eq-eqb, ltb-true, eqb-true}
 use lib.Dec.{eqb, ltb}
 use Rattle.params.specs.declared.params.Params.{Params}
-use Rattle.params.specs.Params.{Dimensions}
+use Rattle.params.specs.Params.{size, Dimensions}
 use Rattle.params.specs.Positions.{stand, position, index, standsIn, stands}
+use Rattle.params.proofs.BucketNumbers.{stretch-within}
 use Rattle.params.proofs.Searches.{and-true}
 use Rattle.params.proofs.Standing.{standing-in}
 
@@ -16,6 +17,10 @@ use Rattle.params.proofs.Standing.{standing-in}
 pub position-below : (P : Params) (i f : ℕ) → Dimensions P → position P i f < P .m
 unfolding stand
 position-below P i f h = mod-lt _ (h .m-low)
+
+-- and so within the sketch
+pub index-below : (P : Params) (i f : ℕ) → Dimensions P → 1 ≤ i → i ≤ P .d → index P i f < size P
+index-below P i f h l u = omega (arith, position-below P i f h, stretch-within (P .d) (P .m) (i - 1) (omega arith))
 
 pub stands-at-index : (P : Params) (f i : ℕ) → Dimensions P → 1 ≤ i → i ≤ P .d → stands P f (index P i f) ≡ true
 stands-at-index P f i h l u =

@@ -60,9 +60,12 @@ pub last-apart : (t : ℕ → ℕ → Bool) {p q r s u v : Bool} → p ≡ t 1 0
 unfolding below
 last-apart t e e₁ h h₁ k k₁ l l₁ m m₁ n = simp (sym e ∙ e₁, sym h ∙ h₁, sym k ∙ k₁, sym l ∙ l₁, sym m ∙ m₁) (ap not n)
 
--- a flow's number is below the prime
+-- a flow's number is below the prime, and is not 0
 pub flow-below : (P : Params) (f : ℕ) → isFlow P f ≡ true → f < primeOf P
-flow-below P f e = ltb-true f (primeOf P) e
+flow-below P f e = ltb-true f (primeOf P) (and-true (leb 1 f) _ e .1)
+
+pub flow-above : (P : Params) (f : ℕ) → isFlow P f ≡ true → 1 ≤ f
+flow-above P f e = leb-true 1 f (and-true (leb 1 f) _ e .0)
 
 -- of the dimensions' tests the last is left
 pub last-size : (P : Params) → 2 ≤ P .d → P .d ≤ 4 → 1 ≤ P .m → leb (P .m) 16384 ≡ goodDimensions P

@@ -19,9 +19,9 @@ prime = 2147483647
 abbrev pub primeOf : Params → ℕ
 primeOf P = prime
 
--- the flow numbers
+-- the flow numbers: 1 to p - 1; flow 0 is nobody's
 abbrev pub isFlow : Params → ℕ → Bool
-isFlow P f = ltb f (primeOf P)
+isFlow P f = leb 1 f && ltb f (primeOf P)
 
 -- d arrays of m buckets
 abbrev pub size : Params → ℕ

@@ -210,10 +210,13 @@ impl Params {
         self.lengths(counts, idsums)
     }
 
-    // Whether a number is that of a flow.
+    // Whether a number is that of a flow: switches send 0 for a header that they cannot parse.
     pub fn is_flow(self, f: u32) -> bool
         ensures { λ r. ⌜ r ≡ isFlow self f ⌝ }
     {
+        if f < 1 {
+            return false;
+        }
         f < PRIME
     }
 

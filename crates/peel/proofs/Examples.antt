@@ -1,4 +1,4 @@
--- The examples E2 to E6, E9 and E10 of the bench as a caller of `peel` meets them, under a single theorem, `all-right`: the answer, and all that each slice
+-- The examples E2 to E6, E9 and E10 of the bench and an old sketch of flow 0, as a caller of `peel` meets them, under a single theorem, `all-right`: the answer, and all that each slice
 -- holds after. The checker works every line out by the definitions. crates/walk has the whole table, over the definition of the walk.
 use mathlib.Core.Path.{_≡_, refl}
 use mathlib.Core.List.{List, [], _∷_, _++_, map}
@@ -15,7 +15,7 @@ use Rattle.buckets.specs.Buckets.{inLimits}
 use Rattle.sketch.specs.Sketch.{Sketch}
 use Rattle.walk.specs.Walk.{all, any, nothingRemains, less, has, entryOf, credited, waits, requeue, inRange, hasRoom, taken, takes, follows, popped, before, after, run, firstQueue, walk, close, netFigure}
 use Rattle.walk.specs.Purity.{testIn}
-use Rattle.walk.proofs.Examples.{K, S0, S1, S3, remainder3, S5, S6}
+use Rattle.walk.proofs.Examples.{K, S0, S1, S3, remainder3, S5, S6, SZ}
 use Rattle.peel.specs.declared.peeling.Peeled.{Peeled}
 use Rattle.peel.specs.Slices.{Slices, slices}
 use Rattle.peel.specs.Peel.{walkLentAnswer, peelAnswer, flowsOf, numbersOf, padded, peeledNumber, peeledEnding, peeledPops, peeledNet, peeledEntries, peelReturns, peelLeaves}
@@ -89,6 +89,8 @@ examples =
     ∷ (call S1 10 0 gives ends 3 0 (pos 0) 0 S1 (replicate 10 0) (replicate 10 (pos 0)))
     -- E10
     ∷ (call S1 0 80 gives ends 6 2 (pos 0) 0 S1 [] [])
+    -- flow 0
+    ∷ (call SZ 10 80 gives ends 2 2 (pos 0) 0 SZ (replicate 10 0) (replicate 10 (pos 0)))
     ∷ []
 
 pub all-right : map (λ l. reply (l .asked)) examples ≡ map (λ l. l .answer) examples

@@ -1,11 +1,11 @@
 -- What a caller of `peel` may rely on: the promises of peeling, at the answer it gets and the slices it lent.
 use mathlib.Core.Path.{_≡_, refl, sym, ap, subst, _∙_}
 use mathlib.Core.Bool.{true, false}
-use mathlib.Core.List.{List}
+use mathlib.Core.List.{List, [], _∷_}
 use Prim.Native.Nat.{ℕ, _<_, _≤_}
 use native.Mathlib.Nat.{zero-add}
 use native.Mathlib.Omega.{arith}
-use lib.IntN.{pos}
+use lib.IntN.{ℤ, pos}
 use lib.ListN.{length, getD, replicate}
 use Rattle.field.specs.Flow.{flow}
 use Rattle.params.specs.declared.params.Params.{Params}
@@ -31,7 +31,7 @@ use Rattle.peel.specs.Slices.{Slices, lentSketch}
 use Rattle.peel.specs.Table.{row, tableOf}
 use Rattle.peel.specs.Peel.{peeledOf, peeledNumber, peeledIndex, peeledEnding, peeledPops, peeledNet, peeledEntries, flowsOf, numbersOf, padded, closedSlices, judged, walked, Peels}
 use Rattle.peel.proofs.Padding.{padded-past, flows-many, numbers-many, table-padded}
-use Rattle.peel.proofs.Judged.{judged-whole}
+use Rattle.peel.proofs.Judged.{judged-whole, judged-peelable}
 
 answer-done : (x : Answer) → numberIn x ≡ 0 → x ≡ Done
 answer-done Done e = refl
@@ -158,11 +158,18 @@ module _ {P : Params} {a : ℕ} {L : Slices} {r : Peeled} {L' : Slices} (h : Pee
         walks.stuck-only P (length (L .flows)) a S sound-input (sym ending-is ∙ e) k _ l
         (pure-by-number _ (subst (λ (T : Sketch). foundNumber (pureTest P k (countIn T k) (idsumIn T k)) ≡ 1) remainder-is t))
 
-    -- so where a count remains, the one flow of its bucket does not stand there
-    pub stuck-stands : peeledEnding r ≡ 2 → (k : ℕ) → k < size P → (countIn S' k ≡ pos 0 → ⊥) → stands P (flow (primeOf P) (countIn S' k) (idsumIn S' k)) k ≡ false
-    stuck-stands e k l d =
+    -- so where a count remains, the one number of its bucket is 0 or does not stand there
+    pub stuck-stands : peeledEnding r ≡ 2 → (k : ℕ) → k < size P → (countIn S' k ≡ pos 0 → ⊥) → let f = flow (primeOf P) (countIn S' k) (idsumIn S' k) in (f ≡ 0 → ⊥) → stands P f k ≡ false
+    stuck-stands e k l d nonzero =
         subst (λ (T : Sketch). stands P (flow (primeOf P) (countIn T k) (idsumIn T k)) k ≡ false) (sym remainder-is)
-        (walks.stuck-stands P (length (L .flows)) a S sound-input (sym ending-is ∙ e) k l (λ z. d (ap (λ (T : Sketch). countIn T k) remainder-is ∙ z)))
+        (walks.stuck-stands P (length (L .flows)) a S sound-input (sym ending-is ∙ e) k l (λ z. d (ap (λ (T : Sketch). countIn T k) remainder-is ∙ z))
+        (λ z. nonzero (ap (λ (T : Sketch). flow (primeOf P) (countIn T k) (idsumIn T k)) remainder-is ∙ z)))
+
+    -- the sketch of flow 0 alone is stuck where a pop per bucket is allowed: nothing is listed, and all of it remains
+    pub flow-zero-stuck : (n : ℤ) → (n ≡ pos 0 → ⊥) → S ≡ sketchOf P (by 0 n ∷ []) → size P ≤ a → (peeledEnding r ≡ 2) × (peeledEntries r ≡ 0) × (S' ≡ S)
+    flow-zero-stuck n nonzero s l =
+        let w = walks.flow-zero-stuck P (length (L .flows)) a S (judged-peelable P L done .dimensions) n nonzero s l in
+        (ending-is ∙ w .0, entries-are ∙ ap length (w .1), remainder-is ∙ w .2)
 
     -- never more pops than allowed, and all of them where the end is spent
     pops-are : peeledPops r ≡ o .pops
@@ -193,9 +200,13 @@ module _ {P : Params} {a : ℕ} {L : Slices} {r : Peeled} {L' : Slices} (h : Pee
     listed-within i l =
         ap (λ (e : Entry). inLimits (e .number)) (sym (slot-is i l)) ∙ walks.listed-within P (length (L .flows)) a S i (omega (arith, entries-are))
 
+    -- every listed flow is one, so that none is flow 0
     pub listed-are-flows : (i : ℕ) → i < peeledEntries r → isFlow P (getD (L' .flows) i 0) ≡ true
     listed-are-flows i l =
         ap (λ (e : Entry). isFlow P (e .flow)) (sym (slot-is i l)) ∙ walks.listed-are-flows P (length (L .flows)) a S i (omega (arith, entries-are))
+
+    pub never-flow-zero : (i : ℕ) → i < peeledEntries r → getD (L' .flows) i 0 ≡ 0 → ⊥
+    never-flow-zero i l z = walks.never-flow-zero P (length (L .flows)) a S i (omega (arith, entries-are)) (ap (λ (e : Entry). e .flow) (slot-is i l) ∙ z)
 
     pub listed-once : (i j : ℕ) → i < j → j < peeledEntries r → getD (L' .flows) i 0 ≡ getD (L' .flows) j 0 → ⊥
     listed-once i j b l e =

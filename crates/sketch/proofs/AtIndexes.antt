@@ -14,9 +14,8 @@ use Rattle.params.specs.Positions.{index, stands}
 use Rattle.buckets.specs.Buckets.{plusMinus, weight}
 use Rattle.sketch.specs.Sketch.{Sketch, countIn, idsumIn, changedIn}
 use Rattle.sketch.specs.Packets.{changed, Moved}
-use Rattle.params.proofs.BucketNumbers.{stretch-within}
 use Rattle.params.proofs.Changes.{getD-touched, untouched}
-use Rattle.params.proofs.Indexes.{position-below, stands-at-index, index-where-stands}
+use Rattle.params.proofs.Indexes.{index-below, stands-at-index, index-where-stands}
 use Rattle.sketch.proofs.Steps.{Let, move-done, step-done}
 
 -- n packets of f went in, or came out where `minus` holds
@@ -29,8 +28,8 @@ module _ {minus : Bool} {P : Params} {f n : ℕ} {S S' : Sketch} (h : Moved minu
   changes = h .after
 
   module _ (i : ℕ) (low : 1 ≤ i) (high : i ≤ P .d) where
-    inside : index P i f < P .d * P .m
-    inside = omega (arith, position-below P i f (let-in .dimensions), stretch-within (P .d) (P .m) (i - 1) (omega arith))
+    inside : index P i f < size P
+    inside = index-below P i f (let-in .dimensions) low high
 
     pub count-at-index : countIn S' (index P i f) ≡ plusMinus minus (countIn S (index P i f)) (pos n)
     unfolding changed changedIn

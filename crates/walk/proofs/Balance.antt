@@ -18,11 +18,10 @@ use Rattle.walk.proofs.Carried.{carried}
 use Rattle.walk.proofs.Lessened.{less-counts, less-idsums, less-count, less-idsum}
 use Rattle.walk.proofs.Credits.{weighted-credited, weighted-close}
 
--- a rule with a prime above 0, and a test that finds only flows f with c * f congruent to s, below the prime, in buckets where they stand, and none where the count is 0
+-- a rule with a prime above 0, and a test that finds only flows f with c * f congruent to s, in buckets where they stand, and none where the count is 0
 pub record Sound (R : Rule) : Type 0 where
   pub positive : 0 < R .prime
   pub solves : (k : ℕ) (c : ℤ) (s f : ℕ) → s < R .prime → R .test k c s ≡ Pure f → residue (R .prime) (c *ℤ pos f) ≡ s
-  pub a-flow : (k : ℕ) (c : ℤ) (s f : ℕ) → R .test k c s ≡ Pure f → f < R .prime
   pub standing : (k : ℕ) (c : ℤ) (s f : ℕ) → R .test k c s ≡ Pure f → R .stands f k ≡ true
   pub empty : (k s : ℕ) → R .test k (pos 0) s ≡ Impure
 

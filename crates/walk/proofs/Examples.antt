@@ -1,4 +1,4 @@
--- The examples E1 to E10 of the bench, a walk that ends by its range, to which they do not come, and the edges of the purity test as one table, under a single theorem, `all-right`: the checker works every line out by the definitions.
+-- The examples E1 to E10 of the bench, flow 0, a walk that ends by its range, to which they do not come, and the edges of the purity test as one table, under a single theorem, `all-right`: the checker works every line out by the definitions.
 use mathlib.Core.Path.{_≡_, refl}
 use mathlib.Core.Bool.{false}
 use mathlib.Core.List.{List, [], _∷_, map}
@@ -7,11 +7,14 @@ use lib.IntN.{ℤ, pos, negsuc}
 use Rattle.field.specs.Residue.{residue}
 use Rattle.field.specs.Flow.{inverseIn, inverse, flow}
 use Rattle.params.specs.declared.params.Params.{Params}
+use Rattle.params.specs.declared.answers.Refusal.the-variants.{Flow}
 use Rattle.params.specs.declared.answers.Answer.{Answer}
+use Rattle.params.specs.declared.answers.Located.{Located}
+use Rattle.params.specs.declared.answers.Located.the-variants.{At, Refused}
 use Rattle.params.specs.Lists.{below, least, mapFrom, touched, from}
-use Rattle.params.specs.Answers.{numberIn, indexIn, refuseAt, first, kept}
+use Rattle.params.specs.Answers.{numberIn, indexIn, refuseAt, first, kept, locatedOf}
 use Rattle.params.specs.Params.{primeOf, pairAt, twins, goodDimensions, goodParams, lengthsAnswer, dimensionsAnswer}
-use Rattle.params.specs.Positions.{stand, position, standsIn}
+use Rattle.params.specs.Positions.{stand, position, positionAnswer, standsIn}
 use Rattle.buckets.specs.Buckets.{inLimits, isNumber}
 use Rattle.sketch.specs.Sketch.{Sketch, sketch, Entry, by, countAt, weightAt, sketchOf, damagedIn, leavesIn, flowBucketsAnswer, changedIn}
 use Rattle.sketch.specs.Packets.{packetAnswer, entryAnswer, stepAnswer, changed, moveAnswer}
@@ -19,7 +22,7 @@ use Rattle.walk.specs.declared.Found.{Found}
 use Rattle.walk.specs.declared.Found.the-variants.{Impure, Pure}
 use Rattle.walk.specs.Endings.{endingNumber}
 use Rattle.walk.specs.Walk.{State, Move, stops, goes, Outcome, queued, all, any, nothingRemains, less, has, entryOf, credited, waits, requeue, inRange, hasRoom, taken, takes, follows, popped, before, after, run, firstQueue, walk, close, netFigure, closedTable, netOf}
-use Rattle.walk.specs.Purity.{testIn, pureTest, ruleOf}
+use Rattle.walk.specs.Purity.{testIn, wideTest, pureTest, ruleOf}
 
 -- d = 2, m = 5, pairs (1, 0) and (1073741824, 0)
 abbrev pub K : Params
@@ -36,9 +39,9 @@ pub data Question : Type 0 where
 
 -- and what is answered
 pub data Reply : Type 0 where
-  at : ℕ → Reply
+  located : Located → Reply
   holds : Sketch → Reply
-  finds : (flow : ℕ) → Found → Reply
+  finds : (number : ℕ) (wide pure : Found) → Reply
   ends : (ending pops : ℕ) (net : ℤ) (table : List Entry) (remainder : Sketch) → Reply
   waits-on : List ℕ → Reply
   says : (number index : ℕ) → Sketch → Reply
@@ -65,9 +68,9 @@ judged S r S' = says (numberIn r) (indexIn r) (kept r S S')
 
 -- what the definitions tell
 abbrev pub reply : Question → Reply
-reply (position-of i f) = at (position K i f)
+reply (position-of i f) = located (locatedOf (positionAnswer K i f) (position K i f))
 reply (sketch-of es) = holds (sketchOf K es)
-reply (test-of k c s) = finds (flow (primeOf K) c s) (pureTest K k c s)
+reply (test-of k c s) = finds (flow (primeOf K) c s) (wideTest K k c s) (pureTest K k c s)
 reply (peeling S slots allowance) = ended (walk (ruleOf K) slots allowance S)
 reply (queue-after n S) = waits-on (pops n (record { held = S; queue = firstQueue 0 (S .counts); table = [] }) .queue)
 reply (inserting S f n) = judged S (moveAnswer K false f n S) (changed K false f n S)
@@ -117,6 +120,21 @@ S6 = buckets (o ∷ o ∷ b (negsuc 3) 2147483619 ∷ o ∷ o ∷ o ∷ o ∷ b 
 abbrev S7 : Sketch
 S7 = buckets (o ∷ b (pos 2147483646) 1 ∷ o ∷ o ∷ o ∷ o ∷ o ∷ o ∷ b (pos 2147483646) 1 ∷ o ∷ [])
 
+-- flow 0 by 3, by itself, and beside E1's flows
+abbrev pub SZ : Sketch
+SZ = buckets (b (pos 3) 0 ∷ o ∷ o ∷ o ∷ o ∷ b (pos 3) 0 ∷ o ∷ o ∷ o ∷ o ∷ [])
+
+abbrev SZ1 : Sketch
+SZ1 = buckets (b (pos 3) 0 ∷ o ∷ b (pos 3) 31 ∷ o ∷ o ∷ b (pos 3) 0 ∷ b (pos 2) 24 ∷ b (pos 1) 7 ∷ o ∷ o ∷ [])
+
+-- flow 0 by 1 and flow 20 by 1, which stand in the same buckets
+abbrev SZ20 : Sketch
+SZ20 = buckets (b (pos 2) 20 ∷ o ∷ o ∷ o ∷ o ∷ b (pos 2) 20 ∷ o ∷ o ∷ o ∷ o ∷ [])
+
+-- flow 1 by 1
+abbrev SI : Sketch
+SI = buckets (o ∷ b (pos 1) 1 ∷ o ∷ o ∷ o ∷ o ∷ o ∷ o ∷ o ∷ b (pos 1) 1 ∷ [])
+
 -- index 2 is pure with flow 7, whose other bucket the take would bring to -2147483647
 abbrev SR : Sketch
 SR = buckets (o ∷ o ∷ b (pos 2147483646) 2147483640 ∷ o ∷ o ∷ o ∷ o ∷ b (negsuc 0) 0 ∷ o ∷ o ∷ [])
@@ -124,26 +142,26 @@ SR = buckets (o ∷ o ∷ b (pos 2147483646) 2147483640 ∷ o ∷ o ∷ o ∷ o 
 abbrev pub examples : List Line
 examples =
     -- K
-    (position-of 1 2 gives at 2)
-    ∷ (position-of 1 7 gives at 2)
-    ∷ (position-of 1 11 gives at 1)
-    ∷ (position-of 1 12 gives at 2)
-    ∷ (position-of 1 20 gives at 0)
-    ∷ (position-of 2 2 gives at 1)
-    ∷ (position-of 2 7 gives at 2)
-    ∷ (position-of 2 11 gives at 4)
-    ∷ (position-of 2 12 gives at 1)
-    ∷ (position-of 2 20 gives at 0)
+    (position-of 1 2 gives located (At 2))
+    ∷ (position-of 1 7 gives located (At 2))
+    ∷ (position-of 1 11 gives located (At 1))
+    ∷ (position-of 1 12 gives located (At 2))
+    ∷ (position-of 1 20 gives located (At 0))
+    ∷ (position-of 2 2 gives located (At 1))
+    ∷ (position-of 2 7 gives located (At 2))
+    ∷ (position-of 2 11 gives located (At 4))
+    ∷ (position-of 2 12 gives located (At 1))
+    ∷ (position-of 2 20 gives located (At 0))
     -- E1
     ∷ (sketch-of (by 7 (pos 1) ∷ by 12 (pos 2) ∷ []) gives holds S1)
     -- E2
-    ∷ (test-of 2 (pos 3) 31 gives finds 1431655775 Impure)
+    ∷ (test-of 2 (pos 3) 31 gives finds 1431655775 Impure Impure)
     ∷ (peeling S1 10 80 gives ends 1 3 (pos 3) (by 12 (pos 2) ∷ by 7 (pos 1) ∷ []) S0)
     ∷ (queue-after 0 S1 gives waits-on (2 ∷ 6 ∷ 7 ∷ []))
     ∷ (queue-after 3 S1 gives waits-on (2 ∷ []))
     -- E3
     ∷ (sketch-of (by 2 (pos 1) ∷ by 12 (pos 1) ∷ []) gives holds S3)
-    ∷ (test-of 2 (pos 2) 14 gives finds 7 (Pure 7))
+    ∷ (test-of 2 (pos 2) 14 gives finds 7 (Pure 7) (Pure 7))
     ∷ (peeling S3 10 10 gives ends 3 10 (pos 2) (by 7 (pos 2) ∷ []) remainder3)
     -- E4
     ∷ (peeling S3 10 9 gives ends 3 9 (pos 0) [] S3)
@@ -166,19 +184,34 @@ examples =
     ∷ (peeling S1 10 0 gives ends 3 0 (pos 0) [] S1)
     -- E10
     ∷ (peeling S1 0 80 gives ends 6 2 (pos 0) [] S1)
+    -- flow 0 is FLOW, before COUNT and wherever it would stand; flow 1 is a flow
+    ∷ (inserting S0 0 1 gives says 3 0 S0)
+    ∷ (inserting S0 0 0 gives says 3 0 S0)
+    ∷ (inserting S0 1 1 gives says 0 0 SI)
+    ∷ (position-of 1 0 gives located (Refused Flow 0))
+    ∷ (position-of 2 1 gives located (At 4))
+    -- an old sketch of flow 0 is stuck, by itself and where all else is listed; its buckets are not pure
+    ∷ (sketch-of (by 0 (pos 3) ∷ []) gives holds SZ)
+    ∷ (test-of 0 (pos 3) 0 gives finds 0 (Pure 0) Impure)
+    ∷ (peeling SZ 10 80 gives ends 2 2 (pos 0) [] SZ)
+    ∷ (sketch-of (by 7 (pos 1) ∷ by 0 (pos 3) ∷ by 12 (pos 2) ∷ []) gives holds SZ1)
+    ∷ (peeling SZ1 10 80 gives ends 2 6 (pos 3) (by 12 (pos 2) ∷ by 7 (pos 1) ∷ []) SZ)
+    -- where flow 0 stands beside another flow, the two can pass as a third, as those of E3 do
+    ∷ (sketch-of (by 0 (pos 1) ∷ by 20 (pos 1) ∷ []) gives holds SZ20)
+    ∷ (peeling SZ20 10 80 gives ends 1 1 (pos 2) (by 10 (pos 2) ∷ []) S0)
     -- a take that would leave the range
     ∷ (peeling SR 10 80 gives ends 5 1 (pos 0) [] SR)
     -- counts that are multiples of the prime, where flow 0 stands, the last two outside the limits; the greatest and the least count within them
-    ∷ (test-of 0 (pos 0) 7 gives finds 0 Impure)
-    ∷ (test-of 0 (pos 2147483647) 7 gives finds 0 Impure)
-    ∷ (test-of 0 (negsuc 2147483646) 7 gives finds 0 Impure)
-    ∷ (test-of 1 (pos 2147483646) 1 gives finds 2147483646 (Pure 2147483646))
-    ∷ (test-of 1 (negsuc 2147483645) 1 gives finds 1 (Pure 1))
+    ∷ (test-of 0 (pos 0) 7 gives finds 0 Impure Impure)
+    ∷ (test-of 0 (pos 2147483647) 7 gives finds 0 Impure Impure)
+    ∷ (test-of 0 (negsuc 2147483646) 7 gives finds 0 Impure Impure)
+    ∷ (test-of 1 (pos 2147483646) 1 gives finds 2147483646 (Pure 2147483646) (Pure 2147483646))
+    ∷ (test-of 1 (negsuc 2147483645) 1 gives finds 1 (Pure 1) (Pure 1))
     ∷ []
 
 -- every line of the table is right, and the walk of E3 goes on without end: it is spent whatever it is allowed
 pub all-right : (map (λ l. reply (l .asked)) examples ≡ map (λ l. l .answer) examples) × ((n : ℕ) → endingNumber (walk (ruleOf K) 10 n S3 .ending) ≡ 3)
-unfolding residue inverseIn inverse flow below least mapFrom touched from refuseAt first kept pairAt twins goodDimensions goodParams lengthsAnswer dimensionsAnswer stand standsIn inLimits isNumber countAt weightAt sketchOf damagedIn leavesIn flowBucketsAnswer changedIn packetAnswer entryAnswer stepAnswer changed moveAnswer all any nothingRemains less has entryOf credited waits requeue inRange hasRoom taken takes follows popped before after run firstQueue walk close netFigure testIn pops
+unfolding residue inverseIn inverse flow below least mapFrom touched from refuseAt first kept pairAt twins goodDimensions goodParams lengthsAnswer dimensionsAnswer stand positionAnswer standsIn inLimits isNumber countAt weightAt sketchOf damagedIn leavesIn flowBucketsAnswer changedIn packetAnswer entryAnswer stepAnswer changed moveAnswer all any nothingRemains less has entryOf credited waits requeue inRange hasRoom taken takes follows popped before after run firstQueue walk close netFigure testIn pops
 all-right = (refl, without-end)
   where
     -- flow 7 goes in and comes out

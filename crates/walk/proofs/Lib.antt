@@ -14,7 +14,8 @@ pub mod Stuck
 pub mod Remainder
 pub mod Retested
 pub mod TableFacts
-pub mod Purity
 pub mod Narrowed
+pub mod Purity
+pub mod Untaken
 pub mod Promises
 pub mod Examples

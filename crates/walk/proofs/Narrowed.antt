@@ -11,7 +11,7 @@ use Rattle.walk.specs.Narrowed.{onlyIf, narrowed}
 use Rattle.walk.proofs.Balance.{Sound}
 use Rattle.walk.proofs.Stuck.{ByArrays}
 
-only-if-pure : (ok : ℕ → Bool) (w : Found) (f : ℕ) → onlyIf ok w ≡ Pure f → w ≡ Pure f
+pub only-if-pure : (ok : ℕ → Bool) (w : Found) (f : ℕ) → onlyIf ok w ≡ Pure f → w ≡ Pure f
 only-if-pure ok Impure f e = absurd (let z : _≡_ {A = ℕ} 0 1 = cc in omega arith)
 only-if-pure ok (Pure g) f e = go (ok g) e
   where
@@ -19,7 +19,7 @@ only-if-pure ok (Pure g) f e = go (ok g) e
     go true x = x
     go false x = absurd (let z : _≡_ {A = ℕ} 0 1 = cc in omega arith)
 
-only-if-passes : (ok : ℕ → Bool) (w : Found) (f : ℕ) → onlyIf ok w ≡ Pure f → ok f ≡ true
+pub only-if-passes : (ok : ℕ → Bool) (w : Found) (f : ℕ) → onlyIf ok w ≡ Pure f → ok f ≡ true
 only-if-passes ok Impure f e = absurd (let z : _≡_ {A = ℕ} 0 1 = cc in omega arith)
 only-if-passes ok (Pure g) f e = go (ok g) refl e
   where
@@ -39,7 +39,6 @@ sound-narrowed ok R h =
     record {
       positive = h .positive;
       solves = λ k c s f l e. h .solves k c s f l (narrowed-pure-is-pure ok R k c s f e);
-      a-flow = λ k c s f e. h .a-flow k c s f (narrowed-pure-is-pure ok R k c s f e);
       standing = λ k c s f e. h .standing k c s f (narrowed-pure-is-pure ok R k c s f e);
       empty = λ k s. rw (h .empty k s);
     }

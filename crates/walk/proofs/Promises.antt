@@ -1,36 +1,39 @@
 -- What every walk over a sketch with parameters P keeps, by the definition of the walk alone: the promises of peeling.
 use mathlib.Core.Path.{_≡_, refl, sym, ap, _∙_}
 use mathlib.Core.Bool.{Bool, true, false, not, true≢false}
-use mathlib.Core.List.{List}
+use mathlib.Core.List.{List, [], _∷_}
 use Prim.Native.Nat.{ℕ, _<_, _≤_}
 use native.Mathlib.Decide.{decLt}
 use native.Mathlib.Nat.{le-trans}
 use native.Mathlib.Omega.{arith}
 use borrow.Author.Tests.{not-true}
-use lib.Dec.{ltb}
 use lib.IntN.{ℤ, pos}
 use lib.ListN.{length, getD, List·getD-eq-default}
 use Rattle.field.specs.Flow.{flow}
 use Rattle.params.specs.declared.params.Params.{Params}
-use Rattle.params.specs.Params.{primeOf, size, isFlow}
+use Rattle.params.specs.Params.{primeOf, size, isFlow, Dimensions}
 use Rattle.params.specs.Positions.{stands}
 use Rattle.buckets.specs.Buckets.{inLimits}
 use Rattle.sketch.specs.Sketch.{Sketch, countIn, idsumIn, damagedAt, Entry, by, sketchOf}
 use Rattle.sums.specs.Sums.{combined}
+use Rattle.params.proofs.Rules.{flow-above}
 use Rattle.buckets.proofs.Idsums.{prime-pos}
 use Rattle.buckets.proofs.Limits.{whole, whole-back}
 use Rattle.walk.specs.declared.Ending.the-variants.{Clean, Stuck, Spent}
 use Rattle.walk.specs.declared.Found.the-variants.{Pure}
 use Rattle.walk.specs.Endings.{endingNumber}
-use Rattle.walk.specs.Walk.{Rule, Outcome, nothingRemains, walk, closedTable, netFigure, netOf}
+use Rattle.walk.specs.Walk.{Rule, Outcome, nothingRemains, walk, close, closedTable, netFigure, netOf}
 use Rattle.buckets.specs.Buckets.{isZero}
-use Rattle.walk.specs.Purity.{pureTest, ruleOf}
+use Rattle.walk.specs.Narrowed.{onlyIf, narrowed}
+use Rattle.walk.specs.Purity.{wideTest, pureTest, wideRule, ruleOf}
 use Rattle.walk.proofs.Numbers.{ending-by-number}
 use Rattle.buckets.proofs.Zeros.{is-zero, not-zero}
 use Rattle.walk.proofs.Alls.{all-at, nothing-count, nothing-idsum, all-zero}
 use Rattle.walk.proofs.Balance.{Balanced, balanced, balanced-closed}
 use Rattle.walk.proofs.Rebuilt.{rebuilt, rebuilt-alone}
-use Rattle.walk.proofs.Purity.{scopeTest, sound, by-arrays, test-within}
+use Rattle.walk.proofs.Purity.{scopeTest, sound, by-arrays, test-within, wide-is-pure}
+use Rattle.walk.proofs.Narrowed.{narrowed-pure-passes}
+use Rattle.walk.proofs.Untaken.{flow-zero-untaken}
 use Rattle.walk.proofs.Stuck.{stuck-only as none-passes}
 use Rattle.walk.proofs.Remainder.{Within, within}
 use Rattle.walk.proofs.Retested.{retested, same-walk}
@@ -38,7 +41,7 @@ use Rattle.walk.proofs.Clean.{cleanly}
 use Rattle.walk.proofs.Pops.{made}
 use Rattle.walk.proofs.Entries.{all-close, close-nonzero, close-fewer, once-close, once-at}
 use Rattle.walk.proofs.Credits.{net-close as same-net}
-use Rattle.walk.proofs.TableFacts.{listed as table-facts}
+use Rattle.walk.proofs.TableFacts.{Listed, listed as table-facts}
 
 -- S has the size of P, and no bucket of it is outside its limits
 pub record Whole (P : Params) (S : Sketch) : Type 0 where
@@ -57,9 +60,9 @@ idsum-below P S w k (no l) = rw (List·getD-eq-default (S .idsums) 0 {n = k} (om
 counts-within : (P : Params) (S : Sketch) → Whole P S → Within (ruleOf P) (size P) (by-arrays P) S
 counts-within P S w = record { long = w .counts-long; limits = λ k l. whole (countIn S k) (idsumIn S k) (w .undamaged k l) .0 }
 
--- the rule of P with its test in the scope's words
+-- the rule of P with its test in the scope's words, which passes only where the number is a flow
 abbrev pub scopeRule : Params → Rule
-scopeRule P = retested (ruleOf P) (scopeTest (primeOf P) (stands P))
+scopeRule P = narrowed (isFlow P) (retested (wideRule P) (scopeTest (primeOf P) (stands P)))
 
 module _ (P : Params) (slots allowance : ℕ) (S : Sketch) where
   -- the walk's outcome, and its table after the close
@@ -72,7 +75,7 @@ module _ (P : Params) (slots allowance : ℕ) (S : Sketch) where
   -- the outcome is that of the walk by the scope's test
   pub by-scope-test : Whole P S → outcome ≡ walk (scopeRule P) slots allowance S
   by-scope-test w =
-      same-walk (ruleOf P) (scopeTest (primeOf P) (stands P)) (λ k c s. test-within (primeOf P) (stands P) k c s (omega arith)) (size P) (by-arrays P) slots allowance S (counts-within P S w)
+      same-walk (ruleOf P) (scopeRule P .test) (λ k c s l. ap (onlyIf (isFlow P)) (test-within (primeOf P) (stands P) k c s (omega arith) l)) (size P) (by-arrays P) slots allowance S (counts-within P S w)
 
   in-balance : Whole P S → Balanced (ruleOf P) S (outcome .remainder) listed
   in-balance w = balanced-closed (balanced (ruleOf P) (sound P) S slots allowance (λ k. idsum-below P S w k (decLt k (length (S .idsums)))))
@@ -114,10 +117,11 @@ module _ (P : Params) (slots allowance : ℕ) (S : Sketch) where
   pub stuck-only : Whole P S → endingNumber (outcome .ending) ≡ 2 → (k f : ℕ) → k < size P → pureTest P k (countIn (outcome .remainder) k) (idsumIn (outcome .remainder) k) ≡ Pure f → ⊥
   stuck-only w e = none-passes (ruleOf P) (sound P) (size P) (by-arrays P) slots allowance S (w .counts-long) (w .idsums-long) (ending-by-number (outcome .ending) Stuck e)
 
-  -- so where a count remains, the one flow of its bucket does not stand there
+  -- so where a count remains, the one number of its bucket is 0 or does not stand there
   pub stuck-stands : Whole P S → endingNumber (outcome .ending) ≡ 2 → (k : ℕ) → k < size P → (countIn (outcome .remainder) k ≡ pos 0 → ⊥)
+      → (flow (primeOf P) (countIn (outcome .remainder) k) (idsumIn (outcome .remainder) k) ≡ 0 → ⊥)
       → stands P (flow (primeOf P) (countIn (outcome .remainder) k) (idsumIn (outcome .remainder) k)) k ≡ false
-  stuck-stands w e k l d = go _ refl
+  stuck-stands w e k l d nonzero = go _ refl
     where
       c : ℤ
       c = countIn (outcome .remainder) k
@@ -128,8 +132,17 @@ module _ (P : Params) (slots allowance : ℕ) (S : Sketch) where
       go : (b : Bool) → stands P (flow (primeOf P) c s) k ≡ b → b ≡ false
       go true h =
           let i = whole c s (remainder-whole w .undamaged k l) .0 in
-          absurd (stuck-only w e k (flow (primeOf P) c s) l (test-within (primeOf P) (stands P) k c s (omega arith) i ∙ rw (not-zero c d, h)))
+          let passes : wideTest P k c s ≡ Pure (flow (primeOf P) c s) = test-within (primeOf P) (stands P) k c s (omega arith) i ∙ rw (not-zero c d, h) in
+          absurd (stuck-only w e k (flow (primeOf P) c s) l (wide-is-pure P k c s (flow (primeOf P) c s) passes nonzero))
       go false h = refl
+
+  -- the sketch of flow 0 alone is stuck where a pop per bucket is allowed: nothing is listed, and all of it remains
+  pub flow-zero-stuck : Dimensions P → (n : ℤ) → (n ≡ pos 0 → ⊥) → S ≡ sketchOf P (by 0 n ∷ []) → size P ≤ allowance
+      → (endingNumber (outcome .ending) ≡ 2) × (listed ≡ []) × (outcome .remainder ≡ S)
+  unfolding close
+  flow-zero-stuck h n nonzero s l =
+      let q = ap (walk (ruleOf P) slots allowance) s ∙ flow-zero-untaken P n h nonzero slots allowance l in
+      (ap (λ o. endingNumber (o .ending)) q, ap closedTable q, ap (λ o. o .remainder) q ∙ sym s)
 
   -- never more pops than allowed
   pub pops-within : outcome .pops ≤ allowance
@@ -149,19 +162,27 @@ module _ (P : Params) (slots allowance : ℕ) (S : Sketch) where
       let n = all-at (λ e. not (isZero (e .number))) listed i (by 0 (pos 0)) (close-nonzero (outcome .table)) l in
       true≢false (sym z ∙ not-true _ n)
 
+  -- what holds of the table before the close
+  table : Listed (isFlow P) slots (outcome .table)
+  table = table-facts (ruleOf P) (isFlow P) (narrowed-pure-passes (isFlow P) (wideRule P)) slots allowance S
+
+  -- every listed flow is one, so that none is flow 0
   pub listed-are-flows : (i : ℕ) → i < length listed → isFlow P (entry i .flow) ≡ true
   listed-are-flows i l =
-      all-at (λ e. ltb (e .flow) (primeOf P)) listed i (by 0 (pos 0)) (all-close _ (outcome .table) (table-facts (ruleOf P) (sound P) slots allowance S .flows)) l
+      all-at (λ e. isFlow P (e .flow)) listed i (by 0 (pos 0)) (all-close _ (outcome .table) (table .flows)) l
+
+  pub never-flow-zero : (i : ℕ) → i < length listed → entry i .flow ≡ 0 → ⊥
+  never-flow-zero i l e = omega (arith, flow-above P (entry i .flow) (listed-are-flows i l))
 
   pub listed-once : (i j : ℕ) → i < j → j < length listed → entry i .flow ≡ entry j .flow → ⊥
-  listed-once i j h l = once-at listed i j (by 0 (pos 0)) (once-close (outcome .table) (table-facts (ruleOf P) (sound P) slots allowance S .apart)) h l
+  listed-once i j h l = once-at listed i j (by 0 (pos 0)) (once-close (outcome .table) (table .apart)) h l
 
   pub listed-within : (i : ℕ) → i < length listed → inLimits (entry i .number) ≡ true
   listed-within i l =
-      all-at (λ e. inLimits (e .number)) listed i (by 0 (pos 0)) (all-close _ (outcome .table) (table-facts (ruleOf P) (sound P) slots allowance S .limits)) l
+      all-at (λ e. inLimits (e .number)) listed i (by 0 (pos 0)) (all-close _ (outcome .table) (table .limits)) l
 
   pub listed-few : length listed ≤ slots
-  listed-few = le-trans (close-fewer (outcome .table)) (table-facts (ruleOf P) (sound P) slots allowance S .few)
+  listed-few = le-trans (close-fewer (outcome .table)) (table .few)
 
   -- entries with count 0 make no difference to the net figure
   pub net-closed : netOf outcome ≡ netFigure (outcome .table)

@@ -1,10 +1,10 @@
--- The purity test is sound modulo every prime and for every placing of flows; modulo a prime above the limits of counts it passes exactly where the scope says; with a sketch's parameters that bucket is one of the flow's.
+-- The test is sound modulo every prime and for every placing of flows, and so is the purity test, which narrows it; modulo a prime above the limits of counts that passes exactly where the scope says; with a sketch's parameters the bucket is one of the flow's.
 use mathlib.Core.Path.{_≡_, refl, sym, ap, subst, _∙_}
 use mathlib.Core.Bool.{Bool, true, false, cond, _&&_, true≢false}
 use Prim.Native.Nat.{ℕ, suc, _+_, _-_, _*_, _/_, _%_, _<_}
 use native.Mathlib.Nat.{mod-add-div'}
 use native.Mathlib.Omega.{arith}
-use borrow.Author.Tests.{eqb-true, eqb-false, ltb-true}
+use borrow.Author.Tests.{eqb-true, eqb-false, ltb-true, lt-ltb, le-leb}
 use lib.Dec.{eqb, ltb}
 use lib.IntN.{ℤ, pos, _*ℤ_}
 use Rattle.field.specs.Prime.{Prime}
@@ -15,7 +15,7 @@ use Rattle.field.proofs.Inverses.{prime-pos}
 use Rattle.field.proofs.Residues.{residue-zero, residue-below}
 use Rattle.field.proofs.OneFlow.{the-flow}
 use Rattle.params.specs.declared.params.Params.{Params}
-use Rattle.params.specs.Params.{primeOf, Dimensions}
+use Rattle.params.specs.Params.{primeOf, isFlow, Dimensions}
 use Rattle.params.specs.Positions.{stand, index, standsIn, stands}
 use Rattle.buckets.specs.Buckets.{inLimits, isZero}
 use Rattle.params.proofs.Rules.{dimensions-good}
@@ -24,10 +24,12 @@ use Rattle.params.proofs.Indexes.{index-where-stands}
 use Rattle.buckets.proofs.Multiples.{multiple-zero}
 use Rattle.walk.specs.declared.Found.{Found}
 use Rattle.walk.specs.declared.Found.the-variants.{Impure, Pure}
-use Rattle.walk.specs.Purity.{testIn, pureTest, guardedTest, ruleOf}
+use Rattle.walk.specs.Narrowed.{onlyIf}
+use Rattle.walk.specs.Purity.{testIn, wideTest, pureTest, guardedTest, wideRule, ruleOf}
 use Rattle.buckets.proofs.Zeros.{is-zero, not-zero}
 use Rattle.walk.proofs.Balance.{Sound}
 use Rattle.walk.proofs.Stuck.{ByArrays}
+use Rattle.walk.proofs.Narrowed.{only-if-pure, only-if-passes, narrowed-pure-is-pure, sound-narrowed, by-arrays-narrowed}
 
 -- a count that is no multiple of p has a residue above 0
 some-residue : (p : ℕ) (c : ℤ) → isMultiple p c ≡ false → 0 < residue p c
@@ -74,17 +76,16 @@ module _ (p : ℕ) (prime : Prime p) (arrays : ℕ) (index : ℕ → ℕ → ℕ
       record {
         positive = prime-pos p prime;
         solves = λ k c s f l e. pure-solves p prime on k c s f e l;
-        a-flow = λ k c s f e. pure-below p prime on k c s f e;
         standing = λ k c s f e. pure-is p on k c s f e .1;
         empty = λ k s. rw (residue-zero p);
       }
 
 -- where the dimensions keep their rules, the code's test is the definition's
 pub guarded-is-pure : {P : Params} (k : ℕ) (c : ℤ) (s : ℕ) → Dimensions P → guardedTest P k c s ≡ pureTest P k c s
-guarded-is-pure {P} k c s h = ap (λ b. testIn (primeOf P) (λ f k. b && stands P f k) k c s) (dimensions-good h)
+guarded-is-pure {P} k c s h = ap (λ b. onlyIf (isFlow P) (testIn (primeOf P) (λ f k. b && stands P f k) k c s)) (dimensions-good h)
 
 pub sound : (P : Params) → Sound (ruleOf P)
-sound P = sound-in (primeOf P) prime-31 (P .d) (index P) (stands P)
+sound P = sound-narrowed (isFlow P) (wideRule P) (sound-in (primeOf P) prime-31 (P .d) (index P) (stands P))
 
 -- the bucket in which a flow stands is its bucket in one of the arrays
 pub stands-at : (P : Params) (f k : ℕ) → stands P f k ≡ true → (k / P .m < P .d) × (k / P .m * P .m + stand P (k / P .m) f ≡ k)
@@ -99,42 +100,64 @@ index-next P i f = let e : suc i - 1 ≡ i = omega arith in ap (λ (n : ℕ). n 
 
 -- so the parameters' rule places flows by its arrays
 pub by-arrays : (P : Params) → ByArrays (ruleOf P)
-by-arrays P = record { array = λ k f e. let w = index-where-stands P f k e in (w .0, w .1, w .2, sym (w .3)) }
+by-arrays P = by-arrays-narrowed (isFlow P) (wideRule P) (record { array = λ k f e. let w = index-where-stands P f k e in (w .0, w .1, w .2, sym (w .3)) })
 
 -- and the bucket in which a flow is pure is one of the flow's
 pub pure-at : (P : Params) (k : ℕ) (c : ℤ) (s f : ℕ) → pureTest P k c s ≡ Pure f → (k / P .m < P .d) × (k / P .m * P .m + stand P (k / P .m) f ≡ k)
 pure-at P k c s f e = stands-at P f k (sound P .standing k c s f e)
 
+-- what is pure passes the wide test too, and of what passes that, flow 0 alone is not pure
+pub pure-is-wide : (P : Params) (k : ℕ) (c : ℤ) (s f : ℕ) → pureTest P k c s ≡ Pure f → wideTest P k c s ≡ Pure f
+pure-is-wide P = narrowed-pure-is-pure (isFlow P) (wideRule P)
+
+pub wide-is-pure : (P : Params) (k : ℕ) (c : ℤ) (s f : ℕ) → wideTest P k c s ≡ Pure f → (f ≡ 0 → ⊥) → pureTest P k c s ≡ Pure f
+wide-is-pure P k c s f e nonzero = rw (e, le-leb 1 f (omega arith), lt-ltb f (primeOf P) (pure-below (primeOf P) prime-31 (stands P) k c s f e))
+
+pub zero-not-pure : (P : Params) (k : ℕ) (c : ℤ) (s : ℕ) → flow (primeOf P) c s ≡ 0 → pureTest P k c s ≡ Impure
+unfolding testIn
+zero-not-pure P k c s e = rw e (go (isMultiple (primeOf P) c) (stands P 0 k))
+  where
+    go : (b t : Bool) → onlyIf (isFlow P) (cond b Impure (cond t (Pure 0) Impure)) ≡ Impure
+    go true t = refl
+    go false true = refl
+    go false false = refl
+
 -- the bucket k with count c and idsum s is pure with flow f, in the scope's words: c is not 0, and f is a number from 0 to p - 1 with c * f
--- congruent to s, and stands there
-pub record PureWith (p : ℕ) (on : ℕ → ℕ → Bool) (k : ℕ) (c : ℤ) (s f : ℕ) : Type 0 where
+-- congruent to s, and stands there; and f passes `ok`, which tells the flows among these numbers
+pub record PureWith (p : ℕ) (ok : ℕ → Bool) (on : ℕ → ℕ → Bool) (k : ℕ) (c : ℤ) (s f : ℕ) : Type 0 where
   pub nonzero : c ≡ pos 0 → ⊥
-  pub a-flow : f < p
+  pub number : f < p
   pub solves : residue p (c *ℤ pos f) ≡ s
   pub there : on f k ≡ true
+  pub a-flow : ok f ≡ true
 
--- in a bucket within its limits, modulo any prime above the limits, the test passes exactly where that is so
-module _ (p : ℕ) (prime : Prime p) (above : 2147483646 < p) (on : ℕ → ℕ → Bool) (k : ℕ) (c : ℤ) (s f : ℕ) (within : inLimits c ≡ true) (below : s < p) where
-  pure-only : testIn p on k c s ≡ Pure f → PureWith p on k c s f
+-- in a bucket within its limits, modulo any prime above the limits, the narrowed test passes exactly where that is so
+module _ (p : ℕ) (prime : Prime p) (above : 2147483646 < p) (ok : ℕ → Bool) (on : ℕ → ℕ → Bool) (k : ℕ) (c : ℤ) (s f : ℕ) (within : inLimits c ≡ true) (below : s < p) where
+  pure-only : onlyIf ok (testIn p on k c s) ≡ Pure f → PureWith p ok on k c s f
   pure-only e =
-      let w = pure-is p on k c s f e in
+      let wide = only-if-pure ok (testIn p on k c s) f e in
+      let w = pure-is p on k c s f wide in
       record {
         nonzero = λ z. true≢false (sym (is-zero c z) ∙ sym (multiple-zero p above c within) ∙ w .0);
-        a-flow = pure-below p prime on k c s f e;
-        solves = pure-solves p prime on k c s f e below;
+        number = pure-below p prime on k c s f wide;
+        solves = pure-solves p prime on k c s f wide below;
         there = w .1;
+        a-flow = only-if-passes ok (testIn p on k c s) f e;
       }
 
-  pure-if : PureWith p on k c s f → testIn p on k c s ≡ Pure f
+  pure-if : PureWith p ok on k c s f → onlyIf ok (testIn p on k c s) ≡ Pure f
   pure-if h =
       let nonzero : isZero c ≡ false = not-zero c (h .nonzero) in
-      let one : flow p c s ≡ f = sym (the-flow p prime c (some-residue p c (multiple-zero p above c within ∙ nonzero)) s below .only f (h .a-flow) (h .solves)) in
-      test-within p on k c s above within ∙ rw (nonzero, one, h .there)
+      let one : flow p c s ≡ f = sym (the-flow p prime c (some-residue p c (multiple-zero p above c within ∙ nonzero)) s below .only f (h .number) (h .solves)) in
+      let wide : testIn p on k c s ≡ Pure f = test-within p on k c s above within ∙ rw (nonzero, one, h .there) in
+      rw (wide, h .a-flow)
 
-  pub pure-exactly-in : (testIn p on k c s ≡ Pure f → PureWith p on k c s f) × (PureWith p on k c s f → testIn p on k c s ≡ Pure f)
+  pub pure-exactly-in : (onlyIf ok (testIn p on k c s) ≡ Pure f → PureWith p ok on k c s f) × (PureWith p ok on k c s f → onlyIf ok (testIn p on k c s) ≡ Pure f)
   pure-exactly-in = (pure-only, pure-if)
 
 -- so with a sketch's parameters
-pub pure-exactly : (P : Params) (k : ℕ) (c : ℤ) (s f : ℕ) → inLimits c ≡ true → s < primeOf P
-    → (pureTest P k c s ≡ Pure f → PureWith (primeOf P) (stands P) k c s f) × (PureWith (primeOf P) (stands P) k c s f → pureTest P k c s ≡ Pure f)
-pure-exactly P k c s f within below = pure-exactly-in (primeOf P) prime-31 (omega arith) (stands P) k c s f within below
+abbrev pub PureIn : Params → ℕ → ℤ → ℕ → ℕ → Type 0
+PureIn P = PureWith (primeOf P) (isFlow P) (stands P)
+
+pub pure-exactly : (P : Params) (k : ℕ) (c : ℤ) (s f : ℕ) → inLimits c ≡ true → s < primeOf P → (pureTest P k c s ≡ Pure f → PureIn P k c s f) × (PureIn P k c s f → pureTest P k c s ≡ Pure f)
+pure-exactly P k c s f within below = pure-exactly-in (primeOf P) prime-31 (omega arith) (isFlow P) (stands P) k c s f within below

@@ -2,5 +2,5 @@
 pub mod Ascii
 pub mod Endings
 pub mod Walk
-pub mod Purity
 pub mod Narrowed
+pub mod Purity

@@ -1,4 +1,4 @@
--- A rule whose test asks more of a flow: how a later demand on flows comes in.
+-- A rule whose test asks more of a flow.
 use mathlib.Core.Bool.{Bool, cond}
 use Prim.Native.Nat.{ℕ}
 use Rattle.walk.specs.declared.Found.{Found}

@@ -5,11 +5,12 @@ use lib.IntN.{ℤ}
 use Rattle.field.specs.Residue.{isMultiple}
 use Rattle.field.specs.Flow.{flow}
 use Rattle.params.specs.declared.params.Params.{Params}
-use Rattle.params.specs.Params.{primeOf, goodDimensions}
+use Rattle.params.specs.Params.{primeOf, isFlow, goodDimensions}
 use Rattle.params.specs.Positions.{index, stands}
 use Rattle.walk.specs.declared.Found.{Found}
 use Rattle.walk.specs.declared.Found.the-variants.{Impure, Pure}
 use Rattle.walk.specs.Walk.{Rule}
+use Rattle.walk.specs.Narrowed.{onlyIf, narrowed}
 
 -- what the test found, as a number and a flow: 0 where the bucket is not pure, and then the flow is 0; 1 where it is, with its flow
 abbrev pub foundNumber : Found → ℕ
@@ -20,7 +21,7 @@ abbrev pub foundFlow : Found → ℕ
 foundFlow Impure = 0
 foundFlow (Pure f) = f
 
--- a bucket k with count c and idsum s, modulo p: pure when c is no multiple of p and the one number f with c * f congruent to s stands
+-- a bucket k with count c and idsum s, modulo p: it passes when c is no multiple of p and the one number f with c * f congruent to s stands
 -- there. Any count is taken; within the limits 0 is the only multiple, so that there this is the scope's 'c is not 0'
 unfoldable pub testIn : ℕ → (ℕ → ℕ → Bool) → ℕ → ℤ → ℕ → Found
 testIn p on k c s =
@@ -28,20 +29,28 @@ testIn p on k c s =
     Impure
     (cond (on (flow p c s) k) (Pure (flow p c s)) Impure)
 
+-- the wide test takes any such number for a flow, 0 too
+abbrev pub wideTest : Params → ℕ → ℤ → ℕ → Found
+wideTest P = testIn (primeOf P) (stands P)
+
+-- the purity test: that number is a flow besides, so that a bucket whose flow comes out as 0 is not pure
 abbrev pub pureTest : Params → ℕ → ℤ → ℕ → Found
-pureTest P = testIn (primeOf P) (stands P)
+pureTest P k c s = onlyIf (isFlow P) (wideTest P k c s)
 
 -- the same where the dimensions may break a rule: then no flow stands anywhere
 abbrev pub guardedTest : Params → ℕ → ℤ → ℕ → Found
-guardedTest P = testIn (primeOf P) (λ f k. goodDimensions P && stands P f k)
+guardedTest P k c s = onlyIf (isFlow P) (testIn (primeOf P) (λ f k. goodDimensions P && stands P f k) k c s)
 
--- the walk of a sketch with these parameters
-abbrev pub ruleOf : Params → Rule
-ruleOf P =
+-- the walk of a sketch with these parameters by the wide test, and by the purity test
+abbrev pub wideRule : Params → Rule
+wideRule P =
     record {
       prime = primeOf P;
       arrays = P .d;
       index = index P;
       stands = stands P;
-      test = pureTest P;
+      test = wideTest P;
     }
+
+abbrev pub ruleOf : Params → Rule
+ruleOf P = narrowed (isFlow P) (wideRule P)

@@ -22,7 +22,7 @@ pub enum Found {
 
 // The purity test of bucket k with count c and idsum s. Where the dimensions break a rule, nothing is pure. The pairs are not
 // judged, and any count and idsum is taken. A bucket whose count is a multiple of the prime is not pure; within the limits that
-// count is 0.
+// count is 0. Nor is one whose flow comes out as 0, which is no flow.
 pub fn test(p: Params, k: usize, c: i32, s: u32) -> Found
     ensures { λ r. ⌜ r ≡ guardedTest p k c s ⌝ }
 {
@@ -30,6 +30,9 @@ pub fn test(p: Params, k: usize, c: i32, s: u32) -> Found
         return Found::Impure;
     }
     let f = field::flow(PRIME, c, s);
+    if !p.is_flow(f) {
+        return Found::Impure;
+    }
     if p.stands(f, k) {
         Found::Pure(f)
     } else {
