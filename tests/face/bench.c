@@ -93,6 +93,12 @@ struct sketch e7(void) {
     return s;
 }
 
+struct sketch of_flow_0(void) {
+    struct sketch s = fresh_sketch();
+    s.counts[0] = s.counts[5] = 3;
+    return s;
+}
+
 struct returned insert(struct sketch *s, uint32_t flow, uint32_t number) {
     struct returned t = nothing_yet();
     t.number = gabunlitik_insert(K, s->counts, BUCKETS, s->idsums, BUCKETS, flow, number, &t.place);

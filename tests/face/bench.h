@@ -59,6 +59,9 @@ struct sketch e5(void); /* 2 by 1, 12 by -1 */
 struct sketch e6(void); /* 7 by -4 */
 struct sketch e7(void); /* 2147483646 by 2147483646 */
 
+/* The sketch of a switch that took flow 0 for a flow, which no call does: 0 by 3. */
+struct sketch of_flow_0(void);
+
 struct returned insert(struct sketch *s, uint32_t flow, uint32_t number);
 struct returned withdraw(struct sketch *s, uint32_t flow, uint32_t number);
 struct returned insert_all(struct sketch *s, const uint32_t *flows, const uint32_t *numbers, size_t n);

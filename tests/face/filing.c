@@ -175,6 +175,8 @@ static void refused_streams(void) {
     CHECK_REFUSED(read_stream(&s, longer.bytes, STREAM + 1), GABUNLITIK_FORM, STREAM, &s, &kept);
     CHECK_REFUSED(read_stream(&s, stored, SKETCH), GABUNLITIK_FORM, 38, &s, &kept);
     CHECK_REFUSED(read_changed_stream(&s, 48, 255), GABUNLITIK_FLOW, 47, &s, &kept);
+    CHECK_REFUSED(read_changed_stream(&s, 42, 0), GABUNLITIK_FLOW, 38, &s, &kept); /* flow 0 first */
+    CHECK_REFUSED(read_changed_stream(&s, 51, 0), GABUNLITIK_FLOW, 47, &s, &kept); /* flow 0 after a packet that goes in */
     CHECK_REFUSED(read_changed_stream(&s, 55, 0), GABUNLITIK_COUNT, 47, &s, &kept);
     CHECK_REFUSED(read_changed_stream(&s, 51, 1), GABUNLITIK_RANGE, 47, &s, &kept); /* flow 1 */
     s.counts[9] = kept.counts[9] = -2147483647;
@@ -205,6 +207,21 @@ static void refused_sketches(void) {
     CHECK(bucket_is(&s, 2, -2147483645, 31));
 }
 
+/* An old sketch file with flow 0 in it is read, and written again byte for byte. */
+static void old_sketch(void) {
+    static const uint8_t old[] = {HEAD, 3, 0, 0, 0, 0, 0, 0, 0, 3, 0, 0, 0, 0, 3, 0, 0, 0, 5, 0, 0, 0, 3, 0, 0, 0, 0, 4, 0, 0, 0, 2};
+    struct sketch s = e7(), wanted = of_flow_0();
+    struct output o = unwritten();
+    CHECK_DONE(read_sketch(&s, old, sizeof old));
+    CHECK(same(&s, &wanted));
+    CHECK_DONE(write_sketch(&o, ROOM, &s));
+    CHECK(holds(&o, old, sizeof old));
+    CHECK_DONE(read_stream(&s, stream, STREAM)); /* packets go in beside it */
+    CHECK_DONE(subtract(&s, &wanted));
+    wanted = e1();
+    CHECK(same(&s, &wanted));
+}
+
 /* A refused writer tells the length 0 and leaves its output alone. */
 static void check_unwritten(struct output *o) {
     CHECK(holds(o, stream, 0));
@@ -212,7 +229,7 @@ static void check_unwritten(struct output *o) {
 }
 
 static void refused_writing(void) {
-    static const uint32_t no_flow[] = {7, 2147483647}, no_number[] = {0, 1};
+    static const uint32_t no_flow[] = {7, 2147483647}, flow_0[] = {7, 0}, no_number[] = {0, 1};
     struct sketch s = e1(), kept = s;
     struct output o = unwritten();
     struct returned t = nothing_yet();
@@ -230,6 +247,8 @@ static void refused_writing(void) {
     CHECK_RETURNS(write_stream(&o, STREAM - 1, flows, 2, numbers), GABUNLITIK_LENGTH, 0);
     check_unwritten(&o);
     CHECK_RETURNS(write_stream(&o, ROOM, no_flow, 2, no_number), GABUNLITIK_FLOW, 0);
+    check_unwritten(&o);
+    CHECK_RETURNS(write_stream(&o, ROOM, flow_0, 2, no_number), GABUNLITIK_FLOW, 0);
     check_unwritten(&o);
     CHECK_RETURNS(write_stream(&o, ROOM, flows, 2, no_number), GABUNLITIK_COUNT, 0);
     check_unwritten(&o);
@@ -264,6 +283,7 @@ void test_files(void) {
     heads();
     refused_streams();
     refused_sketches();
+    old_sketch();
     refused_writing();
     damaged_writing();
 }

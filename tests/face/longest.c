@@ -23,7 +23,7 @@ static int all_are(uint8_t byte, const void *memory, size_t n) {
 /* The lists are as they were made. */
 static int listed(void) {
     for (uint32_t i = 0; i < OVER; i++)
-        if (flows[i] != i || numbers[i] != i % 1000 + 1)
+        if (flows[i] != i + 1 || numbers[i] != i % 1000 + 1)
             return 0;
     return 1;
 }
@@ -42,7 +42,7 @@ static void lists(void) {
     struct returned t = nothing_yet();
     size_t length;
     for (uint32_t i = 0; i < OVER; i++) {
-        flows[i] = i;
+        flows[i] = i + 1;
         numbers[i] = i % 1000 + 1;
     }
     for (size_t i = 0; i < sizeof refused / sizeof refused[0]; i++) {

@@ -17,11 +17,12 @@ static struct found find(finding *call, const uint32_t *params, uint32_t array, 
     return f;
 }
 
-/* Flows stand at the rest by 5 in array 1; in array 2 where the scope says. The index counts the buckets of the arrays before. */
+/* Flows stand at the rest by 5 in array 1; in array 2 where the scope says, and flow 1, the lowest, at the rest of 1073741824. The index
+ * counts the buckets of the arrays before. */
 static void places(void) {
-    static const uint32_t flows[] = {2, 7, 11, 12, 20};
-    static const size_t positions[] = {1, 2, 4, 1, 0};
-    for (size_t i = 0; i < 5; i++) {
+    static const uint32_t flows[] = {2, 7, 11, 12, 20, 1};
+    static const size_t positions[] = {1, 2, 4, 1, 0, 4};
+    for (size_t i = 0; i < 6; i++) {
         struct found f = find(gabunlitik_position, K, 1, flows[i]);
         CHECK_DONE(f.returned);
         CHECK(f.at == flows[i] % M);
@@ -54,6 +55,9 @@ static void refused(void) {
     check_refused(K, 3, 7, GABUNLITIK_PARAM);
     check_refused(K, 4294967295, 7, GABUNLITIK_PARAM);
     check_refused(K, 3, 2147483647, GABUNLITIK_PARAM);
+    check_refused(K, 3, 0, GABUNLITIK_PARAM);
+    check_refused(K, 1, 0, GABUNLITIK_FLOW);
+    check_refused(K, 2, 0, GABUNLITIK_FLOW);
     check_refused(K, 1, 2147483647, GABUNLITIK_FLOW);
     check_refused(K, 2, 4294967295, GABUNLITIK_FLOW);
 }

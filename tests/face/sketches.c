@@ -52,6 +52,8 @@ static void refused_packets(void) {
     CHECK_REFUSED(insert(&s, 1, 1), GABUNLITIK_RANGE, 1, &s, &kept);
     CHECK_REFUSED(insert(&s, 2147483647, 1), GABUNLITIK_FLOW, 0, &s, &kept);
     CHECK_REFUSED(insert(&s, 2147483647, 0), GABUNLITIK_FLOW, 0, &s, &kept);
+    CHECK_REFUSED(insert(&s, 0, 1), GABUNLITIK_FLOW, 0, &s, &kept);
+    CHECK_REFUSED(insert(&s, 0, 0), GABUNLITIK_FLOW, 0, &s, &kept);
     CHECK_REFUSED(insert(&s, 1, 0), GABUNLITIK_COUNT, 0, &s, &kept);
     CHECK_REFUSED(insert(&s, 1, 2147483647), GABUNLITIK_COUNT, 0, &s, &kept);
     s.counts[7] = kept.counts[7] = -2147483647;
@@ -70,11 +72,26 @@ static void refused_withdrawals(void) {
     CHECK_REFUSED(withdraw(&s, 1, 1), GABUNLITIK_RANGE, 1, &s, &kept);
     CHECK_REFUSED(withdraw(&s, 2147483646, 1), GABUNLITIK_RANGE, 1, &s, &kept);
     CHECK_REFUSED(withdraw(&s, 2147483647, 0), GABUNLITIK_FLOW, 0, &s, &kept);
+    CHECK_REFUSED(withdraw(&s, 0, 1), GABUNLITIK_FLOW, 0, &s, &kept);
     CHECK_REFUSED(withdraw(&s, 1, 0), GABUNLITIK_COUNT, 0, &s, &kept);
     CHECK_REFUSED(withdraw(&s, 1, 2147483647), GABUNLITIK_COUNT, 0, &s, &kept);
     s.idsums[9] = kept.idsums[9] = 2147483647; /* where flow 11 stands, beside index 1 */
     CHECK_REFUSED(withdraw(&s, 11, 1), GABUNLITIK_DAMAGE, 9, &s, &kept);
     CHECK_DONE(withdraw(&s, 12, 1)); /* whose buckets are whole */
+}
+
+/* Flow 0 is refused before its buckets are looked at, also where packets of it stand from before; flow 1 is the lowest. */
+static void flow_0(void) {
+    struct sketch s = of_flow_0(), kept = s;
+    CHECK_REFUSED(withdraw(&s, 0, 3), GABUNLITIK_FLOW, 0, &s, &kept);
+    s.counts[0] = kept.counts[0] = -2147483647;
+    CHECK_REFUSED(insert(&s, 0, 1), GABUNLITIK_FLOW, 0, &s, &kept);
+    CHECK_REFUSED(withdraw(&s, 0, 1), GABUNLITIK_FLOW, 0, &s, &kept);
+    s = fresh_sketch();
+    CHECK_DONE(insert(&s, 1, 1));
+    CHECK(used(&s) == 2);
+    CHECK(bucket_is(&s, 1, 1, 1));
+    CHECK(bucket_is(&s, 9, 1, 1));
 }
 
 /* A bucket of flow 7 by itself, at its limits and past them, and what one packet more is answered; index 3 is not one of 7's. */
@@ -123,7 +140,7 @@ static void several_faults(void) {
 /* The lists are static and const, so that a write to them would end the program. */
 static void refused_lists(void) {
     static const uint32_t flows[] = {7, 12, 1}, numbers[] = {1, 2, 1}, no_number[] = {1, 2, 0};
-    static const uint32_t no_flow[] = {1, 2147483647}, no_number_first[] = {0, 1};
+    static const uint32_t no_flow[] = {1, 2147483647}, no_number_first[] = {0, 1}, flow_0_last[] = {7, 12, 0};
     struct sketch s = e7(), kept = s;
     CHECK_REFUSED(insert_all(&s, flows, numbers, 3), GABUNLITIK_RANGE, 1, &s, &kept);
     CHECK_REFUSED(insert_all(&s, flows, no_number, 3), GABUNLITIK_COUNT, 0, &s, &kept);
@@ -133,6 +150,7 @@ static void refused_lists(void) {
     s = kept = e1();
     CHECK_REFUSED(insert_all(&s, no_flow, no_number_first, 2), GABUNLITIK_COUNT, 0, &s, &kept);
     CHECK_REFUSED(insert_all(&s, no_flow, numbers, 2), GABUNLITIK_FLOW, 0, &s, &kept);
+    CHECK_REFUSED(insert_all(&s, flow_0_last, numbers, 3), GABUNLITIK_FLOW, 0, &s, &kept);
 }
 
 static void refused_parameters(void) {
@@ -199,6 +217,7 @@ void test_sketches(void) {
     withdrawals();
     refused_packets();
     refused_withdrawals();
+    flow_0();
     limits();
     several_faults();
     refused_lists();

@@ -100,6 +100,38 @@ static void stuck_and_full(void) {
     CHECK(same(&s, &kept));
 }
 
+/* What an old sketch holds of flow 0 is never listed: it is stuck by itself, and where all else is listed. */
+static void flow_0(void) {
+    struct sketch s = of_flow_0(), kept = s, other = e1();
+    struct walk w = unwalked();
+    CHECK_DONE(peel(&s, &w, MOST_SLOTS, 80));
+    CHECK(figures_are(&w, GABUNLITIK_ENDED_STUCK, 0, 0, 2));
+    CHECK(cleared(&w));
+    CHECK(same(&s, &kept));
+    w = unwalked();
+    CHECK_DONE(peel(&s, &w, MOST_SLOTS, 1)); /* a bucket that is not pure is a pop */
+    CHECK(figures_are(&w, GABUNLITIK_ENDED_SPENT, 0, 0, 1));
+    CHECK(same(&s, &kept));
+    CHECK_DONE(add(&s, &other));
+    w = unwalked();
+    CHECK_DONE(peel(&s, &w, MOST_SLOTS, 80));
+    CHECK(figures_are(&w, GABUNLITIK_ENDED_STUCK, 2, 3, 6));
+    CHECK(w.flows[0] == 12 && w.counts[0] == 2 && w.flows[1] == 7 && w.counts[1] == 1);
+    CHECK(cleared(&w));
+    CHECK(same(&s, &kept));
+    other = fresh_sketch();
+    CHECK_DONE(subtract(&other, &s)); /* more of flow 0 downstream */
+    s = kept = other;
+    w = unwalked();
+    CHECK_DONE(peel(&s, &w, MOST_SLOTS, 80));
+    CHECK(figures_are(&w, GABUNLITIK_ENDED_STUCK, 0, 0, 2));
+    CHECK(same(&s, &kept));
+    other = of_flow_0();
+    CHECK_DONE(add(&s, &other)); /* as much on both sides */
+    CHECK_DONE(peel(&s, &w, MOST_SLOTS, 0));
+    CHECK(figures_are(&w, GABUNLITIK_ENDED_CLEAN, 0, 0, 0));
+}
+
 /* Index 2 passes as flow 7, whose other bucket would come to -3000000000. */
 static void range(void) {
     struct sketch s = fresh_sketch(), other = fresh_sketch(), kept;
@@ -189,6 +221,7 @@ void test_walks(void) {
     clean();
     spent();
     stuck_and_full();
+    flow_0();
     range();
     edges();
     refused();

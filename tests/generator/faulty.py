@@ -1,7 +1,7 @@
 """Faulty inputs of the report: a sound one of a few records, changed in one place or cut."""
 
 from generator.files import MOST, P, WORD, Params, end, head, joined, packets, stream
-from generator.values import MOST_BUCKETS, any_flow, any_pair, any_params, broken, place, small_entries, some_record
+from generator.values import MOST_BUCKETS, any_flow, any_pair, any_params, broken, no_flow, place, small_entries, some_record
 
 
 def sound(rng):
@@ -21,7 +21,7 @@ def with_packets(rng):
 
 
 def bad_packet_in(rng, streams, which, at):
-    flow = rng.choice((P, P + 1, 2**31, WORD))
+    flow = no_flow(rng)
     number = rng.choice((0, P, P + 1, WORD))
     good_flow, good_number = any_flow(rng), rng.randint(1, 5)
     streams[which][at] = packets(*rng.choice(((flow, good_number), (good_flow, number), (flow, number))))

@@ -7,7 +7,8 @@ from generator.files import joined, stream
 SOUND = (
     (sound.lost, 12), (sound.duplicates, 10), (sound.crowded, 8), (sound.tiny, 16), (sound.many_flows, 6), (sound.wide, 10),
     (sound.meets_the_range, 4), (sound.meets_the_table, 4), (sound.searched, 5), (sound.false_pure, 12),
-    (sound.cancelled, 6), (sound.at_the_limits, 10), (sound.nothing_lost, 4), (sound.at_the_size, 8), (sound.large, 1),
+    (sound.comes_out_as_zero, 8), (sound.cancelled, 6), (sound.at_the_limits, 10), (sound.nothing_lost, 4),
+    (sound.at_the_size, 8), (sound.large, 1),
 )
 FAULTY = (
     (faulty.bad_packet, 10), (faulty.two_bad_packets, 4), (faulty.over_the_limit, 8), (faulty.bad_head, 10),

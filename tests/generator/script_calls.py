@@ -3,12 +3,13 @@
 from generator import sound
 from generator.commands import OUTPUT_ROOM, ROOM, SLICES, Script
 from generator.files import MOST, P, WORD, Params
-from generator.values import any_flow, any_params, any_pair, broken, four_pairs, place, position, small_entries
+from generator.values import (
+    any_flow, any_params, any_pair, broken, four_pairs, no_flow, place, position, small_entries, uniform_flow)
 
 # Sound differences whose walks are short enough to be tried with one allowance after the other.
 DIFFERENCES = (
     sound.tiny, sound.tiny, sound.many_flows, sound.wide, sound.meets_the_range, sound.meets_the_table, sound.searched,
-    sound.false_pure, sound.cancelled, sound.at_the_limits, sound.duplicates)
+    sound.false_pure, sound.comes_out_as_zero, sound.cancelled, sound.at_the_limits, sound.duplicates)
 
 # Where both counts are at most this in size, the library looks no further for a sum that leaves the limits.
 QUIET = 10**9
@@ -115,7 +116,7 @@ def long_tables(rng):
             for index in range(size):
                 script.bucket(index, rng.choice((-1, 1)) * rng.randint(1, most), rng.randint(0, P - 1))
         else:
-            put_in(rng, script, 2, [(rng.randint(0, P - 1), rng.randint(1, most)) for _ in range(rng.randint(2, size))])
+            put_in(rng, script, 2, [(uniform_flow(rng), rng.randint(1, most)) for _ in range(rng.randint(2, size))])
             script.add("subtract")
         script.table(params, rng.choice((size + 1, 2 * size, 5 * size, 1000, 1000)), rng.choice((0, 9, WORD)))
         script.add("peel", 1, (rng.choice((100, 500, 2000)),))
@@ -124,13 +125,13 @@ def long_tables(rng):
 
 
 def any_buckets(rng):
-    """Buckets of any content peeled: such as no packets made, at the limits, with a count of 0 and an idsum that is not."""
+    """Buckets of any content peeled: such as no packets made, at the limits, of flow 0, with a count of 0 and an idsum that is not."""
     params = any_params(rng, 1, rng.choice((1, 3, 6)))
     size = params.d * params.m
     script = Script()
     script.sketch(1, params)
     for index in range(size):
-        flow = any_flow(rng)
+        flow = rng.choice((any_flow(rng), any_flow(rng), 0))
         count = any_count(rng)
         pure = index % params.m == position(params, index // params.m, flow) or rng.random() < 0.3
         script.bucket(index, count, count * flow % P if pure else any_idsum(rng))
@@ -174,7 +175,7 @@ def moved(rng, name, sign):
                 damage(rng, script, 1, index)
         if rng.random() < 0.2:
             damage(rng, script, 1, rng.randrange(params.d * params.m))
-        script.add(name, 1, (flow if rng.random() < 0.9 else rng.choice((P, P + 1, WORD)), number))
+        script.add(name, 1, (flow if rng.random() < 0.9 else no_flow(rng), number))
         script.add("show")
     return script
 
@@ -205,7 +206,8 @@ def lists(rng):
         at = place(rng, 0, len(entries) - 1)
         flow, number = entries[at]
         entries[at] = rng.choice((
-            (P, number), (WORD, 0), (flow, 0), (flow, P), (flow, MOST), (flow, MOST), (flow, MOST - rng.randint(0, 9))))
+            (no_flow(rng), number), (no_flow(rng), 0), (flow, 0), (flow, P), (flow, MOST), (flow, MOST),
+            (flow, MOST - rng.randint(0, 9))))
     script.packets(entries)
     if rng.random() < 0.2:
         flow, _ = rng.choice(entries)
@@ -305,7 +307,7 @@ def wrong_slice(rng, script, size):
 
 def calls(rng, params):
     """All calls that have no file as operand, in any order."""
-    flow = rng.choice((any_flow(rng), any_flow(rng), P))
+    flow = rng.choice((any_flow(rng), any_flow(rng), no_flow(rng)))
     made = [
         ("insert", (flow, rng.choice((1, 1, 0, MOST)))), ("withdraw", (flow, rng.choice((1, 1, 0, MOST)))), ("insert all", ()), ("add", ()), ("subtract", ()),
         ("peel", (rng.randint(0, 30),)), ("write stream", ()), ("write sketch", ()), ("read stream back", ()),
@@ -371,7 +373,7 @@ def places(rng):
     script.params(1, params if rng.random() < 0.8 else bad_params(rng, params))
     for _ in range(rng.randint(1, 12)):
         array = rng.choice((0, 1, params.d, params.d + 1, rng.randint(1, 4), WORD))
-        flow = rng.choice((any_flow(rng), any_flow(rng), P, WORD))
+        flow = rng.choice((any_flow(rng), any_flow(rng), no_flow(rng)))
         script.add(rng.choice(("position", "index")), 1, (array, flow))
     return script.bytes
 

@@ -1,10 +1,10 @@
-"""Scripts about files: sound and faulty ones read, their heads alone, and files written and read back."""
+"""Scripts about files: sound and faulty ones read, old ones with flow 0 in them, their heads alone, and files written and read back."""
 
 from generator.commands import Script
 from generator.files import MOST, P, WORD, Params, bucket, end, head, packets, sketch_file, stream
 from generator.script_calls import (
-    DAMAGED_COUNTS, DAMAGED_IDSUMS, any_content, any_count, any_idsum, bad_params, changed, damage, wrong_length)
-from generator.values import any_flow, any_params, place, small_entries, some_record
+    DAMAGED_COUNTS, DAMAGED_IDSUMS, any_content, any_count, any_idsum, bad_params, changed, damage, indexes, wrong_length)
+from generator.values import any_flow, any_params, no_flow, place, small_entries, some_record
 
 
 def any_stream(rng, params):
@@ -20,7 +20,7 @@ def any_sketch_file(rng, params):
 
 
 def bad_packets(rng):
-    flow, number = rng.choice((P, P + 1, WORD)), rng.choice((0, P, WORD))
+    flow, number = no_flow(rng), rng.choice((0, P, WORD))
     return packets(*rng.choice(((flow, 1), (any_flow(rng), number), (flow, number), (any_flow(rng), MOST))))
 
 
@@ -115,6 +115,38 @@ def sketches_read(rng):
     return reading(rng, "sketch")
 
 
+def sketched(params, entries):
+    """The buckets of a list of entries, each with its index, in rising order; those that are all zero are left out."""
+    counts, idsums = {}, {}
+    for flow, number in entries:
+        for index in indexes(params, flow):
+            counts[index] = counts.get(index, 0) + number
+            idsums[index] = (idsums.get(index, 0) + number * flow) % P
+    return [(index, counts[index], idsums[index]) for index in sorted(counts) if (counts[index], idsums[index]) != (0, 0)]
+
+
+def old_sketches(rng):
+    """Sketch files of switches that took flow 0 for a flow: read, written again, subtracted and peeled; flow 0 itself is refused."""
+    params = any_params(rng, 1, rng.choice((2, 6, 30)))
+    size = params.d * params.m
+    script = Script()
+    for sketch in (1, 2):
+        script.sketch(sketch, params)
+        entries = [(0, rng.choice((0, 1, 7, rng.randint(1, MOST // 2))))] + rng.choice(([], small_entries(rng, 4)))
+        script.read("read sketch", b"".join(sketch_file(params, sketched(params, entries))), sketch)
+    script.length("output", 43 + 13 * size)
+    script.add("write sketch")
+    script.show()
+    script.add("read sketch back", rng.choice((1, 1, 1, 2)))
+    script.add(rng.choice(("subtract", "subtract", "add")))
+    script.add(rng.choice(("insert", "withdraw")), 1, (0, rng.choice((0, 1, P))))
+    script.add(rng.choice(("position", "index")), 1, (rng.randint(0, params.d + 1), 0))
+    script.table(params, size, rng.choice((0, 9, WORD)))
+    script.add("peel", 1, (rng.choice((8 * size, rng.randint(0, 2 * params.d))),))
+    script.show()
+    return script.bytes
+
+
 def every_cut(rng):
     """A short file cut at every byte, or with every length of zeros after it."""
     params = any_params(rng, 1, 3)
@@ -166,10 +198,10 @@ def streams_written(rng):
     entries = small_entries(rng, 9)
     for _ in range(rng.choice((0, 0, 1, 2)) if entries else 0):
         at = place(rng, 0, len(entries) - 1)
-        entries[at] = rng.choice(((P, 1), (WORD, 0), (3, 0), (3, P), (3, MOST)))
+        entries[at] = rng.choice(((no_flow(rng), 1), (no_flow(rng), 0), (3, 0), (3, P), (3, MOST)))
     if len(entries) > 1 and rng.random() < 0.1:
         # FLOW at the last entry comes before COUNT at the first.
-        entries[0], entries[-1] = (any_flow(rng), rng.choice((0, P))), (rng.choice((P, WORD)), 1)
+        entries[0], entries[-1] = (any_flow(rng), rng.choice((0, P))), (no_flow(rng), 1)
     script.packets(entries)
     if rng.random() < 0.1:
         script.length(rng.choice(("packet flows", "packet numbers")), wrong_length(rng, len(entries)))

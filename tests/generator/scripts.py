@@ -65,7 +65,7 @@ KINDS = (
     (script_calls.sums, 10),
     (script_calls.orders, 10), (script_calls.lengths, 8), (script_calls.parameters, 6), (script_calls.places, 4),
     (script_calls.long_lists, 0.5), (script_calls.largest, 0.3),
-    (script_files.streams_read, 14), (script_files.sketches_read, 16), (script_files.every_cut, 3), (script_files.heads, 6),
+    (script_files.streams_read, 14), (script_files.sketches_read, 16), (script_files.old_sketches, 8), (script_files.every_cut, 3), (script_files.heads, 6),
     (script_files.streams_written, 8), (script_files.sketches_written, 8),
     (any_calls, 10), (any_operands, 6), (broken_off, 4), (empty, 0.1),
 )

@@ -1,7 +1,7 @@
 """Sound pairs of streams, each walked to an ending: parameters, and the packets upstream and downstream."""
 
 from generator.files import MOST, P, Params
-from generator.values import MOST_BUCKETS, any_flow, any_params, four_pairs, position, small_entries, split
+from generator.values import MOST_BUCKETS, any_flow, any_pair, any_params, four_pairs, position, small_entries, split, uniform_flow
 
 
 def lost(rng):
@@ -28,7 +28,7 @@ def crowded(rng):
     """About as many lost flows as a sketch can give back, or more."""
     params = any_params(rng, 3, 40)
     flows = int(params.d * params.m * rng.uniform(0.5, 1.4)) + 1
-    return params, *split(rng, [(rng.randint(0, P - 1), rng.randint(1, 3)) for _ in range(flows)])
+    return params, *split(rng, [(uniform_flow(rng), rng.randint(1, 3)) for _ in range(flows)])
 
 
 def tiny(rng):
@@ -43,7 +43,7 @@ def tiny(rng):
 def many_flows(rng):
     """Four arrays of two or three buckets: the walk finds flow after flow that never was, and some tables fill up."""
     params = Params(4, rng.choice((2, 2, 3)), four_pairs(rng, 4))
-    return params, *split(rng, [(rng.randint(0, P - 1), rng.randint(-9, 9)) for _ in range(rng.randint(4, 20))])
+    return params, *split(rng, [(uniform_flow(rng), rng.randint(-9, 9)) for _ in range(rng.randint(4, 20))])
 
 
 def wide(rng):
@@ -61,13 +61,13 @@ def wide(rng):
 def meets_the_range(rng):
     """Two flows pass as a third in the first bucket, and taking it brings a bucket of a fourth flow to the limit or past it."""
     m = rng.randint(3, 8)
-    low, step = rng.randint(0, 1000), rng.randint(1, 1000)
+    low, step = rng.randint(1, 1000), rng.randint(1, 1000)
     first, third, second = (m * (low + i * step) for i in range(3))
     while True:
         d = rng.randint(2, 4)
         pairs = tuple(pair for pair in four_pairs(rng, 4) if pair != (1, 0))
         params = Params(d, m, ((1, 0),) + pairs[:d - 1] + ((0, 0),) * (4 - d))
-        fourth = rng.randint(0, P - 1)
+        fourth = uniform_flow(rng)
         array = rng.randrange(1, d)
         at = position(params, array, third)
         apart = all(position(params, array, flow) != at for flow in (first, second))
@@ -157,8 +157,24 @@ def false_pure(rng):
     for _ in range(rng.randint(1, 3)):
         first, second = rng.choice(((1, 1), (1, 2), (2, 1), (3, -1), (-1, -1), (-2, 1), (rng.randint(1, 50), rng.randint(1, 50))))
         step = abs(first + second) * rng.randint(1, 3)
-        at, row = rng.randint(0, 40), rng.randint(0, m - 1)
+        at, row = rng.randint(1, 41), rng.randint(0, m - 1)
         entries += [(row + m * at, first), (row + m * (at + step), second)]
+    return params, *split(rng, entries)
+
+
+def comes_out_as_zero(rng):
+    """Two flows in one bucket, where flow 0 would stand too: the bucket's flow comes out as 0, and so it is not pure."""
+    d = rng.randint(2, 4)
+    m = rng.randint(1, 40)
+    first, second, step = rng.randint(1, 9), rng.randint(1, 9), m * rng.randint(1, 1000)
+    # Multiplied by a, the two flows lie on either side of 0, so that first times the one and second times the other cancel out.
+    above, below = second * step, first * step
+    a, b = any_pair(rng)[0], rng.randint(below, P - 1 - above)
+    flows = above * pow(a, -1, P) % P, -below * pow(a, -1, P) % P
+    pairs = ((a, b),) + tuple(pair for pair in four_pairs(rng, 4) if pair != (a, b))
+    params = Params(d, m, pairs[:d] + ((0, 0),) * (4 - d))
+    sign = rng.choice((1, -1))
+    entries = list(zip(flows, (sign * first, sign * second))) + rng.choice(([], small_entries(rng, 3)))
     return params, *split(rng, entries)
 
 
@@ -173,14 +189,14 @@ def cancelled(rng):
 
 
 def at_the_limits(rng):
-    """Counts that reach the limit exactly, at once or in two steps, in either stream or both; flows 0 and p - 1."""
+    """Counts that reach the limit exactly, at once or in two steps, in either stream or both; flows 1 and p - 1."""
     params = any_params(rng, 1, 6)
 
     def entries(flow):
         first = rng.choice((MOST, 1, MOST - 1, rng.randint(1, MOST)))
         return [(flow, first)] + ([(flow, MOST - first)] if first < MOST else [])
 
-    flow = rng.choice((0, P - 1, any_flow(rng)))
+    flow = rng.choice((1, P - 1, any_flow(rng)))
     other = rng.choice((flow, any_flow(rng)))
     sides = rng.choice(((True, False), (False, True), (True, True)))
     upstream = entries(flow) if sides[0] else small_entries(rng, 3)
@@ -208,7 +224,7 @@ def at_the_size(rng):
 def large(rng):
     """Some thousands of records."""
     params = any_params(rng, 200)
-    upstream = [(rng.randint(0, P - 1), rng.randint(1, 9)) for _ in range(rng.randint(1000, 6000))]
+    upstream = [(uniform_flow(rng), rng.randint(1, 9)) for _ in range(rng.randint(1000, 6000))]
     chance = rng.choice((0.02, 0.1, 0.2, 0.5))
     downstream = [entry for entry in upstream if rng.random() > chance]
     return params, upstream, downstream

@@ -1,4 +1,4 @@
-"""Values that inputs are made of: parameters, sound or not, flows, entries and records of any kind."""
+"""Values that inputs are made of: parameters, sound or not, flows and numbers that are none, entries and records of any kind."""
 
 from generator.files import P, WORD, Params, bucket, end, head, packets
 
@@ -32,8 +32,17 @@ def position(params, i, flow):
     return (a * flow + b) % P % params.m
 
 
+def uniform_flow(rng):
+    return rng.randint(1, P - 1)
+
+
 def any_flow(rng):
-    return rng.choice((rng.randint(0, 30), rng.randint(0, P - 1), rng.randint(0, P - 1), 0, P - 1))
+    return rng.choice((rng.randint(1, 30), uniform_flow(rng), uniform_flow(rng), 1, P - 1))
+
+
+def no_flow(rng):
+    """A number that no flow has."""
+    return rng.choice((0, 0, P, P + 1, 2**31, WORD))
 
 
 def small_entries(rng, most):
@@ -91,6 +100,6 @@ def some_record(rng, params):
         bucket(WORD, -2**31, WORD),
         end(rng.randint(0, 3)),
         packets(any_flow(rng), 1),
-        packets(P, 0),
+        packets(no_flow(rng), 0),
         bytes([rng.choice((0, 5, 6, 7, 8, 9, 10, 11, 127, 128, 255, rng.randint(5, 255)))]) + rng.randbytes(rng.randint(0, 40)),
     ))

@@ -3,7 +3,7 @@
 //! A call works on a copy of the lent sketch, which is put back only where nothing was refused.
 
 use crate::records::{self, BUCKET, END, PACKETS};
-use crate::sketch::{judge_packets, Bucket, Fault, Params, Refusal, Sketch};
+use crate::sketch::{judge_flow, judge_number, Bucket, Fault, Params, Refusal, Sketch};
 use crate::walk::{self, Walked};
 
 /// The longest table, and the most packets that a stream is written from.
@@ -197,13 +197,12 @@ pub fn write_stream(params: &Params, flows: &[i64], numbers: &[i64], output: &mu
     }
     file.extend(records::record_bytes(END, &[flows.len() as i64]));
     refuse_if(file.len() > output.len(), Fault::Length)?;
-    // A writer judges as any call does: the lowest number over all entries. So each flow goes with a number that is
-    // right, and then each number with a flow that is.
+    // A writer judges as any call does: the lowest number over all entries, so all flows before the first number.
     for &flow in flows {
-        judge_packets(flow, 1)?;
+        judge_flow(flow)?;
     }
     for &number in numbers {
-        judge_packets(0, number)?;
+        judge_number(number)?;
     }
     put_file(output, &file)
 }
@@ -218,7 +217,7 @@ fn put_file(output: &mut [i64], file: &[u8]) -> Result<usize, Refusal> {
 /// Whether a flow may be asked for in an array.
 pub fn judge_place(params: &Params, array: i64, flow: i64) -> Result<(), Refusal> {
     refuse_if(!params.keep_the_rules() || array < 1 || array > params.d, Fault::Param)?;
-    judge_packets(flow, 1)
+    judge_flow(flow)
 }
 
 /// The two table slices.

@@ -123,7 +123,8 @@ impl Sketch {
     }
 
     fn put(&mut self, sign: i64, flow: i64, number: i64) -> Result<(), Refusal> {
-        judge_packets(flow, number)?;
+        judge_flow(flow)?;
+        judge_number(number)?;
         // In rising array order, so the first of them that is at fault has the lowest index.
         let indexes = self.params.indexes(flow);
         if let Some(&index) = indexes.iter().find(|&&index| self.buckets[index].is_damaged()) {
@@ -157,10 +158,15 @@ impl Sketch {
     }
 }
 
-pub fn judge_packets(flow: i64, number: i64) -> Result<(), Refusal> {
-    if flow >= P {
+/// Flow 0 is nobody's.
+pub fn judge_flow(flow: i64) -> Result<(), Refusal> {
+    if flow == 0 || flow >= P {
         return Err(Fault::Flow.refused());
     }
+    Ok(())
+}
+
+pub fn judge_number(number: i64) -> Result<(), Refusal> {
     if number == 0 || number > P - 1 {
         return Err(Fault::Count.refused());
     }

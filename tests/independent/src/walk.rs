@@ -91,7 +91,7 @@ pub fn walk(sketch: &mut Sketch, slots: usize, allowance: usize) -> Walked {
     Walked { ending, entries, net, pops }
 }
 
-/// The flow of a pure bucket.
+/// The flow of a pure bucket. One whose flow comes out as 0 is not pure.
 fn pure(params: &Params, index: usize, bucket: Bucket) -> Option<i64> {
     if bucket.count == 0 {
         return None;
@@ -99,7 +99,7 @@ fn pure(params: &Params, index: usize, bucket: Bucket) -> Option<i64> {
     let flow = inverse(bucket.count.rem_euclid(P)) * bucket.idsum % P;
     let array = index as i64 / params.m + 1;
     let position = index as i64 % params.m;
-    (params.position(array, flow) == position).then_some(flow)
+    (flow != 0 && params.position(array, flow) == position).then_some(flow)
 }
 
 /// The inverse of 1..p-1 modulo p: its power p - 2, by Fermat.
