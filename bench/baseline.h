@@ -104,7 +104,7 @@ static inline void find_buckets(const struct params *params, uint32_t flow, uint
 // A refusal goes with a place: the index of the bucket at fault, or the offset of a stream's record.
 // Inlined, so that loops over packets pay for no call.
 static inline enum refusal insert_packets(struct sketch *sketch, uint32_t flow, uint32_t number, size_t *place) {
-    if (flow >= PRIME)
+    if (flow < 1 || flow >= PRIME)
         return FLOW;
     if (number < 1 || number >= PRIME)
         return COUNT;

@@ -137,6 +137,8 @@ static enum ending run(struct walk *walk, struct sketch *sketch, struct table *t
         if (count == 0)
             continue;
         uint32_t flow = flow_of(count, idsum);
+        if (flow == 0)
+            continue;
         uint32_t array = k / sketch->params.m;
         if (array * sketch->params.m + position(&sketch->params, array, flow) != k)
             continue;

@@ -103,13 +103,20 @@ static struct figures peel(struct sketch *sketch, uint32_t allowance) {
     return baseline_peel(sketch, &table, &room, allowance);
 }
 
-// The walk of a seed, over a table with a slot a bucket, as the report program has it.
-static struct figures walk(const struct setting *setting, uint64_t seed, struct params *params) {
-    *params = make_params(&seed, setting->d, setting->m);
+// The difference of a seed: the sketch of the lost flows.
+static struct sketch difference(const struct setting *setting, uint64_t seed) {
+    struct params params = make_params(&seed, setting->d, setting->m);
     draw_lost(setting, &seed);
-    struct sketch sketch = fresh(params);
+    struct sketch sketch = fresh(&params);
     for (size_t i = 0; i < lost.length; i++)
         insert(&sketch, flow_of_entry(lost.entries[i]), (uint32_t)lost.entries[i]);
+    return sketch;
+}
+
+// Its walk, over a table with a slot a bucket, as the report program has it.
+static struct figures walk(const struct setting *setting, uint64_t seed, struct params *params) {
+    struct sketch sketch = difference(setting, seed);
+    *params = sketch.params;
     return peel(&sketch, setting->pops * size_of(params));
 }
 
@@ -209,6 +216,37 @@ static void print_tally(const struct setting *setting, uint64_t last_seed) {
     printf("\n");
 }
 
+// Whether a walk leaves so many packets of flow 0 and nothing else.
+static int is_left_alone(const struct params *params, int32_t number) {
+    uint32_t buckets[4];
+    find_buckets(params, 0, buckets);
+    for (uint32_t array = 0; array < params->d; array++)
+        if (counts[buckets[array]] != number || idsums[buckets[array]] != 0)
+            return 0;
+    return count_left(size_of(params)) == params->d;
+}
+
+// Of walks of old sketches, in which packets of flow 0 were lost besides, prints how many leave just these, and how many of
+// them list the other lost flows with their very numbers.
+static void print_flow_0(const struct setting *setting, uint64_t last_seed) {
+    uint64_t alone = 0, right = 0;
+    for (uint64_t seed = 1; seed <= last_seed; seed++) {
+        struct sketch sketch = difference(setting, seed);
+        int32_t number = (int32_t)(1 + seed % 64);
+        uint32_t buckets[4];
+        find_buckets(&sketch.params, 0, buckets);
+        for (uint32_t array = 0; array < setting->d; array++)
+            counts[buckets[array]] += number;
+        struct figures figures = peel(&sketch, setting->pops * size_of(&sketch.params));
+        if (is_left_alone(&sketch.params, number)) {
+            alone++;
+            right += figures.entries == lost.length && count_right(figures.entries) == lost.length;
+        }
+    }
+    printf("%u,%u,%u,%u,%u,%lu,%lu,%lu\n", setting->d, setting->d * setting->m, setting->flows, setting->least, setting->most,
+           (unsigned long)last_seed, (unsigned long)alone, (unsigned long)right);
+}
+
 // Writes the input that has the report program do this walk: all lost packets upstream, none downstream.
 static void write_input(const struct setting *setting, uint64_t seed) {
     static struct stream stream;
@@ -275,7 +313,7 @@ static int print_passes(char **words, int length) {
     return 0;
 }
 
-// capacity tally|input|walk D M POPS FLOWS LEAST MOST SEED, or capacity passes M SEEDS NUMBER ..
+// capacity tally|flow0|input|walk D M POPS FLOWS LEAST MOST SEED, or capacity passes M SEEDS NUMBER ..
 int main(int length, char **words) {
     if (length > 3 && strcmp(words[1], "passes") == 0)
         return print_passes(words + 2, length - 2);
@@ -286,6 +324,8 @@ int main(int length, char **words) {
     uint32_t seed = number_of(words[8]);
     if (strcmp(words[1], "tally") == 0)
         print_tally(&setting, seed);
+    else if (strcmp(words[1], "flow0") == 0)
+        print_flow_0(&setting, seed);
     else if (strcmp(words[1], "input") == 0)
         write_input(&setting, seed);
     else if (strcmp(words[1], "walk") == 0)

@@ -22,10 +22,19 @@ struct params make_params(uint64_t *seed, uint32_t d, uint32_t m) {
     return params;
 }
 
+// Any number but 0, which no flow has.
+static uint32_t draw_flow(uint64_t *seed) {
+    uint32_t flow;
+    do
+        flow = number_below(seed, PRIME);
+    while (flow == 0);
+    return flow;
+}
+
 void make_packets(struct packets *packets, uint64_t *seed, size_t length, uint32_t most_number) {
     packets->length = length;
     for (size_t i = 0; i < length; i++) {
-        packets->flows[i] = number_below(seed, PRIME);
+        packets->flows[i] = draw_flow(seed);
         packets->numbers[i] = 1 + number_below(seed, most_number);
     }
 }
@@ -42,8 +51,10 @@ static uint32_t power(uint32_t base, uint32_t exponent) {
 void gather(struct packets *packets, uint64_t *seed, const struct params *params) {
     uint64_t inverse = power(params->a[0], PRIME - 2);
     for (size_t i = 0; i < packets->length; i++) {
-        uint64_t value = (uint64_t)params->m * number_below(seed, PRIME / params->m);
-        packets->flows[i] = (uint32_t)((value + PRIME - params->b[0]) % PRIME * inverse % PRIME);
+        do {
+            uint64_t value = (uint64_t)params->m * number_below(seed, PRIME / params->m);
+            packets->flows[i] = (uint32_t)((value + PRIME - params->b[0]) % PRIME * inverse % PRIME);
+        } while (packets->flows[i] == 0);
     }
 }
 

@@ -39,7 +39,7 @@ enum {
     GABUNLITIK_DONE = 0,
     GABUNLITIK_PARAM = 1,    /* the parameters break a rule */
     GABUNLITIK_LENGTH = 2,   /* a slice has a length other than stated */
-    GABUNLITIK_FLOW = 3,     /* a flow number of 2147483647 or more */
+    GABUNLITIK_FLOW = 3,     /* a flow number that is 0, or 2147483647 or more */
     GABUNLITIK_COUNT = 4,    /* a packet's number is 0, or 2147483647 or more */
     GABUNLITIK_DAMAGE = 5,   /* a bucket that was looked at is outside its limits */
     GABUNLITIK_RANGE = 6,    /* a new count would leave its limits */
@@ -126,7 +126,8 @@ uint32_t gabunlitik_subtract(const uint32_t params[GABUNLITIK_PARAMS],
 /* Peels the sketch into a table of flows and their counts with at most `allowance` pops, and returns the figures of the walk, all 0
  * where it is refused. The sketch then holds what remains: the table's own sketch added to it is the sketch that was lent, at every ending.
  * Table slots past the last entry, the queue and the marks are 0 afterwards; what they held before has no effect. The two table
- * slices have one length, 0 to 65536, which is how many flows the table takes; queue and marks are d * m long. */
+ * slices have one length, 0 to 65536, which is how many flows the table takes; queue and marks are d * m long. Flow 0 is never listed:
+ * what a sketch from a switch that took it for a flow holds of it remains. */
 uint32_t gabunlitik_peel(const uint32_t params[GABUNLITIK_PARAMS],
                          int32_t *counts, size_t counts_len,
                          uint32_t *idsums, size_t idsums_len,
