@@ -216,8 +216,8 @@ static void print_tally(const struct setting *setting, uint64_t last_seed) {
     printf("\n");
 }
 
-// Whether a walk leaves so many packets of flow 0 and nothing else.
-static int is_left_alone(const struct params *params, int32_t number) {
+// Whether a walk left so many packets of flow 0 and nothing else.
+static int only_flow_0_is_left(const struct params *params, int32_t number) {
     uint32_t buckets[4];
     find_buckets(params, 0, buckets);
     for (uint32_t array = 0; array < params->d; array++)
@@ -226,10 +226,10 @@ static int is_left_alone(const struct params *params, int32_t number) {
     return count_left(size_of(params)) == params->d;
 }
 
-// Of walks of old sketches, in which packets of flow 0 were lost besides, prints how many leave just these, and how many of
+// Of walks of old sketches, where packets of flow 0 are lost besides, prints how many leave only these, and how many of
 // them list the other lost flows with their very numbers.
 static void print_flow_0(const struct setting *setting, uint64_t last_seed) {
-    uint64_t alone = 0, right = 0;
+    uint64_t only = 0, right = 0;
     for (uint64_t seed = 1; seed <= last_seed; seed++) {
         struct sketch sketch = difference(setting, seed);
         int32_t number = (int32_t)(1 + seed % 64);
@@ -238,13 +238,13 @@ static void print_flow_0(const struct setting *setting, uint64_t last_seed) {
         for (uint32_t array = 0; array < setting->d; array++)
             counts[buckets[array]] += number;
         struct figures figures = peel(&sketch, setting->pops * size_of(&sketch.params));
-        if (is_left_alone(&sketch.params, number)) {
-            alone++;
+        if (only_flow_0_is_left(&sketch.params, number)) {
+            only++;
             right += figures.entries == lost.length && count_right(figures.entries) == lost.length;
         }
     }
     printf("%u,%u,%u,%u,%u,%lu,%lu,%lu\n", setting->d, setting->d * setting->m, setting->flows, setting->least, setting->most,
-           (unsigned long)last_seed, (unsigned long)alone, (unsigned long)right);
+           (unsigned long)last_seed, (unsigned long)only, (unsigned long)right);
 }
 
 // Writes the input that has the report program do this walk: all lost packets upstream, none downstream.

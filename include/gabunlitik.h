@@ -127,7 +127,7 @@ uint32_t gabunlitik_subtract(const uint32_t params[GABUNLITIK_PARAMS],
  * where it is refused. The sketch then holds what remains: the table's own sketch added to it is the sketch that was lent, at every ending.
  * Table slots past the last entry, the queue and the marks are 0 afterwards; what they held before has no effect. The two table
  * slices have one length, 0 to 65536, which is how many flows the table takes; queue and marks are d * m long. Flow 0 is never listed:
- * what a sketch from a switch that took it for a flow holds of it remains. */
+ * what a sketch holds of it, from a switch that took it for a flow, remains, save where it passes together with others as another flow. */
 uint32_t gabunlitik_peel(const uint32_t params[GABUNLITIK_PARAMS],
                          int32_t *counts, size_t counts_len,
                          uint32_t *idsums, size_t idsums_len,

@@ -73,6 +73,7 @@ static void refused_withdrawals(void) {
     CHECK_REFUSED(withdraw(&s, 2147483646, 1), GABUNLITIK_RANGE, 1, &s, &kept);
     CHECK_REFUSED(withdraw(&s, 2147483647, 0), GABUNLITIK_FLOW, 0, &s, &kept);
     CHECK_REFUSED(withdraw(&s, 0, 1), GABUNLITIK_FLOW, 0, &s, &kept);
+    CHECK_REFUSED(withdraw(&s, 0, 0), GABUNLITIK_FLOW, 0, &s, &kept);
     CHECK_REFUSED(withdraw(&s, 1, 0), GABUNLITIK_COUNT, 0, &s, &kept);
     CHECK_REFUSED(withdraw(&s, 1, 2147483647), GABUNLITIK_COUNT, 0, &s, &kept);
     s.idsums[9] = kept.idsums[9] = 2147483647; /* where flow 11 stands, beside index 1 */
@@ -80,10 +81,17 @@ static void refused_withdrawals(void) {
     CHECK_DONE(withdraw(&s, 12, 1)); /* whose buckets are whole */
 }
 
-/* Flow 0 is refused before its buckets are looked at, also where packets of it stand from before; flow 1 is the lowest. */
+/* Flow 0 is refused before its buckets are looked at, also where packets of it stand from before, and after the parameters and the
+ * lengths; flow 1 is the lowest. */
 static void flow_0(void) {
     struct sketch s = of_flow_0(), kept = s;
+    struct returned t = nothing_yet();
     CHECK_REFUSED(withdraw(&s, 0, 3), GABUNLITIK_FLOW, 0, &s, &kept);
+    t.number = gabunlitik_insert(BAD, s.counts, BUCKETS, s.idsums, BUCKETS, 0, 1, &t.place);
+    CHECK_REFUSED(t, GABUNLITIK_PARAM, 0, &s, &kept);
+    t = nothing_yet();
+    t.number = gabunlitik_insert(K, s.counts, BUCKETS - 1, s.idsums, BUCKETS, 0, 1, &t.place);
+    CHECK_REFUSED(t, GABUNLITIK_LENGTH, 0, &s, &kept);
     s.counts[0] = kept.counts[0] = -2147483647;
     CHECK_REFUSED(insert(&s, 0, 1), GABUNLITIK_FLOW, 0, &s, &kept);
     CHECK_REFUSED(withdraw(&s, 0, 1), GABUNLITIK_FLOW, 0, &s, &kept);
@@ -140,7 +148,8 @@ static void several_faults(void) {
 /* The lists are static and const, so that a write to them would end the program. */
 static void refused_lists(void) {
     static const uint32_t flows[] = {7, 12, 1}, numbers[] = {1, 2, 1}, no_number[] = {1, 2, 0};
-    static const uint32_t no_flow[] = {1, 2147483647}, no_number_first[] = {0, 1}, flow_0_last[] = {7, 12, 0};
+    static const uint32_t no_flow[] = {1, 2147483647}, no_number_first[] = {0, 1, 1};
+    static const uint32_t flow_0_last[] = {7, 12, 0};
     struct sketch s = e7(), kept = s;
     CHECK_REFUSED(insert_all(&s, flows, numbers, 3), GABUNLITIK_RANGE, 1, &s, &kept);
     CHECK_REFUSED(insert_all(&s, flows, no_number, 3), GABUNLITIK_COUNT, 0, &s, &kept);
@@ -151,6 +160,7 @@ static void refused_lists(void) {
     CHECK_REFUSED(insert_all(&s, no_flow, no_number_first, 2), GABUNLITIK_COUNT, 0, &s, &kept);
     CHECK_REFUSED(insert_all(&s, no_flow, numbers, 2), GABUNLITIK_FLOW, 0, &s, &kept);
     CHECK_REFUSED(insert_all(&s, flow_0_last, numbers, 3), GABUNLITIK_FLOW, 0, &s, &kept);
+    CHECK_REFUSED(insert_all(&s, flow_0_last, no_number_first, 3), GABUNLITIK_COUNT, 0, &s, &kept);
 }
 
 static void refused_parameters(void) {

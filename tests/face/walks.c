@@ -109,6 +109,10 @@ static void flow_0(void) {
     CHECK(cleared(&w));
     CHECK(same(&s, &kept));
     w = unwalked();
+    CHECK_DONE(peel(&s, &w, 0, 80)); /* nothing is taken, so that no slot is needed */
+    CHECK(figures_are(&w, GABUNLITIK_ENDED_STUCK, 0, 0, 2));
+    CHECK(same(&s, &kept));
+    w = unwalked();
     CHECK_DONE(peel(&s, &w, MOST_SLOTS, 1)); /* a bucket that is not pure is a pop */
     CHECK(figures_are(&w, GABUNLITIK_ENDED_SPENT, 0, 0, 1));
     CHECK(same(&s, &kept));
@@ -130,6 +134,13 @@ static void flow_0(void) {
     CHECK_DONE(add(&s, &other)); /* as much on both sides */
     CHECK_DONE(peel(&s, &w, MOST_SLOTS, 0));
     CHECK(figures_are(&w, GABUNLITIK_ENDED_CLEAN, 0, 0, 0));
+    s = of_flow_0();
+    CHECK_DONE(insert(&s, 20, 3)); /* which stands beside flow 0 in both arrays: the two pass as flow 10 */
+    w = unwalked();
+    CHECK_DONE(peel(&s, &w, MOST_SLOTS, 80));
+    CHECK(figures_are(&w, GABUNLITIK_ENDED_CLEAN, 1, 6, 1));
+    CHECK(w.flows[0] == 10 && w.counts[0] == 6);
+    CHECK(used(&s) == 0);
 }
 
 /* Index 2 passes as flow 7, whose other bucket would come to -3000000000. */

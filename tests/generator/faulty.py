@@ -139,7 +139,7 @@ def past_a_portion(rng):
     which a reader may well take its input: records lie across that place."""
     params = any_params(rng, 200)
     portion = rng.choice((65536, 131072))
-    records = (portion - len(head(params)) - len(end(0))) // len(packets(0, 1)) + rng.randint(-6, 2)
+    records = (portion - len(head(params)) - len(end(0))) // len(packets(1, 1)) + rng.randint(-6, 2)
     flow = any_flow(rng)
     streams = [stream(params, [(flow, 1)] * records), stream(params, small_entries(rng, 6) + [(flow, records)])]
     fault = rng.choice(("none", "packet", "end", "head", "cut", "trailing"))

@@ -144,12 +144,17 @@ def any_buckets(rng):
 
 
 def one_flow(rng):
-    """A single flow peeled with the largest allowance: any other could be walked without end."""
+    """A single flow peeled with the largest allowance, also flow 0 as old sketches hold it: any other sketch could be walked without end."""
     params = any_params(rng, 1, 9)
     script = Script()
     script.sketch(1, params)
     script.sketch(2, params)
-    script.add("insert", 2, (any_flow(rng), rng.choice((1, QUIET, QUIET + 1, MOST, rng.randint(1, MOST)))))
+    number = rng.choice((1, QUIET, QUIET + 1, MOST, rng.randint(1, MOST)))
+    if rng.random() < 0.7:
+        script.add("insert", 2, (any_flow(rng), number))
+    else:
+        for index in indexes(params, 0):
+            script.bucket(index, number, 0, 2)
     script.add(rng.choice(("add", "subtract")))
     script.table(params, rng.choice((0, 1, 1, 5)), 3)
     script.add("peel", 1, (rng.choice((0, 1, WORD, WORD)),))
@@ -208,6 +213,9 @@ def lists(rng):
         entries[at] = rng.choice((
             (no_flow(rng), number), (no_flow(rng), 0), (flow, 0), (flow, P), (flow, MOST), (flow, MOST),
             (flow, MOST - rng.randint(0, 9))))
+    if len(entries) > 1 and rng.random() < 0.1:
+        # The first packet that is refused decides: COUNT there comes before FLOW at the last one.
+        entries[0], entries[-1] = (any_flow(rng), rng.choice((0, P))), (no_flow(rng), 1)
     script.packets(entries)
     if rng.random() < 0.2:
         flow, _ = rng.choice(entries)

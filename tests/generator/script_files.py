@@ -21,7 +21,7 @@ def any_sketch_file(rng, params):
 
 def bad_packets(rng):
     flow, number = no_flow(rng), rng.choice((0, P, WORD))
-    return packets(*rng.choice(((flow, 1), (any_flow(rng), number), (flow, number), (any_flow(rng), MOST))))
+    return packets(*rng.choice(((flow, 1), (flow, 1), (any_flow(rng), number), (flow, number), (flow, number), (any_flow(rng), MOST))))
 
 
 def index_of(record):
@@ -126,7 +126,7 @@ def sketched(params, entries):
 
 
 def old_sketches(rng):
-    """Sketch files of switches that took flow 0 for a flow: read, written again, subtracted and peeled; flow 0 itself is refused."""
+    """Sketch files of switches that took flow 0 for a flow: read, written again, added or subtracted, and peeled; flow 0 itself is refused."""
     params = any_params(rng, 1, rng.choice((2, 6, 30)))
     size = params.d * params.m
     script = Script()

@@ -201,7 +201,7 @@ examples =
     ∷ (peeling SZ20 10 80 gives ends 1 1 (pos 2) (by 10 (pos 2) ∷ []) S0)
     -- a take that would leave the range
     ∷ (peeling SR 10 80 gives ends 5 1 (pos 0) [] SR)
-    -- counts that are multiples of the prime, where flow 0 stands, the last two outside the limits; the greatest and the least count within them
+    -- counts that are multiples of the prime, where flow 0 would stand, the last two outside the limits; the greatest and the least count within them
     ∷ (test-of 0 (pos 0) 7 gives finds 0 Impure Impure)
     ∷ (test-of 0 (pos 2147483647) 7 gives finds 0 Impure Impure)
     ∷ (test-of 0 (negsuc 2147483646) 7 gives finds 0 Impure Impure)

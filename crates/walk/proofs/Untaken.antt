@@ -1,8 +1,8 @@
--- A walk over a sketch of which no bucket passes the test takes nothing: it pops each bucket with a count once and is stuck, where so many pops are allowed. Such a sketch is that of flow 0 alone.
-use mathlib.Core.Path.{_≡_, refl, sym, ap, ap₂, _∙_}
+-- A walk over a sketch of which something remains and no bucket passes the test takes nothing: it pops each bucket with a count once and is stuck, where so many pops are allowed. Such a sketch is that of flow 0 alone.
+use mathlib.Core.Path.{_≡_, refl, sym, ap, _∙_}
 use mathlib.Core.Bool.{Bool, true, false, cond}
 use mathlib.Core.List.{List, [], _∷_}
-use Prim.Native.Nat.{ℕ, zero, suc, _+_, _*_, _≤_, _<_}
+use Prim.Native.Nat.{ℕ, zero, suc, _+_, _≤_, _<_}
 use native.Mathlib.Decide.{decLt}
 use native.Mathlib.Nat.{zero-add, zero-mul}
 use native.Mathlib.Omega.{arith}
@@ -17,11 +17,11 @@ use Rattle.params.specs.Params.{primeOf, size, Dimensions}
 use Rattle.params.specs.Positions.{index, stands}
 use Rattle.params.proofs.Indexes.{index-below, stands-at-index}
 use Rattle.buckets.specs.Buckets.{isZero}
-use Rattle.sketch.specs.Sketch.{Sketch, Entry, by, countIn, idsumIn, countAt, weightAt, sketchOf}
+use Rattle.sketch.specs.Sketch.{Sketch, by, countIn, idsumIn, countAt, weightAt, sketchOf}
 use Rattle.sketch.proofs.Tables.{length-from, getD-from}
 use Rattle.walk.specs.declared.Ending.the-variants.{Stuck}
 use Rattle.walk.specs.declared.Found.the-variants.{Impure}
-use Rattle.walk.specs.Walk.{Rule, State, Outcome, out, nothingRemains, follows, popped, before, after, run, firstQueue, walk}
+use Rattle.walk.specs.Walk.{Rule, State, out, nothingRemains, follows, popped, before, after, run, firstQueue, walk}
 use Rattle.walk.specs.Purity.{pureTest, ruleOf}
 use Rattle.walk.proofs.Alls.{nothing-count}
 use Rattle.walk.proofs.Purity.{zero-not-pure}
