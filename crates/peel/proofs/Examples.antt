@@ -1,7 +1,7 @@
 -- The examples E2 to E6, E9 and E10 of the bench and an old sketch of flow 0, as a caller of `peel` meets them, under a single theorem, `all-right`: the answer, and all that each slice
 -- holds after. The checker works every line out by the definitions. crates/walk has the whole table, over the definition of the walk.
 use mathlib.Core.Path.{_≡_, refl}
-use mathlib.Core.List.{List, [], _∷_, _++_, map}
+use mathlib.Core.List.{List, [], _∷_, map}
 use Prim.Native.Nat.{ℕ}
 use lib.IntN.{ℤ, pos, negsuc}
 use lib.ListN.{replicate}

@@ -8,7 +8,7 @@ use lib.ListN.{length, getD, take, drop, replicate, length-drop, take-append-dro
 use lib.Seq.{length-take-le, getD-take, getD-drop, getD-append-add, ext-getD}
 use Rattle.params.specs.Lists.{from}
 use Rattle.sketch.specs.Sketch.{Entry}
-use Rattle.sketch.proofs.Tables.{length-from, getD-from}
+use Rattle.sketch.proofs.Tables.{length-from, from-at}
 use Rattle.peel.specs.Table.{row, tableOf}
 use Rattle.peel.specs.Peel.{flowsOf, numbersOf, padded}
 use Rattle.peel.proofs.Froms.{from-first}
@@ -23,7 +23,7 @@ module _ {A : Type 0} (z : A) where
   first-positions : (l : List A) (n : ℕ) → n ≤ length l → take n l ≡ from 0 n (λ i. getD l i z)
   first-positions l n u =
       ext-getD z _ _ (length-take-le n l u ∙ sym (length-from 0 n _))
-      (λ i h. let b : i < n = rw (length-take-le n l u) at h in getD-take n l i z b ∙ sym (getD-from 0 n _ i z b ∙ ap (λ (j : ℕ). getD l j z) (omega arith)))
+      (λ i h. let b : i < n = rw (length-take-le n l u) at h in getD-take n l i z b ∙ sym (from-at n _ i z b))
 
   zeros-padded : (l : List A) (n : ℕ) → n ≤ length l → ((k : ℕ) → n ≤ k → getD l k z ≡ z) → l ≡ padded (length l) z (from 0 n (λ i. getD l i z))
   unfolding padded

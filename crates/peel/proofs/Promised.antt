@@ -3,7 +3,6 @@ use mathlib.Core.Path.{_≡_, refl, sym, ap, subst, _∙_}
 use mathlib.Core.Bool.{true, false}
 use mathlib.Core.List.{List, [], _∷_}
 use Prim.Native.Nat.{ℕ, _<_, _≤_}
-use native.Mathlib.Nat.{zero-add}
 use native.Mathlib.Omega.{arith}
 use lib.IntN.{ℤ, pos}
 use lib.ListN.{length, getD, replicate}
@@ -17,9 +16,9 @@ use Rattle.params.specs.Positions.{stands}
 use Rattle.buckets.specs.Buckets.{inLimits}
 use Rattle.sketch.specs.Sketch.{Sketch, Entry, by, countIn, idsumIn, sketchOf}
 use Rattle.sums.specs.Sums.{combined}
-use Rattle.sketch.proofs.Tables.{getD-from}
+use Rattle.sketch.proofs.Tables.{from-at}
 use Rattle.walk.specs.Endings.{endingNumber}
-use Rattle.walk.specs.Walk.{Outcome, walk, closedTable, netFigure}
+use Rattle.walk.specs.Walk.{Outcome, firstQueue, walk, closedTable, netFigure}
 use Rattle.walk.specs.Purity.{pureTest, foundNumber}
 use Rattle.walk.proofs.Numbers.{pure-by-number, never-four as no-ending-four}
 use Rattle.walk.proofs.Promises as walks
@@ -165,11 +164,12 @@ module _ {P : Params} {a : ℕ} {L : Slices} {r : Peeled} {L' : Slices} (h : Pee
         (walks.stuck-stands P (length (L .flows)) a S sound-input (sym ending-is ∙ e) k l (λ z. d (ap (λ (T : Sketch). countIn T k) remainder-is ∙ z))
         (λ z. nonzero (ap (λ (T : Sketch). flow (primeOf P) (countIn T k) (idsumIn T k)) remainder-is ∙ z)))
 
-    -- the sketch of flow 0 alone is stuck where a pop per bucket is allowed: nothing is listed, and all of it remains
-    pub flow-zero-stuck : (n : ℤ) → (n ≡ pos 0 → ⊥) → S ≡ sketchOf P (by 0 n ∷ []) → size P ≤ a → (peeledEnding r ≡ 2) × (peeledEntries r ≡ 0) × (S' ≡ S)
+    -- the sketch of flow 0 alone is stuck where a pop per bucket is allowed: each bucket with a count is popped once, nothing is listed, and all of it remains
+    pub flow-zero-stuck : (n : ℤ) → (n ≡ pos 0 → ⊥) → S ≡ sketchOf P (by 0 n ∷ []) → size P ≤ a
+        → (peeledEnding r ≡ 2) × (peeledPops r ≡ length (firstQueue 0 (S .counts))) × (peeledEntries r ≡ 0) × (S' ≡ S)
     flow-zero-stuck n nonzero s l =
         let w = walks.flow-zero-stuck P (length (L .flows)) a S (judged-peelable P L done .dimensions) n nonzero s l in
-        (ending-is ∙ w .0, entries-are ∙ ap length (w .1), remainder-is ∙ w .2)
+        (ending-is ∙ w .0, ap peeledPops answer-is ∙ w .1, entries-are ∙ ap length (w .2), remainder-is ∙ w .3)
 
     -- never more pops than allowed, and all of them where the end is spent
     pops-are : peeledPops r ≡ o .pops
@@ -190,8 +190,7 @@ module _ {P : Params} {a : ℕ} {L : Slices} {r : Peeled} {L' : Slices} (h : Pee
     unfolding tableOf
     slot-is i l =
         ap (λ (t : List Entry). getD t i (by 0 (pos 0))) (sym listed-is)
-        ∙ getD-from 0 (peeledEntries r) (row (L' .flows) (L' .numbers)) i (by 0 (pos 0)) l
-        ∙ ap (row (L' .flows) (L' .numbers)) (zero-add i)
+        ∙ from-at (peeledEntries r) (row (L' .flows) (L' .numbers)) i (by 0 (pos 0)) l
 
     pub listed-not-zero : (i : ℕ) → i < peeledEntries r → getD (L' .numbers) i (pos 0) ≡ pos 0 → ⊥
     listed-not-zero i l z = walks.listed-not-zero P (length (L .flows)) a S i (omega (arith, entries-are)) (ap (λ (e : Entry). e .number) (slot-is i l) ∙ z)

@@ -3,6 +3,7 @@ use mathlib.Core.Path.{_≡_, refl, ap, ap₂, _∙_}
 use mathlib.Core.Bool.{Bool, true, false, cond}
 use mathlib.Core.List.{List, _∷_}
 use Prim.Native.Nat.{ℕ, zero, suc, _+_, _≤_, _<_}
+use native.Mathlib.Nat.{zero-add}
 use native.Mathlib.Omega.{arith}
 use lib.ListN.{length, getD, replicate}
 use lib.Seq.{ext-getD}
@@ -15,11 +16,15 @@ module _ {A : Type 0} where
   length-from k zero h = refl
   length-from k (suc n) h = ap suc (length-from (suc k) n h)
 
-  pub getD-from : (k n : ℕ) (h : ℕ → A) (j : ℕ) (d : A) → j < n → getD (from k n h) j d ≡ h (k + j)
+  getD-from : (k n : ℕ) (h : ℕ → A) (j : ℕ) (d : A) → j < n → getD (from k n h) j d ≡ h (k + j)
   unfolding from
   getD-from k zero h j d l = absurd (omega arith)
   getD-from k (suc n) h zero d l = ap h (omega arith)
   getD-from k (suc n) h (suc j) d l = getD-from (suc k) n h j d (omega arith) ∙ ap h (omega arith)
+
+  -- from the first place on
+  pub from-at : (n : ℕ) (h : ℕ → A) (j : ℕ) (d : A) → j < n → getD (from 0 n h) j d ≡ h j
+  from-at n h j d l = getD-from 0 n h j d l ∙ ap h (zero-add j)
 
   -- a table is known by its places
   pub from-same : (k n : ℕ) (g h : ℕ → A) → ((j : ℕ) → k ≤ j → j < k + n → g j ≡ h j) → from k n g ≡ from k n h

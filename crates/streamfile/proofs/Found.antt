@@ -3,12 +3,11 @@ use mathlib.Core.Path.{_≡_, refl, sym, ap, _∙_}
 use mathlib.Core.Bool.{Bool, true, false, cond}
 use mathlib.Core.List.{List, [], _∷_}
 use Prim.Native.Nat.{ℕ, _+_, _≤_, _<_}
-use native.Mathlib.Nat.{zero-add}
 use native.Mathlib.Omega.{arith}
 use types.Run.{OneOf, miss}
 use denote.Enum.Declared.{tagOf}
 use lib.ListN.{length, getD}
-use Rattle.sketch.proofs.Tables.{length-from, getD-from}
+use Rattle.sketch.proofs.Tables.{length-from, from-at}
 use Rattle.files.specs.declared.fields.Packets.{Packets}
 use Rattle.files.specs.declared.fields.Packets.the-variants.{Of, No}
 use Rattle.files.specs.Bytes.{word}
@@ -60,8 +59,8 @@ module _ (o : ℕ) (bs : List ℕ) where
 
   pub flow-is : (i : ℕ) → i < packetsFrom o bs → flowFrom o bs i ≡ getD (flowsFrom o bs) i 0
   unfolding flowsFrom
-  flow-is i l = sym (getD-from 0 (packetsFrom o bs) (flowFrom o bs) i 0 l ∙ ap (flowFrom o bs) (zero-add i))
+  flow-is i l = sym (from-at (packetsFrom o bs) (flowFrom o bs) i 0 l)
 
   pub number-is : (i : ℕ) → i < packetsFrom o bs → numberFrom o bs i ≡ getD (numbersFrom o bs) i 0
   unfolding numbersFrom
-  number-is i l = sym (getD-from 0 (packetsFrom o bs) (numberFrom o bs) i 0 l ∙ ap (numberFrom o bs) (zero-add i))
+  number-is i l = sym (from-at (packetsFrom o bs) (numberFrom o bs) i 0 l)

@@ -3,19 +3,16 @@ use mathlib.Core.Path.{_≡_, sym, ap, ap₂, _∙_}
 use mathlib.Core.Bool.{Bool, true, false}
 use mathlib.Core.List.{List, _++_}
 use Prim.Native.Nat.{ℕ, _<_}
-use native.Mathlib.Nat.{zero-add}
 use native.Mathlib.Omega.{arith}
 use lib.IntN.{pos, negℤ, _+ℤ_}
-use lib.ListN.{getD}
 use Rattle.field.specs.Residue.{residue}
 use Rattle.params.specs.declared.params.Params.{Params}
-use Rattle.params.specs.Lists.{from}
 use Rattle.params.specs.Params.{prime, size}
 use Rattle.buckets.specs.Buckets.{plusMinus}
 use Rattle.sketch.specs.Sketch.{Entry, sketch, countAt, weightAt, sketchOf}
 use Rattle.sums.specs.Sums.{combined}
 use Rattle.sums.specs.History.{negated}
-use Rattle.sketch.proofs.Tables.{getD-from, from-same, map-from}
+use Rattle.sketch.proofs.Tables.{from-at, from-same, map-from}
 use Rattle.buckets.proofs.Idsums.{idsum-plus-minus-both}
 use Rattle.sums.proofs.Weighted.{count-weighted, weight-weighted, weighted-append, weighted-negated}
 
@@ -40,16 +37,13 @@ module _ (P : Params) where
       ap₂ sketch
       (map-from 0 (size P) _ (countAt P es)
       ∙ from-same 0 (size P) _ (countAt P hs)
-      (λ k l m. ap (plusMinus minus (countAt P es k)) (place (countAt P gs) (pos 0) k (omega arith)) ∙ c k))
+      (λ k l m. ap (plusMinus minus (countAt P es k)) (from-at (size P) (countAt P gs) k (pos 0) (omega arith)) ∙ c k))
       (map-from 0 (size P) _ (λ k. residue prime (weightAt P es k))
       ∙ from-same 0 (size P) _ (λ k. residue prime (weightAt P hs k))
       (λ k l m.
-      ap (λ (s : ℕ). residue prime (plusMinus minus (pos (residue prime (weightAt P es k))) (pos s))) (place (λ j. residue prime (weightAt P gs j)) 0 k (omega arith))
+      ap (λ (s : ℕ). residue prime (plusMinus minus (pos (residue prime (weightAt P es k))) (pos s))) (from-at (size P) (λ j. residue prime (weightAt P gs j)) k 0 (omega arith))
       ∙ idsum-plus-minus-both minus (weightAt P es k) (weightAt P gs k)
       ∙ ap (residue prime) (w k)))
-    where
-      place : {A : Type 0} (h : ℕ → A) (d : A) (k : ℕ) → k < size P → getD (from 0 (size P) h) k d ≡ h k
-      place h d k l = getD-from 0 (size P) h k d l ∙ ap h (zero-add k)
 
   pub joined : (es gs : List Entry) → sketchOf P (es ++ gs) ≡ combined false (sketchOf P es) (sketchOf P gs)
   joined es gs = sym (combined-is false es gs (es ++ gs) (λ k. sym (count-append es gs k)) (λ k. sym (weight-append es gs k)))

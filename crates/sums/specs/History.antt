@@ -1,4 +1,5 @@
 -- Histories of calls with none refused, the net count of a flow, and lists with the same entries in another order.
+use mathlib.Core.Path.{_≡_}
 use mathlib.Core.Bool.{Bool, true, false, cond}
 use mathlib.Core.List.{List, [], _∷_, _++_}
 use Prim.Native.Nat.{ℕ}
@@ -6,7 +7,7 @@ use lib.IntN.{ℤ, pos, negℤ, _+ℤ_}
 use lib.Dec.{eqb}
 use Rattle.params.specs.declared.params.Params.{Params}
 use Rattle.params.specs.declared.answers.Answer.the-variants.{Done}
-use Rattle.sketch.specs.Sketch.{Sketch, Entry, by, Freshened}
+use Rattle.sketch.specs.Sketch.{Sketch, Entry, by, sketchOf, Freshened}
 use Rattle.sketch.specs.Packets.{Stepped, Inserted, Withdrawn, AllInserted, entriesOf}
 use Rattle.sums.specs.Sums.{Combined}
 
@@ -25,9 +26,11 @@ unfoldable pub netCount : List Entry → ℕ → ℤ
 netCount [] f = pos 0
 netCount (e ∷ es) f = cond (eqb (e .flow) f) (e .number) (pos 0) +ℤ netCount es f
 
--- the sketch S was made by calls of which none was refused, over any number of sketches, from packets that make up these entries
+-- the sketch S was made by calls of which none was refused, over any number of sketches, from packets that make up these entries; among the
+-- sketches there may be some from before that are known to be those of their entries, as one in which flow 0 stands
 pub data History : Params → List Entry → Sketch → Type 0 where
   freshly : {P : Params} {S S' : Sketch} → Freshened P S Done S' → History P [] S'
+  from-before : {P : Params} {es : List Entry} {S : Sketch} → S ≡ sketchOf P es → History P es S
   inserting : {P : Params} {es : List Entry} {S S' : Sketch} {f n : ℕ} → History P es S → Inserted P f n S Done S' → History P (es ++ (by f (pos n) ∷ [])) S'
   stepping : {P : Params} {es : List Entry} {S S' : Sketch} {minus : Bool} {f n : ℕ} → History P es S → Stepped minus P f n S Done S'
       → History P (es ++ (by f (signed minus (pos n)) ∷ [])) S'

@@ -1,4 +1,4 @@
--- The examples E1 to E10 of the bench, flow 0, a walk that ends by its range, to which they do not come, and the edges of the purity test as one table, under a single theorem, `all-right`: the checker works every line out by the definitions.
+-- The examples E1 to E10 of the bench, and what they do not come to: flow 0, a walk that ends by its range, and the edges of the purity test. They are one table, under a single theorem, `all-right`: the checker works every line out by the definitions.
 use mathlib.Core.Path.{_≡_, refl}
 use mathlib.Core.Bool.{false}
 use mathlib.Core.List.{List, [], _∷_, map}
@@ -184,7 +184,7 @@ examples =
     ∷ (peeling S1 10 0 gives ends 3 0 (pos 0) [] S1)
     -- E10
     ∷ (peeling S1 0 80 gives ends 6 2 (pos 0) [] S1)
-    -- flow 0 is FLOW, before COUNT and wherever it would stand; flow 1 is a flow
+    -- flow 0 is FLOW, before COUNT, and as a position; flow 1 is a flow
     ∷ (inserting S0 0 1 gives says 3 0 S0)
     ∷ (inserting S0 0 0 gives says 3 0 S0)
     ∷ (inserting S0 1 1 gives says 0 0 SI)

@@ -1,16 +1,27 @@
--- A rule whose test is narrowed is sound where the wider one is, and places flows as it does; so what holds of every walk by a sound rule holds of walks by it.
+-- A rule whose test asks more of a flow is sound where the wider one is, and places flows as it does; so what holds of every walk by a sound rule holds of walks by it.
 use mathlib.Core.Path.{_≡_, refl, subst}
 use mathlib.Core.Bool.{Bool, true, false, cond}
 use Prim.Native.Nat.{ℕ}
 use native.Mathlib.Omega.{arith}
-use lib.IntN.{ℤ}
 use Rattle.walk.specs.declared.Found.{Found}
 use Rattle.walk.specs.declared.Found.the-variants.{Impure, Pure}
 use Rattle.walk.specs.Walk.{Rule}
-use Rattle.walk.specs.Narrowed.{onlyIf, narrowed}
+use Rattle.walk.specs.Purity.{onlyIf}
 use Rattle.walk.proofs.Balance.{Sound}
 use Rattle.walk.proofs.Stuck.{ByArrays}
 
+-- the rule R whose test passes only where what was found passes `ok`
+abbrev pub narrowed : (ℕ → Bool) → Rule → Rule
+narrowed ok R =
+    record {
+      prime = R .prime;
+      arrays = R .arrays;
+      index = R .index;
+      stands = R .stands;
+      test = λ k c s. onlyIf ok (R .test k c s);
+    }
+
+-- what is pure is what was found, and passes `ok`
 pub only-if-pure : (ok : ℕ → Bool) (w : Found) (f : ℕ) → onlyIf ok w ≡ Pure f → w ≡ Pure f
 only-if-pure ok Impure f e = absurd (let z : _≡_ {A = ℕ} 0 1 = cc in omega arith)
 only-if-pure ok (Pure g) f e = go (ok g) e
@@ -27,19 +38,17 @@ only-if-passes ok (Pure g) f e = go (ok g) refl e
     go true h x = let same : g ≡ f = cc in subst (λ (f : ℕ). ok f ≡ true) same h
     go false h x = absurd (let z : _≡_ {A = ℕ} 0 1 = cc in omega arith)
 
--- what is pure under the narrowed test is pure under the wider one, and its flow passes `ok`
-pub narrowed-pure-is-pure : (ok : ℕ → Bool) (R : Rule) (k : ℕ) (c : ℤ) (s f : ℕ) → narrowed ok R .test k c s ≡ Pure f → R .test k c s ≡ Pure f
-narrowed-pure-is-pure ok R k c s f e = only-if-pure ok (R .test k c s) f e
-
-pub narrowed-pure-passes : (ok : ℕ → Bool) (R : Rule) (k : ℕ) (c : ℤ) (s f : ℕ) → narrowed ok R .test k c s ≡ Pure f → ok f ≡ true
-narrowed-pure-passes ok R k c s f e = only-if-passes ok (R .test k c s) f e
+-- what does not pass is not pure, wherever it stands
+pub only-if-fails : (ok : ℕ → Bool) (there : Bool) (f : ℕ) → ok f ≡ false → onlyIf ok (cond there (Pure f) Impure) ≡ Impure
+only-if-fails ok true f e = rw e
+only-if-fails ok false f e = refl
 
 pub sound-narrowed : (ok : ℕ → Bool) (R : Rule) → Sound R → Sound (narrowed ok R)
 sound-narrowed ok R h =
     record {
       positive = h .positive;
-      solves = λ k c s f l e. h .solves k c s f l (narrowed-pure-is-pure ok R k c s f e);
-      standing = λ k c s f e. h .standing k c s f (narrowed-pure-is-pure ok R k c s f e);
+      solves = λ k c s f l e. h .solves k c s f l (only-if-pure ok (R .test k c s) f e);
+      standing = λ k c s f e. h .standing k c s f (only-if-pure ok (R .test k c s) f e);
       empty = λ k s. rw (h .empty k s);
     }
 

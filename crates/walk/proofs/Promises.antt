@@ -22,17 +22,16 @@ use Rattle.buckets.proofs.Limits.{whole, whole-back}
 use Rattle.walk.specs.declared.Ending.the-variants.{Clean, Stuck, Spent}
 use Rattle.walk.specs.declared.Found.the-variants.{Pure}
 use Rattle.walk.specs.Endings.{endingNumber}
-use Rattle.walk.specs.Walk.{Rule, Outcome, nothingRemains, walk, close, closedTable, netFigure, netOf}
+use Rattle.walk.specs.Walk.{Rule, Outcome, nothingRemains, firstQueue, walk, close, closedTable, netFigure, netOf}
 use Rattle.buckets.specs.Buckets.{isZero}
-use Rattle.walk.specs.Narrowed.{onlyIf, narrowed}
-use Rattle.walk.specs.Purity.{wideTest, pureTest, wideRule, ruleOf}
+use Rattle.walk.specs.Purity.{wideTest, onlyIf, pureTest, ruleOf}
 use Rattle.walk.proofs.Numbers.{ending-by-number}
 use Rattle.buckets.proofs.Zeros.{is-zero, not-zero}
 use Rattle.walk.proofs.Alls.{all-at, nothing-count, nothing-idsum, all-zero}
 use Rattle.walk.proofs.Balance.{Balanced, balanced, balanced-closed}
 use Rattle.walk.proofs.Rebuilt.{rebuilt, rebuilt-alone}
-use Rattle.walk.proofs.Purity.{scopeTest, sound, by-arrays, test-within, wide-is-pure}
-use Rattle.walk.proofs.Narrowed.{narrowed-pure-passes}
+use Rattle.walk.proofs.Purity.{scopeTest, wideRule, sound, by-arrays, test-within, pure-unless-zero}
+use Rattle.walk.proofs.Narrowed.{narrowed, only-if-passes}
 use Rattle.walk.proofs.Untaken.{flow-zero-untaken}
 use Rattle.walk.proofs.Stuck.{stuck-only as none-passes}
 use Rattle.walk.proofs.Remainder.{Within, within}
@@ -119,8 +118,7 @@ module _ (P : Params) (slots allowance : ℕ) (S : Sketch) where
 
   -- so where a count remains, the one number of its bucket is 0 or does not stand there
   pub stuck-stands : Whole P S → endingNumber (outcome .ending) ≡ 2 → (k : ℕ) → k < size P → (countIn (outcome .remainder) k ≡ pos 0 → ⊥)
-      → (flow (primeOf P) (countIn (outcome .remainder) k) (idsumIn (outcome .remainder) k) ≡ 0 → ⊥)
-      → stands P (flow (primeOf P) (countIn (outcome .remainder) k) (idsumIn (outcome .remainder) k)) k ≡ false
+      → let f = flow (primeOf P) (countIn (outcome .remainder) k) (idsumIn (outcome .remainder) k) in (f ≡ 0 → ⊥) → stands P f k ≡ false
   stuck-stands w e k l d nonzero = go _ refl
     where
       c : ℤ
@@ -133,16 +131,16 @@ module _ (P : Params) (slots allowance : ℕ) (S : Sketch) where
       go true h =
           let i = whole c s (remainder-whole w .undamaged k l) .0 in
           let passes : wideTest P k c s ≡ Pure (flow (primeOf P) c s) = test-within (primeOf P) (stands P) k c s (omega arith) i ∙ rw (not-zero c d, h) in
-          absurd (stuck-only w e k (flow (primeOf P) c s) l (wide-is-pure P k c s (flow (primeOf P) c s) passes nonzero))
+          absurd (stuck-only w e k (flow (primeOf P) c s) l (pure-unless-zero P k c s (flow (primeOf P) c s) passes nonzero))
       go false h = refl
 
-  -- the sketch of flow 0 alone is stuck where a pop per bucket is allowed: nothing is listed, and all of it remains
+  -- the sketch of flow 0 alone is stuck where a pop per bucket is allowed: each bucket with a count is popped once, nothing is listed, and all of it remains
   pub flow-zero-stuck : Dimensions P → (n : ℤ) → (n ≡ pos 0 → ⊥) → S ≡ sketchOf P (by 0 n ∷ []) → size P ≤ allowance
-      → (endingNumber (outcome .ending) ≡ 2) × (listed ≡ []) × (outcome .remainder ≡ S)
+      → (endingNumber (outcome .ending) ≡ 2) × (outcome .pops ≡ length (firstQueue 0 (S .counts))) × (listed ≡ []) × (outcome .remainder ≡ S)
   unfolding close
   flow-zero-stuck h n nonzero s l =
       let q = ap (walk (ruleOf P) slots allowance) s ∙ flow-zero-untaken P n h nonzero slots allowance l in
-      (ap (λ o. endingNumber (o .ending)) q, ap closedTable q, ap (λ o. o .remainder) q ∙ sym s)
+      (ap (λ o. endingNumber (o .ending)) q, ap (λ o. o .pops) q ∙ ap (λ (T : Sketch). length (firstQueue 0 (T .counts))) (sym s), ap closedTable q, ap (λ o. o .remainder) q ∙ sym s)
 
   -- never more pops than allowed
   pub pops-within : outcome .pops ≤ allowance
@@ -163,26 +161,26 @@ module _ (P : Params) (slots allowance : ℕ) (S : Sketch) where
       true≢false (sym z ∙ not-true _ n)
 
   -- what holds of the table before the close
-  table : Listed (isFlow P) slots (outcome .table)
-  table = table-facts (ruleOf P) (isFlow P) (narrowed-pure-passes (isFlow P) (wideRule P)) slots allowance S
+  before-close : Listed (isFlow P) slots (outcome .table)
+  before-close = table-facts (ruleOf P) (isFlow P) (λ k c s. only-if-passes (isFlow P) (wideTest P k c s)) slots allowance S
 
   -- every listed flow is one, so that none is flow 0
   pub listed-are-flows : (i : ℕ) → i < length listed → isFlow P (entry i .flow) ≡ true
   listed-are-flows i l =
-      all-at (λ e. isFlow P (e .flow)) listed i (by 0 (pos 0)) (all-close _ (outcome .table) (table .flows)) l
+      all-at (λ e. isFlow P (e .flow)) listed i (by 0 (pos 0)) (all-close _ (outcome .table) (before-close .flows)) l
 
   pub never-flow-zero : (i : ℕ) → i < length listed → entry i .flow ≡ 0 → ⊥
   never-flow-zero i l e = omega (arith, flow-above P (entry i .flow) (listed-are-flows i l))
 
   pub listed-once : (i j : ℕ) → i < j → j < length listed → entry i .flow ≡ entry j .flow → ⊥
-  listed-once i j h l = once-at listed i j (by 0 (pos 0)) (once-close (outcome .table) (table .apart)) h l
+  listed-once i j h l = once-at listed i j (by 0 (pos 0)) (once-close (outcome .table) (before-close .apart)) h l
 
   pub listed-within : (i : ℕ) → i < length listed → inLimits (entry i .number) ≡ true
   listed-within i l =
-      all-at (λ e. inLimits (e .number)) listed i (by 0 (pos 0)) (all-close _ (outcome .table) (table .limits)) l
+      all-at (λ e. inLimits (e .number)) listed i (by 0 (pos 0)) (all-close _ (outcome .table) (before-close .limits)) l
 
   pub listed-few : length listed ≤ slots
-  listed-few = le-trans (close-fewer (outcome .table)) (table .few)
+  listed-few = le-trans (close-fewer (outcome .table)) (before-close .few)
 
   -- entries with count 0 make no difference to the net figure
   pub net-closed : netOf outcome ≡ netFigure (outcome .table)

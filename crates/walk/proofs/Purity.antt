@@ -1,11 +1,9 @@
--- The test is sound modulo every prime and for every placing of flows, and so is the purity test, which narrows it; modulo a prime above the limits of counts that passes exactly where the scope says; with a sketch's parameters the bucket is one of the flow's.
+-- The wide test is sound, modulo every prime and for every placing of flows, and so is the purity test, which narrows it. Modulo a prime above the limits of counts the purity test passes exactly where the scope and its request on flow 0 say.
 use mathlib.Core.Path.{_≡_, refl, sym, ap, subst, _∙_}
-use mathlib.Core.Bool.{Bool, true, false, cond, _&&_, true≢false}
-use Prim.Native.Nat.{ℕ, suc, _+_, _-_, _*_, _/_, _%_, _<_}
-use native.Mathlib.Nat.{mod-add-div'}
+use mathlib.Core.Bool.{Bool, true, false, cond, true≢false}
+use Prim.Native.Nat.{ℕ, suc, _+_, _-_, _*_, _<_}
 use native.Mathlib.Omega.{arith}
-use borrow.Author.Tests.{eqb-true, eqb-false, ltb-true, lt-ltb, le-leb}
-use lib.Dec.{eqb, ltb}
+use borrow.Author.Tests.{eqb-false, lt-ltb, le-leb}
 use lib.IntN.{ℤ, pos, _*ℤ_}
 use Rattle.field.specs.Prime.{Prime}
 use Rattle.field.specs.Residue.{residue, isMultiple}
@@ -16,20 +14,19 @@ use Rattle.field.proofs.Residues.{residue-zero, residue-below}
 use Rattle.field.proofs.OneFlow.{the-flow}
 use Rattle.params.specs.declared.params.Params.{Params}
 use Rattle.params.specs.Params.{primeOf, isFlow, Dimensions}
-use Rattle.params.specs.Positions.{stand, index, standsIn, stands}
+use Rattle.params.specs.Positions.{stand, index, stands}
 use Rattle.buckets.specs.Buckets.{inLimits, isZero}
 use Rattle.params.proofs.Rules.{dimensions-good}
-use Rattle.params.proofs.Searches.{and-true}
 use Rattle.params.proofs.Indexes.{index-where-stands}
 use Rattle.buckets.proofs.Multiples.{multiple-zero}
 use Rattle.walk.specs.declared.Found.{Found}
 use Rattle.walk.specs.declared.Found.the-variants.{Impure, Pure}
-use Rattle.walk.specs.Narrowed.{onlyIf}
-use Rattle.walk.specs.Purity.{testIn, wideTest, pureTest, guardedTest, wideRule, ruleOf}
+use Rattle.walk.specs.Walk.{Rule}
+use Rattle.walk.specs.Purity.{testIn, wideTest, onlyIf, pureTest, guardedTest, ruleOf}
 use Rattle.buckets.proofs.Zeros.{is-zero, not-zero}
 use Rattle.walk.proofs.Balance.{Sound}
 use Rattle.walk.proofs.Stuck.{ByArrays}
-use Rattle.walk.proofs.Narrowed.{only-if-pure, only-if-passes, narrowed-pure-is-pure, sound-narrowed, by-arrays-narrowed}
+use Rattle.walk.proofs.Narrowed.{only-if-pure, only-if-passes, only-if-fails, sound-narrowed, by-arrays-narrowed}
 
 -- a count that is no multiple of p has a residue above 0
 some-residue : (p : ℕ) (c : ℤ) → isMultiple p c ≡ false → 0 < residue p c
@@ -70,7 +67,7 @@ module _ (p : ℕ) (prime : Prime p) (on : ℕ → ℕ → Bool) (k : ℕ) (c : 
 
 -- the rule of any prime and any placing
 module _ (p : ℕ) (prime : Prime p) (arrays : ℕ) (index : ℕ → ℕ → ℕ) (on : ℕ → ℕ → Bool) where
-  pub sound-in : Sound (record { prime = p; arrays = arrays; index = index; stands = on; test = testIn p on })
+  sound-in : Sound (record { prime = p; arrays = arrays; index = index; stands = on; test = testIn p on })
   unfolding testIn
   sound-in =
       record {
@@ -82,17 +79,14 @@ module _ (p : ℕ) (prime : Prime p) (arrays : ℕ) (index : ℕ → ℕ → ℕ
 
 -- where the dimensions keep their rules, the code's test is the definition's
 pub guarded-is-pure : {P : Params} (k : ℕ) (c : ℤ) (s : ℕ) → Dimensions P → guardedTest P k c s ≡ pureTest P k c s
-guarded-is-pure {P} k c s h = ap (λ b. onlyIf (isFlow P) (testIn (primeOf P) (λ f k. b && stands P f k) k c s)) (dimensions-good h)
+guarded-is-pure {P} k c s h = rw (dimensions-good h)
+
+-- the rule of P by the wide test, which that of P narrows
+abbrev pub wideRule : Params → Rule
+wideRule P = record { prime = primeOf P; arrays = P .d; index = index P; stands = stands P; test = wideTest P }
 
 pub sound : (P : Params) → Sound (ruleOf P)
 sound P = sound-narrowed (isFlow P) (wideRule P) (sound-in (primeOf P) prime-31 (P .d) (index P) (stands P))
-
--- the bucket in which a flow stands is its bucket in one of the arrays
-pub stands-at : (P : Params) (f k : ℕ) → stands P f k ≡ true → (k / P .m < P .d) × (k / P .m * P .m + stand P (k / P .m) f ≡ k)
-unfolding standsIn
-stands-at P f k e =
-    let w = and-true (ltb (k / P .m) (P .d)) (eqb (stand P (k / P .m) f) (k % P .m)) e in
-    (ltb-true _ _ (w .0), omega (arith, eqb-true (stand P (k / P .m) f) (k % P .m) (w .1), mod-add-div' k (P .m)))
 
 -- arrays count from 1: the index in the array that i others stand before
 pub index-next : (P : Params) (i f : ℕ) → index P (suc i) f ≡ i * P .m + stand P i f
@@ -102,45 +96,45 @@ index-next P i f = let e : suc i - 1 ≡ i = omega arith in ap (λ (n : ℕ). n 
 pub by-arrays : (P : Params) → ByArrays (ruleOf P)
 by-arrays P = by-arrays-narrowed (isFlow P) (wideRule P) (record { array = λ k f e. let w = index-where-stands P f k e in (w .0, w .1, w .2, sym (w .3)) })
 
--- and the bucket in which a flow is pure is one of the flow's
-pub pure-at : (P : Params) (k : ℕ) (c : ℤ) (s f : ℕ) → pureTest P k c s ≡ Pure f → (k / P .m < P .d) × (k / P .m * P .m + stand P (k / P .m) f ≡ k)
-pure-at P k c s f e = stands-at P f k (sound P .standing k c s f e)
-
--- what is pure passes the wide test too, and of what passes that, flow 0 alone is not pure
+-- what is pure passes the wide test too
 pub pure-is-wide : (P : Params) (k : ℕ) (c : ℤ) (s f : ℕ) → pureTest P k c s ≡ Pure f → wideTest P k c s ≡ Pure f
-pure-is-wide P = narrowed-pure-is-pure (isFlow P) (wideRule P)
+pure-is-wide P k c s f = only-if-pure (isFlow P) (wideTest P k c s) f
 
-pub wide-is-pure : (P : Params) (k : ℕ) (c : ℤ) (s f : ℕ) → wideTest P k c s ≡ Pure f → (f ≡ 0 → ⊥) → pureTest P k c s ≡ Pure f
-wide-is-pure P k c s f e nonzero = rw (e, le-leb 1 f (omega arith), lt-ltb f (primeOf P) (pure-below (primeOf P) prime-31 (stands P) k c s f e))
-
+-- a bucket whose flow comes out as 0 is not pure
 pub zero-not-pure : (P : Params) (k : ℕ) (c : ℤ) (s : ℕ) → flow (primeOf P) c s ≡ 0 → pureTest P k c s ≡ Impure
 unfolding testIn
-zero-not-pure P k c s e = rw e (go (isMultiple (primeOf P) c) (stands P 0 k))
+zero-not-pure P k c s e = go (isMultiple (primeOf P) c)
   where
-    go : (b t : Bool) → onlyIf (isFlow P) (cond b Impure (cond t (Pure 0) Impure)) ≡ Impure
-    go true t = refl
-    go false true = refl
-    go false false = refl
+    f : ℕ
+    f = flow (primeOf P) c s
+
+    go : (b : Bool) → onlyIf (isFlow P) (cond b Impure (cond (stands P f k) (Pure f) Impure)) ≡ Impure
+    go true = refl
+    go false = only-if-fails (isFlow P) (stands P f k) f (ap (isFlow P) e)
+
+-- and that is all that the wide test passes besides
+pub pure-unless-zero : (P : Params) (k : ℕ) (c : ℤ) (s f : ℕ) → wideTest P k c s ≡ Pure f → (f ≡ 0 → ⊥) → pureTest P k c s ≡ Pure f
+pure-unless-zero P k c s f e nonzero = rw (e, le-leb 1 f (omega arith), lt-ltb f (primeOf P) (pure-below (primeOf P) prime-31 (stands P) k c s f e))
 
 -- the bucket k with count c and idsum s is pure with flow f, in the scope's words: c is not 0, and f is a number from 0 to p - 1 with c * f
 -- congruent to s, and stands there; and f passes `ok`, which tells the flows among these numbers
 pub record PureWith (p : ℕ) (ok : ℕ → Bool) (on : ℕ → ℕ → Bool) (k : ℕ) (c : ℤ) (s f : ℕ) : Type 0 where
   pub nonzero : c ≡ pos 0 → ⊥
-  pub number : f < p
+  pub below : f < p
   pub solves : residue p (c *ℤ pos f) ≡ s
   pub there : on f k ≡ true
   pub a-flow : ok f ≡ true
 
 -- in a bucket within its limits, modulo any prime above the limits, the narrowed test passes exactly where that is so
-module _ (p : ℕ) (prime : Prime p) (above : 2147483646 < p) (ok : ℕ → Bool) (on : ℕ → ℕ → Bool) (k : ℕ) (c : ℤ) (s f : ℕ) (within : inLimits c ≡ true) (below : s < p) where
+module _ (p : ℕ) (prime : Prime p) (above : 2147483646 < p) (ok : ℕ → Bool) (on : ℕ → ℕ → Bool) (k : ℕ) (c : ℤ) (s f : ℕ) (within : inLimits c ≡ true) (small : s < p) where
   pure-only : onlyIf ok (testIn p on k c s) ≡ Pure f → PureWith p ok on k c s f
   pure-only e =
       let wide = only-if-pure ok (testIn p on k c s) f e in
       let w = pure-is p on k c s f wide in
       record {
         nonzero = λ z. true≢false (sym (is-zero c z) ∙ sym (multiple-zero p above c within) ∙ w .0);
-        number = pure-below p prime on k c s f wide;
-        solves = pure-solves p prime on k c s f wide below;
+        below = pure-below p prime on k c s f wide;
+        solves = pure-solves p prime on k c s f wide small;
         there = w .1;
         a-flow = only-if-passes ok (testIn p on k c s) f e;
       }
@@ -148,7 +142,7 @@ module _ (p : ℕ) (prime : Prime p) (above : 2147483646 < p) (ok : ℕ → Bool
   pure-if : PureWith p ok on k c s f → onlyIf ok (testIn p on k c s) ≡ Pure f
   pure-if h =
       let nonzero : isZero c ≡ false = not-zero c (h .nonzero) in
-      let one : flow p c s ≡ f = sym (the-flow p prime c (some-residue p c (multiple-zero p above c within ∙ nonzero)) s below .only f (h .number) (h .solves)) in
+      let one : flow p c s ≡ f = sym (the-flow p prime c (some-residue p c (multiple-zero p above c within ∙ nonzero)) s small .only f (h .below) (h .solves)) in
       let wide : testIn p on k c s ≡ Pure f = test-within p on k c s above within ∙ rw (nonzero, one, h .there) in
       rw (wide, h .a-flow)
 

@@ -3,7 +3,6 @@ use mathlib.Core.Path.{_≡_, refl, sym, ap, ap₂, _∙_}
 use mathlib.Core.Bool.{true, false}
 use mathlib.Core.List.{List}
 use Prim.Native.Nat.{ℕ, _<_}
-use native.Mathlib.Nat.{zero-add}
 use native.Mathlib.Omega.{arith}
 use lib.IntN.{ℤ, pos, _+ℤ_, +ℤ-comm, +ℤ-idl}
 use lib.ListN.{length, getD}
@@ -11,12 +10,12 @@ use lib.Seq.{ext-getD}
 use Rattle.field.specs.Residue.{residue}
 use Rattle.field.proofs.Residues.{residue-below, residue-own, residue-twice, residue-add-same}
 use Rattle.params.specs.declared.params.Params.{Params}
-use Rattle.params.specs.Lists.{mapFrom, touched, from}
+use Rattle.params.specs.Lists.{mapFrom, touched}
 use Rattle.params.specs.Params.{prime, size}
 use Rattle.sketch.specs.Sketch.{Sketch, sketch, countIn, idsumIn, Entry, countAt, weightAt, sketchOf}
 use Rattle.sums.specs.Sums.{combined}
 use Rattle.params.proofs.Changes.{length-touched, getD-touched, touched-all}
-use Rattle.sketch.proofs.Tables.{length-from, getD-from}
+use Rattle.sketch.proofs.Tables.{length-from, from-at}
 use Rattle.buckets.proofs.Idsums.{prime-pos}
 use Rattle.sums.proofs.Weighted.{count-weighted, weight-weighted}
 use Rattle.walk.specs.Walk.{nothingRemains}
@@ -34,9 +33,6 @@ module _ {A : Type 0} (g : ℕ → A → A) (xs : List A) (d : A) where
 
   map-at : (j : ℕ) → j < length xs → getD (mapFrom 0 g xs) j d ≡ g j (getD xs j d)
   map-at j l = ap (λ (ys : List A). getD ys j d) everywhere ∙ getD-touched (λ k. true) g xs j d l
-
-from-at : {A : Type 0} (n : ℕ) (h : ℕ → A) (j : ℕ) (d : A) → j < n → getD (from 0 n h) j d ≡ h j
-from-at n h j d l = getD-from 0 n h j d l ∙ ap h (zero-add j)
 
 -- a summand's residue does for it
 residue-inner : (a w : ℤ) → residue prime (a +ℤ pos (residue prime w)) ≡ residue prime (a +ℤ w)

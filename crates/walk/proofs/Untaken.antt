@@ -1,4 +1,4 @@
--- A walk over a sketch of which something remains and no bucket passes the test takes nothing: it pops each bucket with a count once and is stuck, where so many pops are allowed. Such a sketch is that of flow 0 alone.
+-- A walk over a sketch of which something remains and no bucket passes the test takes nothing: it pops each bucket with a count once and is stuck, where so many pops are allowed. The sketch of flow 0 alone is such a one.
 use mathlib.Core.Path.{_≡_, refl, sym, ap, _∙_}
 use mathlib.Core.Bool.{Bool, true, false, cond}
 use mathlib.Core.List.{List, [], _∷_}
@@ -18,7 +18,7 @@ use Rattle.params.specs.Positions.{index, stands}
 use Rattle.params.proofs.Indexes.{index-below, stands-at-index}
 use Rattle.buckets.specs.Buckets.{isZero}
 use Rattle.sketch.specs.Sketch.{Sketch, by, countIn, idsumIn, countAt, weightAt, sketchOf}
-use Rattle.sketch.proofs.Tables.{length-from, getD-from}
+use Rattle.sketch.proofs.Tables.{length-from, from-at}
 use Rattle.walk.specs.declared.Ending.the-variants.{Stuck}
 use Rattle.walk.specs.declared.Found.the-variants.{Impure}
 use Rattle.walk.specs.Walk.{Rule, State, out, nothingRemains, follows, popped, before, after, run, firstQueue, walk}
@@ -48,9 +48,9 @@ module _ (R : Rule) (slots : ℕ) (S : Sketch) (some : nothingRemains S ≡ fals
   run-stuck (k ∷ q) zero n l = absurd (omega arith)
   run-stuck (k ∷ q) (suc a) n l = rw (some, none k) (run-stuck q a (suc n) (omega arith) ∙ ap (λ m. out Stuck m (at [])) (omega arith))
 
-  pub untaken : (allowance : ℕ) → length (S .counts) ≤ allowance → walk R slots allowance S ≡ out Stuck (length (firstQueue 0 (S .counts))) (at [])
+  pub untaken : (allowance : ℕ) → length (firstQueue 0 (S .counts)) ≤ allowance → walk R slots allowance S ≡ out Stuck (length (firstQueue 0 (S .counts))) (at [])
   unfolding walk
-  untaken allowance l = run-stuck (firstQueue 0 (S .counts)) allowance 0 (omega (arith, queue-short 0 (S .counts))) ∙ ap (λ n. out Stuck n (at [])) (zero-add _)
+  untaken allowance l = run-stuck (firstQueue 0 (S .counts)) allowance 0 l ∙ ap (λ n. out Stuck n (at [])) (zero-add _)
 
 -- a bucket with an idsum of 0 is not pure
 idsum-zero : (P : Params) (k : ℕ) (c : ℤ) → pureTest P k c 0 ≡ Impure
@@ -59,7 +59,7 @@ idsum-zero P k c = zero-not-pure P k c 0 (ap (λ n. residue (primeOf P) (pos n))
 
 -- the sketch of n packets of flow 0
 module _ (P : Params) (n : ℤ) where
-  abbrev pub ofFlowZero : Sketch
+  abbrev ofFlowZero : Sketch
   ofFlowZero = sketchOf P (by 0 n ∷ [])
 
   -- they bring nothing to an idsum
@@ -79,15 +79,14 @@ module _ (P : Params) (n : ℤ) where
       idsum k = residue (primeOf P) (weightAt P (by 0 n ∷ []) k)
 
       go : Dec (k < size P) → idsumIn ofFlowZero k ≡ 0
-      go (yes l) = getD-from 0 (size P) idsum k 0 l ∙ ap (residue (primeOf P)) (no-weight (0 + k)) ∙ residue-zero (primeOf P)
+      go (yes l) = from-at (size P) idsum k 0 l ∙ ap (residue (primeOf P)) (no-weight k) ∙ residue-zero (primeOf P)
       go (no l) = List·getD-eq-default (from 0 (size P) idsum) 0 {n = k} (omega (arith, length-from 0 (size P) idsum))
 
   -- they stand in the bucket of array 1
   first-count : Dimensions P → countIn ofFlowZero (index P 1 0) ≡ n
   unfolding sketchOf countAt
   first-count h =
-      getD-from 0 (size P) (countAt P (by 0 n ∷ [])) (index P 1 0) (pos 0) (index-below P 1 0 h (omega arith) (omega arith))
-      ∙ ap (countAt P (by 0 n ∷ [])) (zero-add (index P 1 0))
+      from-at (size P) (countAt P (by 0 n ∷ [])) (index P 1 0) (pos 0) (index-below P 1 0 h (omega arith) (omega arith))
       ∙ rw (stands-at-index P 0 1 h (omega arith) (omega arith)) (+ℤ-idr n)
 
   remains : Dimensions P → (n ≡ pos 0 → ⊥) → nothingRemains ofFlowZero ≡ false
@@ -102,4 +101,5 @@ module _ (P : Params) (n : ℤ) where
       → walk (ruleOf P) slots allowance ofFlowZero ≡ out Stuck (length (firstQueue 0 (ofFlowZero .counts))) (record { held = ofFlowZero; queue = []; table = [] })
   unfolding sketchOf
   flow-zero-untaken h nonzero slots allowance l =
-      untaken (ruleOf P) slots ofFlowZero (remains h nonzero) (λ k. rw (no-idsum k) (idsum-zero P k (countIn ofFlowZero k))) allowance (omega (arith, length-from 0 (size P) (countAt P (by 0 n ∷ []))))
+      untaken (ruleOf P) slots ofFlowZero (remains h nonzero) (λ k. rw (no-idsum k) (idsum-zero P k (countIn ofFlowZero k))) allowance
+      (omega (arith, queue-short 0 (ofFlowZero .counts), length-from 0 (size P) (countAt P (by 0 n ∷ []))))

@@ -2,5 +2,4 @@
 pub mod Ascii
 pub mod Endings
 pub mod Walk
-pub mod Narrowed
 pub mod Purity

@@ -1,5 +1,5 @@
 -- The purity test, and the rule of a sketch's parameters.
-use mathlib.Core.Bool.{Bool, cond, _&&_}
+use mathlib.Core.Bool.{Bool, cond}
 use Prim.Native.Nat.{ℕ}
 use lib.IntN.{ℤ}
 use Rattle.field.specs.Residue.{isMultiple}
@@ -10,7 +10,6 @@ use Rattle.params.specs.Positions.{index, stands}
 use Rattle.walk.specs.declared.Found.{Found}
 use Rattle.walk.specs.declared.Found.the-variants.{Impure, Pure}
 use Rattle.walk.specs.Walk.{Rule}
-use Rattle.walk.specs.Narrowed.{onlyIf, narrowed}
 
 -- what the test found, as a number and a flow: 0 where the bucket is not pure, and then the flow is 0; 1 where it is, with its flow
 abbrev pub foundNumber : Found → ℕ
@@ -29,28 +28,30 @@ testIn p on k c s =
     Impure
     (cond (on (flow p c s) k) (Pure (flow p c s)) Impure)
 
--- the wide test takes any such number for a flow, 0 too
+-- the wide test takes any number that stands in the bucket for a flow, 0 too
 abbrev pub wideTest : Params → ℕ → ℤ → ℕ → Found
 wideTest P = testIn (primeOf P) (stands P)
 
--- the purity test: that number is a flow besides, so that a bucket whose flow comes out as 0 is not pure
+-- pure only where what was found passes `ok`
+abbrev pub onlyIf : (ℕ → Bool) → Found → Found
+onlyIf ok Impure = Impure
+onlyIf ok (Pure f) = cond (ok f) (Pure f) Impure
+
+-- the purity test: the bucket passes the wide test, and its number is a flow. So one whose flow comes out as 0 is not pure
 abbrev pub pureTest : Params → ℕ → ℤ → ℕ → Found
 pureTest P k c s = onlyIf (isFlow P) (wideTest P k c s)
 
--- the same where the dimensions may break a rule: then no flow stands anywhere
+-- the same where the dimensions may break a rule: then nothing is pure
 abbrev pub guardedTest : Params → ℕ → ℤ → ℕ → Found
-guardedTest P k c s = onlyIf (isFlow P) (testIn (primeOf P) (λ f k. goodDimensions P && stands P f k) k c s)
+guardedTest P k c s = cond (goodDimensions P) (pureTest P k c s) Impure
 
--- the walk of a sketch with these parameters by the wide test, and by the purity test
-abbrev pub wideRule : Params → Rule
-wideRule P =
+-- what the walk of a sketch with these parameters goes by
+abbrev pub ruleOf : Params → Rule
+ruleOf P =
     record {
       prime = primeOf P;
       arrays = P .d;
       index = index P;
       stands = stands P;
-      test = wideTest P;
+      test = pureTest P;
     }
-
-abbrev pub ruleOf : Params → Rule
-ruleOf P = narrowed (isFlow P) (wideRule P)

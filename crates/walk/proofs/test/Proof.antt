@@ -1,6 +1,6 @@
 -- `walk::test` meets its contract.
 use mathlib.Core.Path.{_≡_, refl, sym, ap, _∙_}
-use mathlib.Core.Bool.{Bool, true, false, cond, _&&_}
+use mathlib.Core.Bool.{Bool, true, false, cond, _&&_, true≢false}
 use Prim.Native.Nat.{ℕ}
 use mir.Facts.{toZ-ofZ}
 use borrow.Author.Needs.{needs}
@@ -10,11 +10,23 @@ use Rattle.field.specs.Flow.{flow}
 use Rattle.params.specs.declared.params.Params.{Params}
 use Rattle.params.specs.Params.{prime, isFlow, goodDimensions}
 use Rattle.params.specs.Positions.{stands}
+use Rattle.params.proofs.Searches.{and-true}
 use Rattle.walk.specs.declared.Found.the-variants.{Impure, Pure}
-use Rattle.walk.specs.Narrowed.{onlyIf}
-use Rattle.walk.specs.Purity.{testIn, guardedTest}
+use Rattle.walk.specs.Purity.{testIn, onlyIf, guardedTest}
+use Rattle.walk.proofs.Narrowed.{only-if-fails}
 use Rattle.walk.proofs.test.Statement.{statement}
 use Rattle.walk.proofs.test.Tie as tie
+
+-- where nothing is pure, the dimensions do not matter
+impure : (good : Bool) → cond good Impure Impure ≡ Impure
+impure true = refl
+impure false = refl
+
+-- the dimensions break a rule, or the number does not stand there
+not-both : (ok : ℕ → Bool) (good there : Bool) (g : ℕ) → (good && there) ≡ false → cond good (onlyIf ok (cond there (Pure g) Impure)) Impure ≡ Impure
+not-both ok true true g e = absurd (true≢false e)
+not-both ok true false g e = refl
+not-both ok false there g e = refl
 
 -- the count's residue, and the flow
 residue-is : (c : tie.After-raise) → c .raise .result ≡ residue prime (c .before .args .c)
@@ -28,7 +40,7 @@ raise-requires c κs = search needs
 
 returns : tie.Need-returns
 unfolding testIn
-returns c = rw (eq-eqb _ 0 (sym (residue-is (c .before)) ∙ c .if1 .taken))
+returns c = rw (eq-eqb _ 0 (sym (residue-is (c .before)) ∙ c .if1 .taken)) (sym (impure (goodDimensions (c .before .before .args .p))))
 
 flow-requires : tie.Need-flow-requires
 flow-requires c κs = search needs
@@ -44,22 +56,18 @@ abbrev f : tie.After-is-flow → ℕ
 f c = c .before .flow .result
 
 abbrev there : tie.After-is-flow → Bool
-there c = goodDimensions (P c) && stands (P c) (f c) (c .before .before .before .before .args .k)
+there c = stands (P c) (f c) (c .before .before .before .before .args .k)
 
--- where the count is no multiple of the prime, that decides
-by-flow : (c : tie.After-is-flow) → let a = c .before .before .before .before .args in guardedTest (P c) (a .k) (a .c) (a .s) ≡ onlyIf (isFlow (P c)) (cond (there c) (Pure (f c)) Impure)
+-- where the count is no multiple of the prime, the bucket is pure where its number is a flow and stands there
+by-flow : (c : tie.After-is-flow) → let a = c .before .before .before .before .args in
+    guardedTest (P c) (a .k) (a .c) (a .s) ≡ cond (goodDimensions (P c)) (onlyIf (isFlow (P c)) (cond (there c) (Pure (f c)) Impure)) Impure
 unfolding testIn
 by-flow c = rw (ne-eqb _ 0 (λ e. c .before .before .if1 .left (residue-is (c .before .before .before) ∙ e)), ← flow-is (c .before))
-
--- what is no flow is not pure, wherever it stands
-no-flow : (ok : ℕ → Bool) (b : Bool) (g : ℕ) → ok g ≡ false → onlyIf ok (cond b (Pure g) Impure) ≡ Impure
-no-flow ok true g e = rw e
-no-flow ok false g e = refl
 
 returns-2 : tie.Need-returns-2
 returns-2 c =
     let n = c .before in
-    sym (by-flow n ∙ no-flow (isFlow (P n)) (there n) (f n) (sym (n .is-flow .ensures) ∙ not-true _ (c .if2 .taken)))
+    sym (by-flow n ∙ ap (λ w. cond (goodDimensions (P n)) w Impure) (only-if-fails (isFlow (P n)) (there n) (f n) (sym (n .is-flow .ensures) ∙ not-true _ (c .if2 .taken))) ∙ impure (goodDimensions (P n)))
 
 stands-requires : tie.Need-stands-requires
 stands-requires c κs = search needs
@@ -68,14 +76,13 @@ returns-3 : tie.Need-returns-3
 returns-3 c =
     let n = c .before .before .before in
     let flows : isFlow (P n) (f n) ≡ true = sym (n .is-flow .ensures) ∙ not-false _ (c .before .before .if2 .left) in
-    let stood : there n ≡ true = sym (c .before .stands .ensures) ∙ c .if3 .taken in
-    sym (by-flow n ∙ rw (stood, flows))
+    let stood = and-true (goodDimensions (P n)) (there n) (sym (c .before .stands .ensures) ∙ c .if3 .taken) in
+    sym (by-flow n ∙ rw (stood .0, stood .1, flows))
 
 returns-4 : tie.Need-returns-4
 returns-4 c =
     let n = c .before .before .before in
-    let stood : there n ≡ false = sym (c .before .stands .ensures) ∙ c .if3 .left in
-    sym (by-flow n ∙ rw stood)
+    sym (by-flow n ∙ not-both (isFlow (P n)) (goodDimensions (P n)) (there n) (f n) (sym (c .before .stands .ensures) ∙ c .if3 .left))
 
 pub test-spec : {M : Type 1} → statement M
 test-spec =
