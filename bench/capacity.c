@@ -216,18 +216,19 @@ static void print_tally(const struct setting *setting, uint64_t last_seed) {
     printf("\n");
 }
 
-// Whether a walk left so many packets of flow 0 and nothing else.
-static int only_flow_0_is_left(const struct params *params, int32_t number) {
+// How many packets of flow 0 a walk left, where its lines say so and nothing else is left; else 0.
+static int32_t left_of_flow_0(const struct params *params) {
     uint32_t buckets[4];
     find_buckets(params, 0, buckets);
+    int32_t number = counts[position(params, 0, 0)];
     for (uint32_t array = 0; array < params->d; array++)
         if (counts[buckets[array]] != number || idsums[buckets[array]] != 0)
             return 0;
-    return count_left(size_of(params)) == params->d;
+    return count_left(size_of(params)) == params->d ? number : 0;
 }
 
-// Of walks of old sketches, where packets of flow 0 are lost besides, prints how many leave only these, and how many of
-// them list the other lost flows with their very numbers.
+// Of walks of old sketches, where packets of flow 0 are lost besides, prints how many leave only such, and how many of them
+// tell their number and that of each other lost flow.
 static void print_flow_0(const struct setting *setting, uint64_t last_seed) {
     uint64_t only = 0, right = 0;
     for (uint64_t seed = 1; seed <= last_seed; seed++) {
@@ -238,10 +239,9 @@ static void print_flow_0(const struct setting *setting, uint64_t last_seed) {
         for (uint32_t array = 0; array < setting->d; array++)
             counts[buckets[array]] += number;
         struct figures figures = peel(&sketch, setting->pops * size_of(&sketch.params));
-        if (only_flow_0_is_left(&sketch.params, number)) {
-            only++;
-            right += figures.entries == lost.length && count_right(figures.entries) == lost.length;
-        }
+        int32_t told = left_of_flow_0(&sketch.params);
+        only += told != 0;
+        right += told == number && figures.entries == lost.length && count_right(figures.entries) == lost.length;
     }
     printf("%u,%u,%u,%u,%u,%lu,%lu,%lu\n", setting->d, setting->d * setting->m, setting->flows, setting->least, setting->most,
            (unsigned long)last_seed, (unsigned long)only, (unsigned long)right);

@@ -164,8 +164,8 @@ module _ {P : Params} {a : ℕ} {L : Slices} {r : Peeled} {L' : Slices} (h : Pee
         (walks.stuck-stands P (length (L .flows)) a S sound-input (sym ending-is ∙ e) k l (λ z. d (ap (λ (T : Sketch). countIn T k) remainder-is ∙ z))
         (λ z. nonzero (ap (λ (T : Sketch). flow (primeOf P) (countIn T k) (idsumIn T k)) remainder-is ∙ z)))
 
-    -- the sketch of flow 0 alone is stuck where a pop per bucket is allowed: each bucket with a count is popped once, nothing is listed, and all of it remains
-    pub flow-zero-stuck : (n : ℤ) → (n ≡ pos 0 → ⊥) → S ≡ sketchOf P (by 0 n ∷ []) → size P ≤ a
+    -- the sketch of flow 0 alone is stuck where a pop of each bucket with a count is allowed: these are made, nothing is listed, and all of it remains
+    pub flow-zero-stuck : (n : ℤ) → (n ≡ pos 0 → ⊥) → S ≡ sketchOf P (by 0 n ∷ []) → length (firstQueue 0 (S .counts)) ≤ a
         → (peeledEnding r ≡ 2) × (peeledPops r ≡ length (firstQueue 0 (S .counts))) × (peeledEntries r ≡ 0) × (S' ≡ S)
     flow-zero-stuck n nonzero s l =
         let w = walks.flow-zero-stuck P (length (L .flows)) a S (judged-peelable P L done .dimensions) n nonzero s l in

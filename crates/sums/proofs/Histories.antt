@@ -16,7 +16,7 @@ use Rattle.buckets.specs.Buckets.{plusMinus, weight}
 use Rattle.sketch.specs.Sketch.{Sketch, sketch, Entry, by, countAt, weightAt, sketchOf, zeros, changedIn}
 use Rattle.sketch.specs.Packets.{changed, after, entriesOf}
 use Rattle.sums.specs.Sums.{combineAnswer, combined, Combined}
-use Rattle.sums.specs.History.{History, freshly, from-before, inserting, stepping, inserting-all, withdrawing, adding, subtracting, negated, signed, netCount}
+use Rattle.sums.specs.History.{History, freshly, inserting, stepping, of-flow-zero, inserting-all, withdrawing, adding, subtracting, negated, signed, netCount}
 use Rattle.params.proofs.Judging.{first-done}
 use Rattle.sums.proofs.TwoSketches.{both-lent-done}
 use Rattle.sketch.proofs.Tables.{replicate-from, touched-from}
@@ -102,9 +102,9 @@ combined-shared minus es gs {P} {Q} {S} {T} s t c =
 pub history : {P : Params} {es : List Entry} {S : Sketch} → History P es S → S ≡ sketchOf P es
 unfolding kept
 history (freshly h) = h .after ∙ zeros-are _
-history (from-before e) = e
 history (inserting h i) = i .after ∙ ap (changed _ false _ _) (history h) ∙ changed-entry _ false _ _ _
 history (stepping h i) = i .after ∙ ap (changed _ _ _ _) (history h) ∙ changed-entry _ _ _ _ _
+history (of-flow-zero minus n h e) = e ∙ ap (changed _ _ _ _) (history h) ∙ changed-entry _ _ _ _ _
 history (inserting-all h i) = i .after-all ∙ ap (after _ _ _) (history h) ∙ after-entries _ _ _ _
 history (withdrawing h i) = i .after ∙ ap (changed _ true _ _) (history h) ∙ changed-entry _ true _ _ _
 history (adding h g i) = combined-shared false _ _ (history h) (history g) i ∙ sym (joined _ _ _)

@@ -7,8 +7,8 @@ use lib.IntN.{ℤ, pos, negℤ, _+ℤ_}
 use lib.Dec.{eqb}
 use Rattle.params.specs.declared.params.Params.{Params}
 use Rattle.params.specs.declared.answers.Answer.the-variants.{Done}
-use Rattle.sketch.specs.Sketch.{Sketch, Entry, by, sketchOf, Freshened}
-use Rattle.sketch.specs.Packets.{Stepped, Inserted, Withdrawn, AllInserted, entriesOf}
+use Rattle.sketch.specs.Sketch.{Sketch, Entry, by, Freshened}
+use Rattle.sketch.specs.Packets.{changed, Stepped, Inserted, Withdrawn, AllInserted, entriesOf}
 use Rattle.sums.specs.Sums.{Combined}
 
 -- each entry with its number's sign turned round
@@ -26,14 +26,15 @@ unfoldable pub netCount : List Entry → ℕ → ℤ
 netCount [] f = pos 0
 netCount (e ∷ es) f = cond (eqb (e .flow) f) (e .number) (pos 0) +ℤ netCount es f
 
--- the sketch S was made by calls of which none was refused, over any number of sketches, from packets that make up these entries; among the
--- sketches there may be some from before that are known to be those of their entries, as one in which flow 0 stands
+-- the sketch S was made by calls of which none was refused, over any number of sketches, from packets that make up these entries; in old sketches
+-- packets of flow 0 went in or came out besides, which no call takes any more
 pub data History : Params → List Entry → Sketch → Type 0 where
   freshly : {P : Params} {S S' : Sketch} → Freshened P S Done S' → History P [] S'
-  from-before : {P : Params} {es : List Entry} {S : Sketch} → S ≡ sketchOf P es → History P es S
   inserting : {P : Params} {es : List Entry} {S S' : Sketch} {f n : ℕ} → History P es S → Inserted P f n S Done S' → History P (es ++ (by f (pos n) ∷ [])) S'
   stepping : {P : Params} {es : List Entry} {S S' : Sketch} {minus : Bool} {f n : ℕ} → History P es S → Stepped minus P f n S Done S'
       → History P (es ++ (by f (signed minus (pos n)) ∷ [])) S'
+  of-flow-zero : {P : Params} {es : List Entry} {S S' : Sketch} (minus : Bool) (n : ℕ) → History P es S → S' ≡ changed P minus 0 n S
+      → History P (es ++ (by 0 (signed minus (pos n)) ∷ [])) S'
   inserting-all : {P : Params} {es : List Entry} {S S' : Sketch} {fs ns : List ℕ} → History P es S → AllInserted P fs ns S Done S' → History P (es ++ entriesOf fs ns) S'
   withdrawing : {P : Params} {es : List Entry} {S S' : Sketch} {f n : ℕ} → History P es S → Withdrawn P f n S Done S' → History P (es ++ (by f (negℤ (pos n)) ∷ [])) S'
   adding : {P Q : Params} {es gs : List Entry} {S T S' : Sketch} → History P es S → History Q gs T → Combined false P Q S T Done S' → History P (es ++ gs) S'

@@ -1,4 +1,4 @@
--- A rule whose test asks more of a flow is sound where the wider one is, and places flows as it does; so what holds of every walk by a sound rule holds of walks by it.
+-- A rule whose test asks more of a flow is sound where the wider one is; so what holds of every walk by a sound rule holds of walks by it.
 use mathlib.Core.Path.{_≡_, refl, subst}
 use mathlib.Core.Bool.{Bool, true, false, cond}
 use Prim.Native.Nat.{ℕ}
@@ -8,7 +8,6 @@ use Rattle.walk.specs.declared.Found.the-variants.{Impure, Pure}
 use Rattle.walk.specs.Walk.{Rule}
 use Rattle.walk.specs.Purity.{onlyIf}
 use Rattle.walk.proofs.Balance.{Sound}
-use Rattle.walk.proofs.Stuck.{ByArrays}
 
 -- the rule R whose test passes only where what was found passes `ok`
 abbrev pub narrowed : (ℕ → Bool) → Rule → Rule
@@ -51,6 +50,3 @@ sound-narrowed ok R h =
       standing = λ k c s f e. h .standing k c s f (only-if-pure ok (R .test k c s) f e);
       empty = λ k s. rw (h .empty k s);
     }
-
-pub by-arrays-narrowed : (ok : ℕ → Bool) (R : Rule) → ByArrays R → ByArrays (narrowed ok R)
-by-arrays-narrowed ok R h = record { array = h .array }

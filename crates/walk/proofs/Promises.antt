@@ -1,5 +1,5 @@
 -- What every walk over a sketch with parameters P keeps, by the definition of the walk alone: the promises of peeling.
-use mathlib.Core.Path.{_≡_, refl, sym, ap, _∙_}
+use mathlib.Core.Path.{_≡_, refl, sym, ap, subst, _∙_}
 use mathlib.Core.Bool.{Bool, true, false, not, true≢false}
 use mathlib.Core.List.{List, [], _∷_}
 use Prim.Native.Nat.{ℕ, _<_, _≤_}
@@ -134,12 +134,12 @@ module _ (P : Params) (slots allowance : ℕ) (S : Sketch) where
           absurd (stuck-only w e k (flow (primeOf P) c s) l (pure-unless-zero P k c s (flow (primeOf P) c s) passes nonzero))
       go false h = refl
 
-  -- the sketch of flow 0 alone is stuck where a pop per bucket is allowed: each bucket with a count is popped once, nothing is listed, and all of it remains
-  pub flow-zero-stuck : Dimensions P → (n : ℤ) → (n ≡ pos 0 → ⊥) → S ≡ sketchOf P (by 0 n ∷ []) → size P ≤ allowance
+  -- the sketch of flow 0 alone is stuck where a pop of each bucket with a count is allowed: these are made, nothing is listed, and all of it remains
+  pub flow-zero-stuck : Dimensions P → (n : ℤ) → (n ≡ pos 0 → ⊥) → S ≡ sketchOf P (by 0 n ∷ []) → length (firstQueue 0 (S .counts)) ≤ allowance
       → (endingNumber (outcome .ending) ≡ 2) × (outcome .pops ≡ length (firstQueue 0 (S .counts))) × (listed ≡ []) × (outcome .remainder ≡ S)
   unfolding close
   flow-zero-stuck h n nonzero s l =
-      let q = ap (walk (ruleOf P) slots allowance) s ∙ flow-zero-untaken P n h nonzero slots allowance l in
+      let q = ap (walk (ruleOf P) slots allowance) s ∙ flow-zero-untaken P n h nonzero slots allowance (subst (λ (T : Sketch). length (firstQueue 0 (T .counts)) ≤ allowance) s l) in
       (ap (λ o. endingNumber (o .ending)) q, ap (λ o. o .pops) q ∙ ap (λ (T : Sketch). length (firstQueue 0 (T .counts))) (sym s), ap closedTable q, ap (λ o. o .remainder) q ∙ sym s)
 
   -- never more pops than allowed

@@ -26,7 +26,7 @@ use Rattle.walk.specs.Purity.{testIn, wideTest, onlyIf, pureTest, guarde
 use Rattle.buckets.proofs.Zeros.{is-zero, not-zero}
 use Rattle.walk.proofs.Balance.{Sound}
 use Rattle.walk.proofs.Stuck.{ByArrays}
-use Rattle.walk.proofs.Narrowed.{only-if-pure, only-if-passes, only-if-fails, sound-narrowed, by-arrays-narrowed}
+use Rattle.walk.proofs.Narrowed.{only-if-pure, only-if-passes, only-if-fails, sound-narrowed}
 
 -- a count that is no multiple of p has a residue above 0
 some-residue : (p : ℕ) (c : ℤ) → isMultiple p c ≡ false → 0 < residue p c
@@ -43,7 +43,7 @@ abbrev pub scopeTest : ℕ → (ℕ → ℕ → Bool) → ℕ → ℤ → ℕ �
 scopeTest p on k c s = cond (isZero c) Impure (cond (on (flow p c s) k) (Pure (flow p c s)) Impure)
 
 module _ (p : ℕ) (on : ℕ → ℕ → Bool) (k : ℕ) (c : ℤ) (s : ℕ) where
-  pub pure-is : (f : ℕ) → testIn p on k c s ≡ Pure f → (isMultiple p c ≡ false) × (on f k ≡ true) × (flow p c s ≡ f)
+  pure-is : (f : ℕ) → testIn p on k c s ≡ Pure f → (isMultiple p c ≡ false) × (on f k ≡ true) × (flow p c s ≡ f)
   unfolding testIn
   pure-is f e =
       let w = passed (isMultiple p c) (on (flow p c s) k) (flow p c s) f e in
@@ -94,7 +94,7 @@ index-next P i f = let e : suc i - 1 ≡ i = omega arith in ap (λ (n : ℕ). n 
 
 -- so the parameters' rule places flows by its arrays
 pub by-arrays : (P : Params) → ByArrays (ruleOf P)
-by-arrays P = by-arrays-narrowed (isFlow P) (wideRule P) (record { array = λ k f e. let w = index-where-stands P f k e in (w .0, w .1, w .2, sym (w .3)) })
+by-arrays P = record { array = λ k f e. let w = index-where-stands P f k e in (w .0, w .1, w .2, sym (w .3)) }
 
 -- what is pure passes the wide test too
 pub pure-is-wide : (P : Params) (k : ℕ) (c : ℤ) (s f : ℕ) → pureTest P k c s ≡ Pure f → wideTest P k c s ≡ Pure f

@@ -26,16 +26,6 @@ use Rattle.walk.specs.Purity.{pureTest, ruleOf}
 use Rattle.walk.proofs.Alls.{nothing-count}
 use Rattle.walk.proofs.Purity.{zero-not-pure}
 
--- no more buckets are queued at the start than there are
-queue-short : (k : ℕ) (cs : List ℤ) → length (firstQueue k cs) ≤ length cs
-unfolding firstQueue
-queue-short k [] = omega arith
-queue-short k (c ∷ cs) = go (isZero c) (queue-short (suc k) cs)
-  where
-    go : (b : Bool) → length (firstQueue (suc k) cs) ≤ length cs → length (cond b (firstQueue (suc k) cs) (k ∷ firstQueue (suc k) cs)) ≤ suc (length cs)
-    go true h = omega arith
-    go false h = omega arith
-
 -- something remains of S, and no bucket of it passes the test
 module _ (R : Rule) (slots : ℕ) (S : Sketch) (some : nothingRemains S ≡ false) (none : (k : ℕ) → R .test k (countIn S k) (idsumIn S k) ≡ Impure) where
   abbrev at : List ℕ → State
@@ -97,9 +87,7 @@ module _ (P : Params) (n : ℤ) where
       go false e = refl
 
   -- so its walk is stuck, with an empty table, and all of it remains
-  pub flow-zero-untaken : Dimensions P → (n ≡ pos 0 → ⊥) → (slots allowance : ℕ) → size P ≤ allowance
+  pub flow-zero-untaken : Dimensions P → (n ≡ pos 0 → ⊥) → (slots allowance : ℕ) → length (firstQueue 0 (ofFlowZero .counts)) ≤ allowance
       → walk (ruleOf P) slots allowance ofFlowZero ≡ out Stuck (length (firstQueue 0 (ofFlowZero .counts))) (record { held = ofFlowZero; queue = []; table = [] })
-  unfolding sketchOf
   flow-zero-untaken h nonzero slots allowance l =
-      untaken (ruleOf P) slots ofFlowZero (remains h nonzero) (λ k. rw (no-idsum k) (idsum-zero P k (countIn ofFlowZero k))) allowance
-      (omega (arith, queue-short 0 (ofFlowZero .counts), length-from 0 (size P) (countAt P (by 0 n ∷ []))))
+      untaken (ruleOf P) slots ofFlowZero (remains h nonzero) (λ k. rw (no-idsum k) (idsum-zero P k (countIn ofFlowZero k))) allowance l
