@@ -13,6 +13,7 @@ use Rattle.params.specs.declared.answers.Refusal.the-variants.{Form}
 use Rattle.params.specs.declared.answers.Answer.{Answer}
 use Rattle.params.specs.declared.answers.Answer.the-variants.{Done, Refused}
 use Rattle.sketch.specs.Sketch.{Sketch}
+use Rattle.params.proofs.Searches.{cannot-hold}
 use Rattle.params.proofs.Lowest.{least-lowest}
 use Rattle.files.specs.Bytes.{word}
 use Rattle.files.specs.Records.{recordAt, isKind, headKind, packetsKind, endKind, packetsLength}
@@ -46,13 +47,10 @@ none-after-all bs = at (ltb (packetsFrom 0 bs) (length bs)) refl
     at false e = ap (isKind packetsKind) (nothing-stands bs (packetFrom 0 (packetsFrom 0 bs)) (omega (arith, ltb-false (packetsFrom 0 bs) (length bs) e)))
 
 no-packet-left : (bs : List ℕ) → isKind packetsKind (recordAt (drop (packetsLength * packetsFrom 0 bs) bs) 0) ≡ false
-no-packet-left bs = at (isKind packetsKind (recordAt (drop (packetsLength * packetsFrom 0 bs) bs) 0)) refl
-  where
-    at : (b : Bool) → isKind packetsKind (recordAt (drop (packetsLength * packetsFrom 0 bs) bs) 0) ≡ b → b ≡ false
-    at true e =
-        let here : packetFrom 0 (packetsFrom 0 bs) ≡ packetsLength * packetsFrom 0 bs = omega arith in
-        absurd (true≢false (sym (whole-at bs (packetsLength * packetsFrom 0 bs) packetsKind (omega arith) e) ∙ rw here at (none-after-all bs)))
-    at false e = refl
+no-packet-left bs =
+    let here : packetFrom 0 (packetsFrom 0 bs) ≡ packetsLength * packetsFrom 0 bs = omega arith in
+    cannot-hold (isKind packetsKind (recordAt (drop (packetsLength * packetsFrom 0 bs) bs) 0))
+    (λ e. true≢false (sym (whole-at bs (packetsLength * packetsFrom 0 bs) packetsKind (omega arith) e) ∙ rw here at (none-after-all bs)))
 
 -- each stage, by what it leaves due
 packets-settled : (downstream : Bool) (P : Params) (bs : List ℕ) (S : Sketch) (s : State) → isDue downstream (packetsStage downstream P bs S s .stage) ≡ true

@@ -2,12 +2,13 @@
 use mathlib.Core.Path.{_≡_, refl, sym}
 use mathlib.Core.Bool.{Bool, true, false, cond, true≢false}
 use mathlib.Core.List.{List}
-use Prim.Native.Nat.{ℕ, _-_}
+use Prim.Native.Nat.{ℕ}
 use native.Mathlib.Omega.{arith}
 use borrow.Author.Tests.{eq-eqb, lt-leb}
 use lib.Dec.{leb}
 use lib.ListN.{length, getD}
 use Rattle.params.specs.declared.params.Params.{Params}
+use Rattle.params.proofs.Searches.{same-either}
 use Rattle.files.specs.Records.{recordAt, isKind, headKind, packetsKind}
 use Rattle.desk.proofs.Whole.{whole-record}
 use Rattle.desk.specs.declared.states.Stage.{Stage}
@@ -21,10 +22,6 @@ use Rattle.desk.proofs.OneRecord.{Moment, into, oneAt, waitsAt}
 use Rattle.desk.proofs.Reaching.{Reaches, stays, by-one, rest-none}
 
 -- a stage that finds nothing, or is not due, leaves the state
-same-either : {A : Type 0} (b : Bool) (x : A) → cond b x x ≡ x
-same-either true x = refl
-same-either false x = refl
-
 end-waits : (bs : List ℕ) (s : State) → notYet (dueEnd bs) ≡ true → endStage bs s ≡ s
 unfolding endStage
 end-waits bs s = at (dueEnd bs)

@@ -1,4 +1,4 @@
--- Laws of the computed tests: `&&`, `below`, and `least`.
+-- Laws of the computed tests: that they hold or fail, what is chosen by them, `&&`, `below`, and `least`.
 use mathlib.Core.Path.{_≡_, refl, sym, ap, _∙_}
 use mathlib.Core.Bool.{Bool, true, false, not, cond, _&&_}
 use Prim.Native.Nat.{ℕ, zero, suc, _+_, _-_, _≤_, _<_}
@@ -8,6 +8,16 @@ use native.Mathlib.Omega.{arith}
 use borrow.Author.Tests.{ltb-false, not-true, not-false}
 use lib.Dec.{ltb}
 use Rattle.params.specs.Lists.{below, least}
+
+-- a test that cannot hold fails
+pub cannot-hold : (t : Bool) → (t ≡ true → ⊥) → t ≡ false
+cannot-hold true h = absurd (h refl)
+cannot-hold false h = refl
+
+-- the same either way
+pub same-either : {A : Type 0} (t : Bool) (x : A) → cond t x x ≡ x
+same-either true x = refl
+same-either false x = refl
 
 pub and-true : (s t : Bool) → (s && t) ≡ true → (s ≡ true) × (t ≡ true)
 and-true true t e = (refl, e)

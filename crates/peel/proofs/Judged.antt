@@ -1,5 +1,5 @@
 -- Laws of what peeling judges: the stages of its answer, and what holds where nothing is refused.
-use mathlib.Core.Path.{_≡_, refl, sym, _∙_}
+use mathlib.Core.Path.{_≡_, sym, _∙_}
 use mathlib.Core.Bool.{Bool, true, false, not, cond, _&&_}
 use mathlib.Core.List.{List}
 use Prim.Native.Nat.{ℕ, _*_, _≤_, _<_}
@@ -19,7 +19,7 @@ use Rattle.buckets.specs.Buckets.{inLimits}
 use Rattle.sketch.specs.Sketch.{Sketch, sketch, damagedAt}
 use Rattle.params.proofs.Judging.{Refuses, first-refused, first-passed, first-done, refuse-done, refuse-at-done, refuse-found, refuse-past}
 use Rattle.params.proofs.Rules.{lent-done}
-use Rattle.params.proofs.Searches.{and-true}
+use Rattle.params.proofs.Searches.{cannot-hold, and-true}
 use Rattle.walk.proofs.Promises.{Whole}
 use Rattle.peel.specs.Slices.{Slices, lentSketch}
 use Rattle.peel.specs.Rep.{Peelable}
@@ -52,11 +52,7 @@ module _ (P : Params) (flows numbers queue marks : ℕ) where
   is-lent l = rw (eq-eqb queue (size P) (l .queue-long), eq-eqb marks (size P) (l .marks-long), eq-eqb flows numbers (l .same)) (le-leb flows 65536 (l .few))
 
   not-lent : (Lent P flows numbers queue marks → ⊥) → lent ≡ false
-  not-lent h = go lent refl
-    where
-      go : (b : Bool) → lent ≡ b → b ≡ false
-      go true e = absurd (h (lent-is e))
-      go false e = refl
+  not-lent h = cannot-hold lent (λ e. h (lent-is e))
 
   -- the stages of the lengths: the parameters and the sketch's lengths, then all that is lent beside it
   module _ (counts idsums : ℕ) where

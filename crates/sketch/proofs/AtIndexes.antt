@@ -1,6 +1,6 @@
 -- Packets by indexes: a call that was not refused changes the flow's buckets, whose indexes `index` gives for the arrays from 1 to d, and no other.
-use mathlib.Core.Path.{_≡_, refl, sym, _∙_}
-use mathlib.Core.Bool.{Bool, true, false}
+use mathlib.Core.Path.{_≡_, sym, _∙_}
+use mathlib.Core.Bool.{Bool, false}
 use Prim.Native.Nat.{ℕ, _≤_, _<_}
 use native.Mathlib.Omega.{arith}
 use lib.IntN.{pos}
@@ -14,6 +14,7 @@ use Rattle.params.specs.Positions.{index, stands}
 use Rattle.buckets.specs.Buckets.{plusMinus, weight}
 use Rattle.sketch.specs.Sketch.{Sketch, countIn, idsumIn, changedIn}
 use Rattle.sketch.specs.Packets.{changed, Moved}
+use Rattle.params.proofs.Searches.{cannot-hold}
 use Rattle.params.proofs.Changes.{getD-touched, untouched}
 use Rattle.params.proofs.Indexes.{index-below, stands-at-index, index-where-stands}
 use Rattle.sketch.proofs.Steps.{Let, move-done, step-done}
@@ -47,11 +48,7 @@ module _ {minus : Bool} {P : Params} {f n : ℕ} {S S' : Sketch} (h : Moved minu
 
   module _ (k : ℕ) (bucket : k < size P) (other : (i : ℕ) → 1 ≤ i → i ≤ P .d → k ≡ index P i f → ⊥) where
     not-there : stands P f k ≡ false
-    not-there = go (stands P f k) refl
-      where
-        go : (b : Bool) → stands P f k ≡ b → b ≡ false
-        go true e = let w = index-where-stands P f k e in absurd (other (w .0) (w .1) (w .2) (w .3))
-        go false e = refl
+    not-there = cannot-hold (stands P f k) (λ e. let w = index-where-stands P f k e in other (w .0) (w .1) (w .2) (w .3))
 
     pub count-elsewhere : countIn S' k ≡ countIn S k
     unfolding changed changedIn

@@ -1,6 +1,6 @@
 -- What every walk over a sketch with parameters P keeps, by the definition of the walk alone: the promises of peeling.
-use mathlib.Core.Path.{_≡_, refl, sym, ap, subst, _∙_}
-use mathlib.Core.Bool.{Bool, true, false, not, true≢false}
+use mathlib.Core.Path.{_≡_, sym, ap, subst, _∙_}
+use mathlib.Core.Bool.{true, false, not, true≢false}
 use mathlib.Core.List.{List, [], _∷_}
 use Prim.Native.Nat.{ℕ, _<_, _≤_}
 use native.Mathlib.Decide.{decLt}
@@ -16,6 +16,7 @@ use Rattle.params.specs.Positions.{stands}
 use Rattle.buckets.specs.Buckets.{inLimits}
 use Rattle.sketch.specs.Sketch.{Sketch, countIn, idsumIn, damagedAt, Entry, by, sketchOf}
 use Rattle.sums.specs.Sums.{combined}
+use Rattle.params.proofs.Searches.{cannot-hold}
 use Rattle.params.proofs.Rules.{flow-above}
 use Rattle.buckets.proofs.Idsums.{prime-pos}
 use Rattle.buckets.proofs.Limits.{whole, whole-back}
@@ -119,7 +120,7 @@ module _ (P : Params) (slots allowance : ℕ) (S : Sketch) where
   -- so where a count remains, the one number of its bucket is 0 or does not stand there
   pub stuck-stands : Whole P S → endingNumber (outcome .ending) ≡ 2 → (k : ℕ) → k < size P → (countIn (outcome .remainder) k ≡ pos 0 → ⊥)
       → let f = flow (primeOf P) (countIn (outcome .remainder) k) (idsumIn (outcome .remainder) k) in (f ≡ 0 → ⊥) → stands P f k ≡ false
-  stuck-stands w e k l d nonzero = go _ refl
+  stuck-stands w e k l d nonzero = cannot-hold _ never
     where
       c : ℤ
       c = countIn (outcome .remainder) k
@@ -127,12 +128,11 @@ module _ (P : Params) (slots allowance : ℕ) (S : Sketch) where
       s : ℕ
       s = idsumIn (outcome .remainder) k
 
-      go : (b : Bool) → stands P (flow (primeOf P) c s) k ≡ b → b ≡ false
-      go true h =
+      never : stands P (flow (primeOf P) c s) k ≡ true → ⊥
+      never h =
           let i = whole c s (remainder-whole w .undamaged k l) .0 in
           let passes : wideTest P k c s ≡ Pure (flow (primeOf P) c s) = test-within (primeOf P) (stands P) k c s (omega arith) i ∙ rw (not-zero c d, h) in
-          absurd (stuck-only w e k (flow (primeOf P) c s) l (pure-unless-zero P k c s (flow (primeOf P) c s) passes nonzero))
-      go false h = refl
+          stuck-only w e k (flow (primeOf P) c s) l (pure-unless-zero P k c s (flow (primeOf P) c s) passes nonzero)
 
   -- the sketch of flow 0 alone is stuck where a pop of each bucket with a count is allowed: these are made, nothing is listed, and all of it remains
   pub flow-zero-stuck : Dimensions P → (n : ℤ) → (n ≡ pos 0 → ⊥) → S ≡ sketchOf P (by 0 n ∷ []) → length (firstQueue 0 (S .counts)) ≤ allowance

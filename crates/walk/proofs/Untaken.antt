@@ -15,8 +15,8 @@ use Rattle.params.specs.declared.params.Params.{Params}
 use Rattle.params.specs.Lists.{from}
 use Rattle.params.specs.Params.{primeOf, size, Dimensions}
 use Rattle.params.specs.Positions.{index, stands}
+use Rattle.params.proofs.Searches.{cannot-hold}
 use Rattle.params.proofs.Indexes.{index-below, stands-at-index}
-use Rattle.buckets.specs.Buckets.{isZero}
 use Rattle.sketch.specs.Sketch.{Sketch, by, countIn, idsumIn, countAt, weightAt, sketchOf}
 use Rattle.sketch.proofs.Tables.{length-from, from-at}
 use Rattle.walk.specs.declared.Ending.the-variants.{Stuck}
@@ -80,11 +80,7 @@ module _ (P : Params) (n : ℤ) where
       ∙ rw (stands-at-index P 0 1 h (omega arith) (omega arith)) (+ℤ-idr n)
 
   remains : Dimensions P → (n ≡ pos 0 → ⊥) → nothingRemains ofFlowZero ≡ false
-  remains h nonzero = go (nothingRemains ofFlowZero) refl
-    where
-      go : (b : Bool) → nothingRemains ofFlowZero ≡ b → b ≡ false
-      go true e = absurd (nonzero (sym (first-count h) ∙ nothing-count ofFlowZero e (index P 1 0)))
-      go false e = refl
+  remains h nonzero = cannot-hold (nothingRemains ofFlowZero) (λ e. nonzero (sym (first-count h) ∙ nothing-count ofFlowZero e (index P 1 0)))
 
   -- so its walk is stuck, with an empty table, and all of it remains
   pub flow-zero-untaken : Dimensions P → (n ≡ pos 0 → ⊥) → (slots allowance : ℕ) → length (firstQueue 0 (ofFlowZero .counts)) ≤ allowance

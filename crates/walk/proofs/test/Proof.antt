@@ -4,23 +4,18 @@ use mathlib.Core.Bool.{Bool, true, false, cond, _&&_, true≢false}
 use Prim.Native.Nat.{ℕ}
 use mir.Facts.{toZ-ofZ}
 use borrow.Author.Needs.{needs}
-use borrow.Author.Tests.{eq-eqb, ne-eqb, not-true, not-false}
+use borrow.Author.Tests.{eq-eqb, ne-eqb}
 use Rattle.field.specs.Residue.{residue}
 use Rattle.field.specs.Flow.{flow}
 use Rattle.params.specs.declared.params.Params.{Params}
 use Rattle.params.specs.Params.{prime, isFlow, goodDimensions}
 use Rattle.params.specs.Positions.{stands}
-use Rattle.params.proofs.Searches.{and-true}
+use Rattle.params.proofs.Searches.{same-either, and-true, test-held, test-failed}
 use Rattle.walk.specs.declared.Found.the-variants.{Impure, Pure}
 use Rattle.walk.specs.Purity.{testIn, onlyIf, guardedTest}
 use Rattle.walk.proofs.Narrowed.{only-if-fails}
 use Rattle.walk.proofs.test.Statement.{statement}
 use Rattle.walk.proofs.test.Tie as tie
-
--- where nothing is pure, the dimensions do not matter
-impure : (good : Bool) → cond good Impure Impure ≡ Impure
-impure true = refl
-impure false = refl
 
 -- the dimensions break a rule, or the number does not stand there
 not-both : (ok : ℕ → Bool) (good there : Bool) (g : ℕ) → (good && there) ≡ false → cond good (onlyIf ok (cond there (Pure g) Impure)) Impure ≡ Impure
@@ -40,7 +35,7 @@ raise-requires c κs = search needs
 
 returns : tie.Need-returns
 unfolding testIn
-returns c = rw (eq-eqb _ 0 (sym (residue-is (c .before)) ∙ c .if1 .taken)) (sym (impure (goodDimensions (c .before .before .args .p))))
+returns c = rw (eq-eqb _ 0 (sym (residue-is (c .before)) ∙ c .if1 .taken)) (sym (same-either (goodDimensions (c .before .before .args .p)) Impure))
 
 flow-requires : tie.Need-flow-requires
 flow-requires c κs = search needs
@@ -67,7 +62,7 @@ by-flow c = rw (ne-eqb _ 0 (λ e. c .before .before .if1 .left (residue-is (c .b
 returns-2 : tie.Need-returns-2
 returns-2 c =
     let n = c .before in
-    sym (by-flow n ∙ ap (λ w. cond (goodDimensions (P n)) w Impure) (only-if-fails (isFlow (P n)) (there n) (f n) (sym (n .is-flow .ensures) ∙ not-true _ (c .if2 .taken))) ∙ impure (goodDimensions (P n)))
+    sym (by-flow n ∙ ap (λ w. cond (goodDimensions (P n)) w Impure) (only-if-fails (isFlow (P n)) (there n) (f n) (test-failed (n .is-flow .ensures) (c .if2 .taken))) ∙ same-either (goodDimensions (P n)) Impure)
 
 stands-requires : tie.Need-stands-requires
 stands-requires c κs = search needs
@@ -75,7 +70,7 @@ stands-requires c κs = search needs
 returns-3 : tie.Need-returns-3
 returns-3 c =
     let n = c .before .before .before in
-    let flows : isFlow (P n) (f n) ≡ true = sym (n .is-flow .ensures) ∙ not-false _ (c .before .before .if2 .left) in
+    let flows : isFlow (P n) (f n) ≡ true = test-held (n .is-flow .ensures) (c .before .before .if2 .left) in
     let stood = and-true (goodDimensions (P n)) (there n) (sym (c .before .stands .ensures) ∙ c .if3 .taken) in
     sym (by-flow n ∙ rw (stood .0, stood .1, flows))
 
