@@ -50,7 +50,8 @@ struct room {
 struct figures {
     enum ending ending;
     uint32_t entries;
-    int64_t net;
+    uint64_t lost;
+    uint64_t extra;
     uint32_t pops;
 };
 

@@ -148,21 +148,27 @@ static enum ending run(struct walk *walk, struct sketch *sketch, struct table *t
     }
 }
 
-// Drops the entries that have become 0, and zeros the slots past the others.
-static uint32_t close(struct table *table, uint32_t entries, int64_t *net) {
+// Drops the entries that have become 0, sums up the others, and zeros the slots past them.
+static void close(struct table *table, uint32_t entries, struct figures *figures) {
     uint32_t kept = 0;
-    *net = 0;
+    uint64_t lost = 0, extra = 0;
     for (uint32_t slot = 0; slot < entries; slot++) {
-        if (table->counts[slot] == 0)
+        int64_t count = table->counts[slot];
+        if (count == 0)
             continue;
-        *net += table->counts[slot];
+        if (count < 0)
+            extra += (uint64_t)-count;
+        else
+            lost += (uint64_t)count;
         table->flows[kept] = table->flows[slot];
         table->counts[kept] = table->counts[slot];
         kept++;
     }
     memset(table->flows + kept, 0, sizeof *table->flows * (table->slots - kept));
     memset(table->counts + kept, 0, sizeof *table->counts * (table->slots - kept));
-    return kept;
+    figures->entries = kept;
+    figures->lost = lost;
+    figures->extra = extra;
 }
 
 struct figures baseline_peel(struct sketch *sketch, struct table *table, struct room *room, uint32_t allowance) {
@@ -170,6 +176,6 @@ struct figures baseline_peel(struct sketch *sketch, struct table *table, struct 
     struct figures figures;
     figures.ending = run(&walk, sketch, table, room, allowance);
     figures.pops = walk.pops;
-    figures.entries = close(table, walk.entries, &figures.net);
+    close(table, walk.entries, &figures);
     return figures;
 }

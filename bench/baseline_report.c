@@ -101,7 +101,7 @@ static void print_walk(const struct sketch *sketch, const struct table *table, s
     for (uint32_t k = 0; k < size_of(&sketch->params); k++)
         if (sketch->counts[k] != 0 || sketch->idsums[k] != 0)
             printf("left %u %d %u\n", k, sketch->counts[k], sketch->idsums[k]);
-    printf("end %s pops %u net %ld\n", word_of(figures.ending), figures.pops, figures.net);
+    printf("end %s pops %u lost %lu extra %lu\n", word_of(figures.ending), figures.pops, figures.lost, figures.extra);
 }
 
 static void peel_and_print(struct sketch *sketch) {

@@ -105,7 +105,8 @@ static int have_equal_results(void) {
            memcmp(x->table_flows, y->table_flows, sizeof x->table_flows) == 0 &&
            memcmp(x->table_counts, y->table_counts, sizeof x->table_counts) == 0 &&
            x->figures.ending == y->figures.ending && x->figures.entries == y->figures.entries &&
-           x->figures.net == y->figures.net && x->figures.pops == y->figures.pops;
+           x->figures.lost == y->figures.lost && x->figures.extra == y->figures.extra &&
+           x->figures.pops == y->figures.pops;
 }
 
 static double now(void) {

@@ -89,10 +89,16 @@ static void baseline_subtract_other(const struct given *given, struct side *side
 static void our_peel(const struct given *given, struct side *side) {
     struct words w = words_of(&given->params);
     size_t n = size_of(&given->params);
-    int64_t told[4];
+    uint64_t told[GABUNLITIK_FIGURES];
     side->answer = gabunlitik_peel(w.words, side->counts, n, side->idsums, n, side->table_flows, n, side->table_counts, n,
                                    queue, n, marks, n, 8 * (uint32_t)n, told, &side->place);
-    side->figures = (struct figures){(enum ending)told[0], (uint32_t)told[1], told[2], (uint32_t)told[3]};
+    side->figures = (struct figures){
+        .ending = (enum ending)told[GABUNLITIK_ENDING],
+        .entries = (uint32_t)told[GABUNLITIK_ENTRIES],
+        .lost = told[GABUNLITIK_LOST],
+        .extra = told[GABUNLITIK_EXTRA],
+        .pops = (uint32_t)told[GABUNLITIK_POPS],
+    };
 }
 
 // The cells are the fewest that are at least twice the slots, so that clearing them costs no more than it must.

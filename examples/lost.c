@@ -2,7 +2,7 @@
  *
  *     loss 12 2
  *     loss 7 1
- *     ending 1, 3 pops, 3 packets lost
+ *     ending 1, 3 pops, 3 packets lost, 0 extra
  */
 #include <stdio.h>
 
@@ -48,14 +48,15 @@ int main(void) {
 
     uint32_t flows[SLOTS] = {0}, queue[BUCKETS] = {0}, marks[BUCKETS] = {0};
     int32_t counts[SLOTS] = {0};
-    int64_t figures[GABUNLITIK_FIGURES];
+    uint64_t figures[GABUNLITIK_FIGURES];
     refusal = gabunlitik_peel(params, upstream.counts, BUCKETS, upstream.idsums, BUCKETS, flows, SLOTS, counts, SLOTS,
                            queue, BUCKETS, marks, BUCKETS, 8 * BUCKETS, figures, &place);
     if (refused("peel", refusal, place))
         return 1;
-    for (int64_t i = 0; i < figures[GABUNLITIK_ENTRIES]; i++)
+    for (uint64_t i = 0; i < figures[GABUNLITIK_ENTRIES]; i++)
         printf("loss %u %d\n", flows[i], counts[i]);
-    printf("ending %lld, %lld pops, %lld packets lost\n", (long long)figures[GABUNLITIK_ENDING],
-           (long long)figures[GABUNLITIK_POPS], (long long)figures[GABUNLITIK_NET]);
+    printf("ending %llu, %llu pops, %llu packets lost, %llu extra\n", (unsigned long long)figures[GABUNLITIK_ENDING],
+           (unsigned long long)figures[GABUNLITIK_POPS], (unsigned long long)figures[GABUNLITIK_LOST],
+           (unsigned long long)figures[GABUNLITIK_EXTRA]);
     return 0;
 }

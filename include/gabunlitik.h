@@ -58,13 +58,15 @@ enum {
     GABUNLITIK_OFFSETS = 6
 };
 
-/* What a walk returns in `figures`: its ending, how many entries the table has, the sum of their counts, and the pops made. */
+/* What a walk returns in `figures`: its ending, how many entries the table has, the packets lost, which is the sum of its positive
+ * counts, the extra packets, which is the sum of the negative ones without their sign, and the pops made. */
 enum {
-    GABUNLITIK_FIGURES = 4,
+    GABUNLITIK_FIGURES = 5,
     GABUNLITIK_ENDING = 0,
     GABUNLITIK_ENTRIES = 1,
-    GABUNLITIK_NET = 2,
-    GABUNLITIK_POPS = 3
+    GABUNLITIK_LOST = 2,
+    GABUNLITIK_EXTRA = 3,
+    GABUNLITIK_POPS = 4
 };
 
 /* How a walk ends. 4 is no ending, and is not given again. */
@@ -136,7 +138,7 @@ uint32_t gabunlitik_peel(const uint32_t params[GABUNLITIK_PARAMS],
                          uint32_t *queue, size_t queue_len,
                          uint32_t *marks, size_t marks_len,
                          uint32_t allowance,
-                         int64_t figures[GABUNLITIK_FIGURES],
+                         uint64_t figures[GABUNLITIK_FIGURES],
                          size_t *place);
 
 /* Writes where `flow` stands in `array`, which counts from 1: its position there, 0 to m - 1. It is 0 where the call is refused. An

@@ -3,7 +3,7 @@
 
 enum { ARRAYS = 4, WIDTH = 11, SIZE = ARRAYS * WIDTH, HEAD = 38, EMPTY = HEAD + 5 };
 
-static const int64_t P = 2147483647;
+static const uint64_t P = 2147483647;
 static const uint32_t multipliers[ARRAYS] = {1, 1073741824, 2147483645, 123456789};
 static const uint32_t offsets[ARRAYS] = {3, 2147483645, 1000000007, 987654321};
 static const uint32_t FIRST = 1999999999, SECOND = 12;
@@ -24,7 +24,7 @@ static void set(uint32_t params[GABUNLITIK_PARAMS]) {
 
 /* Where a flow stands in an array; here arrays count from 0. */
 static size_t position(size_t array, uint32_t flow) {
-    return (size_t)(((int64_t)multipliers[array] * flow + offsets[array]) % P % WIDTH);
+    return (size_t)(((uint64_t)multipliers[array] * flow + offsets[array]) % P % WIDTH);
 }
 
 /* Puts an entry into the sketch that is expected. */
@@ -52,7 +52,7 @@ static struct returned insert_four(const uint32_t *params, struct slices *s, uin
 static void lost_and_doubled(void) {
     uint32_t params[GABUNLITIK_PARAMS], flows[2], queue[SIZE], marks[SIZE];
     int32_t counts[2];
-    int64_t figures[GABUNLITIK_FIGURES];
+    uint64_t figures[GABUNLITIK_FIGURES];
     struct slices s = nothing(), other = nothing(), expected = nothing(), zeros = nothing();
     struct returned t = nothing_yet();
     set(params);
@@ -84,7 +84,7 @@ static void lost_and_doubled(void) {
                                100, figures, &t.place);
     CHECK_DONE(t);
     CHECK(figures[GABUNLITIK_ENDING] == GABUNLITIK_ENDED_CLEAN && figures[GABUNLITIK_ENTRIES] == 2);
-    CHECK(figures[GABUNLITIK_NET] == -1 && figures[GABUNLITIK_POPS] == 2);
+    CHECK(figures[GABUNLITIK_LOST] == 3 && figures[GABUNLITIK_EXTRA] == 4 && figures[GABUNLITIK_POPS] == 2);
     CHECK(flows[first] == FIRST && counts[first] == 3 && flows[second] == SECOND && counts[second] == -4);
     CHECK(memcmp(&s, &zeros, sizeof s) == 0);
 }

@@ -59,7 +59,7 @@ static void lists(void) {
     CHECK(listed());
 }
 
-static struct returned peel(struct sketch *s, size_t flows_len, size_t counts_len, int64_t figures[GABUNLITIK_FIGURES]) {
+static struct returned peel(struct sketch *s, size_t flows_len, size_t counts_len, uint64_t figures[GABUNLITIK_FIGURES]) {
     struct returned t = nothing_yet();
     memset(&walk, 0xa5, sizeof walk);
     memset(figures, 0xa5, GABUNLITIK_FIGURES * sizeof figures[0]);
@@ -71,7 +71,7 @@ static struct returned peel(struct sketch *s, size_t flows_len, size_t counts_le
 static void tables(void) {
     const size_t refused[][2] = {{OVER, OVER}, {MOST, MOST - 1}, {OVER, MOST}, {MOST, OVER}};
     struct sketch s = e1(), kept = s;
-    int64_t figures[GABUNLITIK_FIGURES];
+    uint64_t figures[GABUNLITIK_FIGURES];
     for (size_t i = 0; i < sizeof refused / sizeof refused[0]; i++) {
         CHECK_REFUSED(peel(&s, refused[i][0], refused[i][1], figures), GABUNLITIK_LENGTH, 0, &s, &kept);
         CHECK(all_are(0, figures, sizeof figures) && all_are(0xa5, &walk, sizeof walk));

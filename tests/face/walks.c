@@ -9,7 +9,7 @@ struct walk {
     int32_t counts[MOST_SLOTS];
     uint32_t queue[BUCKETS];
     uint32_t marks[BUCKETS];
-    int64_t figures[GABUNLITIK_FIGURES];
+    uint64_t figures[GABUNLITIK_FIGURES];
 };
 
 /* Full of what has no effect on a walk. */
@@ -26,9 +26,11 @@ static struct returned peel(struct sketch *s, struct walk *w, size_t slots, uint
     return t;
 }
 
-static int figures_are(const struct walk *w, int64_t ending, int64_t entries, int64_t net, int64_t pops) {
+static int figures_are(const struct walk *w, uint64_t ending, uint64_t entries, uint64_t lost, uint64_t extra,
+                       uint64_t pops) {
     return w->figures[GABUNLITIK_ENDING] == ending && w->figures[GABUNLITIK_ENTRIES] == entries &&
-           w->figures[GABUNLITIK_NET] == net && w->figures[GABUNLITIK_POPS] == pops;
+           w->figures[GABUNLITIK_LOST] == lost && w->figures[GABUNLITIK_EXTRA] == extra &&
+           w->figures[GABUNLITIK_POPS] == pops;
 }
 
 /* The slots past the entries, the queue and the marks are 0. */
@@ -45,20 +47,46 @@ static void clean(void) {
     struct sketch s = e1();
     struct walk w = unwalked();
     CHECK_DONE(peel(&s, &w, MOST_SLOTS, 80)); /* E2 */
-    CHECK(figures_are(&w, GABUNLITIK_ENDED_CLEAN, 2, 3, 3));
+    CHECK(figures_are(&w, GABUNLITIK_ENDED_CLEAN, 2, 3, 0, 3));
     CHECK(w.flows[0] == 12 && w.counts[0] == 2 && w.flows[1] == 7 && w.counts[1] == 1);
     CHECK(cleared(&w));
     CHECK(used(&s) == 0);
     s = e6();
     w = unwalked();
     CHECK_DONE(peel(&s, &w, MOST_SLOTS, 80)); /* E6 */
-    CHECK(figures_are(&w, GABUNLITIK_ENDED_CLEAN, 1, -4, 1));
+    CHECK(figures_are(&w, GABUNLITIK_ENDED_CLEAN, 1, 0, 4, 1));
     CHECK(w.flows[0] == 7 && w.counts[0] == -4);
     CHECK(cleared(&w));
     CHECK(used(&s) == 0);
     s = fresh_sketch();
     CHECK_DONE(peel(&s, &w, MOST_SLOTS, 0)); /* E9 */
-    CHECK(figures_are(&w, GABUNLITIK_ENDED_CLEAN, 0, 0, 0));
+    CHECK(figures_are(&w, GABUNLITIK_ENDED_CLEAN, 0, 0, 0, 0));
+    CHECK(cleared(&w));
+}
+
+/* What some flows lost is not hidden by what others gained. The flows share no bucket in array 1. */
+static void lost_beside_extra(void) {
+    struct sketch s = fresh_sketch();
+    struct walk w = unwalked();
+    CHECK_DONE(insert(&s, 7, 5));
+    CHECK_DONE(withdraw(&s, 20, 5));
+    CHECK_DONE(peel(&s, &w, MOST_SLOTS, 80));
+    CHECK(figures_are(&w, GABUNLITIK_ENDED_CLEAN, 2, 5, 5, 2));
+    CHECK(w.flows[0] == 20 && w.counts[0] == -5 && w.flows[1] == 7 && w.counts[1] == 5);
+    CHECK(used(&s) == 0);
+    w = unwalked();
+    CHECK_DONE(insert(&s, 7, 2147483646)); /* sums above 32 bits */
+    CHECK_DONE(insert(&s, 11, 2147483645));
+    CHECK_DONE(withdraw(&s, 20, 2147483646));
+    CHECK_DONE(withdraw(&s, 4, 2147483644));
+    CHECK_DONE(peel(&s, &w, MOST_SLOTS, 80));
+    CHECK(figures_are(&w, GABUNLITIK_ENDED_CLEAN, 4, 4294967291, 4294967290, 4));
+    CHECK(used(&s) == 0);
+    w = unwalked();
+    CHECK_DONE(insert(&s, 7, 5));
+    CHECK_DONE(withdraw(&s, 20, 5));
+    CHECK_DONE(peel(&s, &w, MOST_SLOTS, 1)); /* of what is listed alone: flow 7 is still to come */
+    CHECK(figures_are(&w, GABUNLITIK_ENDED_SPENT, 1, 0, 5, 1));
     CHECK(cleared(&w));
 }
 
@@ -66,11 +94,11 @@ static void spent(void) {
     struct sketch s = e3(), kept = s;
     struct walk w = unwalked();
     CHECK_DONE(peel(&s, &w, MOST_SLOTS, 9)); /* E4 */
-    CHECK(figures_are(&w, GABUNLITIK_ENDED_SPENT, 0, 0, 9));
+    CHECK(figures_are(&w, GABUNLITIK_ENDED_SPENT, 0, 0, 0, 9));
     CHECK(cleared(&w));
     CHECK(same(&s, &kept));
     CHECK_DONE(peel(&s, &w, MOST_SLOTS, 10)); /* E3 */
-    CHECK(figures_are(&w, GABUNLITIK_ENDED_SPENT, 1, 2, 10));
+    CHECK(figures_are(&w, GABUNLITIK_ENDED_SPENT, 1, 2, 0, 10));
     CHECK(w.flows[0] == 7 && w.counts[0] == 2);
     CHECK(cleared(&w));
     CHECK(used(&s) == 2);
@@ -78,7 +106,7 @@ static void spent(void) {
     CHECK(bucket_is(&s, 7, -2, 2147483633));
     s = kept = e1();
     CHECK_DONE(peel(&s, &w, MOST_SLOTS, 0)); /* E9 */
-    CHECK(figures_are(&w, GABUNLITIK_ENDED_SPENT, 0, 0, 0));
+    CHECK(figures_are(&w, GABUNLITIK_ENDED_SPENT, 0, 0, 0, 0));
     CHECK(same(&s, &kept));
 }
 
@@ -86,16 +114,16 @@ static void stuck_and_full(void) {
     struct sketch s = e5(), kept = s;
     struct walk w = unwalked();
     CHECK_DONE(peel(&s, &w, MOST_SLOTS, 80)); /* E5 */
-    CHECK(figures_are(&w, GABUNLITIK_ENDED_STUCK, 0, 0, 0));
+    CHECK(figures_are(&w, GABUNLITIK_ENDED_STUCK, 0, 0, 0, 0));
     CHECK(cleared(&w));
     CHECK(same(&s, &kept));
     w = unwalked();
     CHECK_DONE(peel(&s, &w, MOST_SLOTS, 0)); /* stuck comes before spent */
-    CHECK(figures_are(&w, GABUNLITIK_ENDED_STUCK, 0, 0, 0));
+    CHECK(figures_are(&w, GABUNLITIK_ENDED_STUCK, 0, 0, 0, 0));
     CHECK(same(&s, &kept));
     s = kept = e1();
     CHECK_DONE(peel(&s, &w, 0, 80)); /* E10 */
-    CHECK(figures_are(&w, GABUNLITIK_ENDED_FULL, 0, 0, 2));
+    CHECK(figures_are(&w, GABUNLITIK_ENDED_FULL, 0, 0, 0, 2));
     CHECK(cleared(&w));
     CHECK(same(&s, &kept));
 }
@@ -105,21 +133,21 @@ static void flow_0(void) {
     struct sketch s = of_flow_0(), kept = s, other = e1();
     struct walk w = unwalked();
     CHECK_DONE(peel(&s, &w, MOST_SLOTS, 80));
-    CHECK(figures_are(&w, GABUNLITIK_ENDED_STUCK, 0, 0, 2));
+    CHECK(figures_are(&w, GABUNLITIK_ENDED_STUCK, 0, 0, 0, 2));
     CHECK(cleared(&w));
     CHECK(same(&s, &kept));
     w = unwalked();
     CHECK_DONE(peel(&s, &w, 0, 80)); /* nothing is taken, so that no slot is needed */
-    CHECK(figures_are(&w, GABUNLITIK_ENDED_STUCK, 0, 0, 2));
+    CHECK(figures_are(&w, GABUNLITIK_ENDED_STUCK, 0, 0, 0, 2));
     CHECK(same(&s, &kept));
     w = unwalked();
     CHECK_DONE(peel(&s, &w, MOST_SLOTS, 1)); /* a bucket that is not pure is a pop */
-    CHECK(figures_are(&w, GABUNLITIK_ENDED_SPENT, 0, 0, 1));
+    CHECK(figures_are(&w, GABUNLITIK_ENDED_SPENT, 0, 0, 0, 1));
     CHECK(same(&s, &kept));
     CHECK_DONE(add(&s, &other));
     w = unwalked();
     CHECK_DONE(peel(&s, &w, MOST_SLOTS, 80));
-    CHECK(figures_are(&w, GABUNLITIK_ENDED_STUCK, 2, 3, 6));
+    CHECK(figures_are(&w, GABUNLITIK_ENDED_STUCK, 2, 3, 0, 6));
     CHECK(w.flows[0] == 12 && w.counts[0] == 2 && w.flows[1] == 7 && w.counts[1] == 1);
     CHECK(cleared(&w));
     CHECK(same(&s, &kept));
@@ -128,17 +156,17 @@ static void flow_0(void) {
     s = kept = other;
     w = unwalked();
     CHECK_DONE(peel(&s, &w, MOST_SLOTS, 80));
-    CHECK(figures_are(&w, GABUNLITIK_ENDED_STUCK, 0, 0, 2));
+    CHECK(figures_are(&w, GABUNLITIK_ENDED_STUCK, 0, 0, 0, 2));
     CHECK(same(&s, &kept));
     other = of_flow_0();
     CHECK_DONE(add(&s, &other)); /* as much on both sides */
     CHECK_DONE(peel(&s, &w, MOST_SLOTS, 0));
-    CHECK(figures_are(&w, GABUNLITIK_ENDED_CLEAN, 0, 0, 0));
+    CHECK(figures_are(&w, GABUNLITIK_ENDED_CLEAN, 0, 0, 0, 0));
     s = of_flow_0();
     CHECK_DONE(insert(&s, 20, 3)); /* which stands beside flow 0 in both arrays: the two pass as flow 10 */
     w = unwalked();
     CHECK_DONE(peel(&s, &w, MOST_SLOTS, 80));
-    CHECK(figures_are(&w, GABUNLITIK_ENDED_CLEAN, 1, 6, 1));
+    CHECK(figures_are(&w, GABUNLITIK_ENDED_CLEAN, 1, 6, 0, 1));
     CHECK(w.flows[0] == 10 && w.counts[0] == 6);
     CHECK(used(&s) == 0);
 }
@@ -153,12 +181,12 @@ static void range(void) {
     CHECK_DONE(subtract(&s, &other));
     kept = s;
     CHECK_DONE(peel(&s, &w, MOST_SLOTS, 80));
-    CHECK(figures_are(&w, GABUNLITIK_ENDED_RANGE, 0, 0, 1));
+    CHECK(figures_are(&w, GABUNLITIK_ENDED_RANGE, 0, 0, 0, 1));
     CHECK(cleared(&w));
     CHECK(same(&s, &kept));
     w = unwalked();
     CHECK_DONE(peel(&s, &w, 0, 80)); /* range comes before full */
-    CHECK(figures_are(&w, GABUNLITIK_ENDED_RANGE, 0, 0, 1));
+    CHECK(figures_are(&w, GABUNLITIK_ENDED_RANGE, 0, 0, 0, 1));
     CHECK(same(&s, &kept));
 }
 
@@ -167,7 +195,7 @@ static void edges(void) {
     struct sketch s = e7(), kept;
     struct walk w = unwalked();
     CHECK_DONE(peel(&s, &w, MOST_SLOTS, 80));
-    CHECK(figures_are(&w, GABUNLITIK_ENDED_CLEAN, 1, 2147483646, 1));
+    CHECK(figures_are(&w, GABUNLITIK_ENDED_CLEAN, 1, 2147483646, 0, 1));
     CHECK(w.flows[0] == 2147483646 && w.counts[0] == 2147483646);
     CHECK(cleared(&w));
     CHECK(used(&s) == 0);
@@ -175,7 +203,7 @@ static void edges(void) {
     w = unwalked();
     CHECK_DONE(withdraw(&s, 2147483646, 2147483646));
     CHECK_DONE(peel(&s, &w, MOST_SLOTS, 80));
-    CHECK(figures_are(&w, GABUNLITIK_ENDED_CLEAN, 1, -2147483646, 1));
+    CHECK(figures_are(&w, GABUNLITIK_ENDED_CLEAN, 1, 0, 2147483646, 1));
     CHECK(w.flows[0] == 2147483646 && w.counts[0] == -2147483646);
     CHECK(cleared(&w));
     CHECK(used(&s) == 0);
@@ -190,7 +218,7 @@ static void edges(void) {
 /* A refused walk tells figures that are all 0, and alters nothing else. */
 static void check_unwalked(struct walk *w) {
     struct walk untouched = unwalked();
-    CHECK(figures_are(w, 0, 0, 0, 0));
+    CHECK(figures_are(w, 0, 0, 0, 0, 0));
     memset(w->figures, 0xa5, sizeof w->figures);
     CHECK(memcmp(w, &untouched, sizeof untouched) == 0);
 }
@@ -230,6 +258,7 @@ static void refused(void) {
 
 void test_walks(void) {
     clean();
+    lost_beside_extra();
     spent();
     stuck_and_full();
     flow_0();

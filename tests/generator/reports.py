@@ -5,8 +5,8 @@ from generator.files import joined, stream
 
 # How often each kind is made, out of the sum of both lists.
 SOUND = (
-    (sound.lost, 12), (sound.duplicates, 10), (sound.crowded, 8), (sound.tiny, 16), (sound.many_flows, 6), (sound.wide, 10),
-    (sound.meets_the_range, 4), (sound.meets_the_table, 4), (sound.searched, 5), (sound.false_pure, 12),
+    (sound.lost, 12), (sound.duplicates, 10), (sound.ring_link, 10), (sound.crowded, 8), (sound.tiny, 16), (sound.many_flows, 6),
+    (sound.wide, 10), (sound.meets_the_range, 4), (sound.meets_the_table, 4), (sound.searched, 5), (sound.false_pure, 12),
     (sound.comes_out_as_zero, 8), (sound.cancelled, 6), (sound.at_the_limits, 10), (sound.nothing_lost, 4),
     (sound.at_the_size, 8), (sound.large, 1),
 )

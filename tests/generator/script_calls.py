@@ -9,7 +9,7 @@ from generator.values import (
 # Sound differences whose walks are short enough to be tried with one allowance after the other.
 DIFFERENCES = (
     sound.tiny, sound.tiny, sound.many_flows, sound.wide, sound.meets_the_range, sound.meets_the_table, sound.searched,
-    sound.false_pure, sound.comes_out_as_zero, sound.cancelled, sound.at_the_limits, sound.duplicates)
+    sound.false_pure, sound.comes_out_as_zero, sound.cancelled, sound.at_the_limits, sound.duplicates, sound.ring_link)
 
 # Where both counts are at most this in size, the library looks no further for a sum that leaves the limits.
 QUIET = 10**9

@@ -24,6 +24,19 @@ def duplicates(rng):
     return params, *split(rng, entries)
 
 
+def ring_link(rng):
+    """As many packets extra of some flows as are lost of others, in small numbers or in sums that need more than 32 bits."""
+    params = any_params(rng, 20, 80)
+    most = rng.choice((9, MOST // 2))
+    entries = [(uniform_flow(rng), rng.randint(1, most)) for _ in range(rng.randint(1, 14))]
+    numbers = [number for _, number in entries]
+    # The same sum on the other side, by the same numbers or by one packet less here and one more there.
+    if len(numbers) > 1 and rng.random() < 0.5:
+        numbers[0], numbers[1] = numbers[0] + 1, numbers[1] - 1
+    rng.shuffle(numbers)
+    return params, *split(rng, entries + [(uniform_flow(rng), -number) for number in numbers if number])
+
+
 def crowded(rng):
     """About as many lost flows as a sketch can give back, or more."""
     params = any_params(rng, 3, 40)

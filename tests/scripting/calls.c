@@ -57,7 +57,7 @@ static void combine(sum *call, struct given given) {
               counts_of(&other->counts), other->counts.length, other->idsums.room, other->idsums.length, &place));
 }
 
-static const char *ending_of(int64_t ending) {
+static const char *ending_of(uint64_t ending) {
     switch (ending) {
     case GABUNLITIK_ENDED_CLEAN:
         return "clean";
@@ -76,17 +76,17 @@ static const char *ending_of(int64_t ending) {
 
 static void peel(struct given given) {
     struct sketch *s = chosen(given);
-    int64_t figures[GABUNLITIK_FIGURES];
-    static const int64_t none[GABUNLITIK_FIGURES];
+    uint64_t figures[GABUNLITIK_FIGURES];
+    static const uint64_t none[GABUNLITIK_FIGURES];
     memset(figures, 0xa5, sizeof figures);
     uint32_t number = gabunlitik_peel(
         s->params, counts_of(&s->counts), s->counts.length, s->idsums.room, s->idsums.length, memory.table_flows.room,
         memory.table_flows.length, counts_of(&memory.table_counts), memory.table_counts.length, memory.queue.room,
         memory.queue.length, memory.marks.room, memory.marks.length, operand(given, 0), figures, &place);
     if (!refused(number, memcmp(figures, none, sizeof none) == 0))
-        printf("entries %lld end %s pops %lld net %lld\n", (long long)figures[GABUNLITIK_ENTRIES],
-               ending_of(figures[GABUNLITIK_ENDING]), (long long)figures[GABUNLITIK_POPS],
-               (long long)figures[GABUNLITIK_NET]);
+        printf("entries %llu end %s pops %llu lost %llu extra %llu\n", (unsigned long long)figures[GABUNLITIK_ENTRIES],
+               ending_of(figures[GABUNLITIK_ENDING]), (unsigned long long)figures[GABUNLITIK_POPS],
+               (unsigned long long)figures[GABUNLITIK_LOST], (unsigned long long)figures[GABUNLITIK_EXTRA]);
 }
 
 /* The file that was last written, or as much of it as is lent. */

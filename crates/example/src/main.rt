@@ -45,7 +45,7 @@ fn main() {
 
 // The lines of a report: the table, what is left in the buckets, and how the walk ended.
 fn print(flows: &[u32], numbers: &[i32], counts: &[i32], idsums: &[u32], figures: Figures) {
-    let mut out = [0u8; 1344];
+    let mut out = [0u8; 1680];
     let ending = figures.ending;
     let n = lines::reports::report(
         &mut out,
@@ -56,9 +56,10 @@ fn print(flows: &[u32], numbers: &[i32], counts: &[i32], idsums: &[u32], figures
         idsums,
         ending,
         figures.pops,
-        figures.net,
+        figures.lost,
+        figures.extra,
     );
-    if n <= 1344 {
+    if n <= 1680 {
         io::write_all(1, &out[0..n]);
     }
 }

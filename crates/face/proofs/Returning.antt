@@ -1,31 +1,24 @@
 -- What a caller in C is returned of a call: the library's contract holds of the answer that came back, which is the one of the definition.
-use mathlib.Core.Path.{_≡_, refl, sym, ap, subst, _∙_}
+use mathlib.Core.Path.{_≡_, refl, ap, subst, _∙_}
 use mathlib.Core.Bool.{Bool, true, false, not}
 use mathlib.Core.List.{List}
 use Prim.Native.Nat.{ℕ, _≤_}
-use native.Mathlib.Nat.{le-trans}
 use native.Mathlib.Omega.{arith}
-use lib.IntN.{ℤ}
-use lib.ListN.{length}
 use Rattle.params.specs.declared.params.Params.{Params}
 use Rattle.params.specs.declared.answers.Answer.{Answer}
-use Rattle.params.specs.declared.answers.Answer.the-variants.{Done, Refused}
+use Rattle.params.specs.declared.answers.Answer.the-variants.{Done}
 use Rattle.params.specs.declared.answers.Located.{Located}
 use Rattle.params.specs.declared.answers.Refusal.the-variants.{Param, Form}
 use Rattle.params.specs.Answers.{numberIn, indexIn, locatedNumber, locatedIndex, locatedAt, refuseIf, kept}
 use Rattle.params.specs.Params.{goodParams}
 use Rattle.params.proofs.Rules.{good-dimensions}
-use Rattle.walk.specs.Walk.{Outcome, closedTable}
-use Rattle.walk.proofs.Promises.{listed-few}
 use Rattle.files.specs.declared.writing.Written.{Written}
 use Rattle.files.specs.declared.heads.Headed.{Headed}
 use Rattle.files.specs.Records.{recordAt}
 use Rattle.files.specs.Heads.{paramsInBody, paramsIn, isHead, noParams, headAnswer, headOf}
 use Rattle.files.specs.Writing.{writtenNumber, writtenIndex, writtenLength}
 use Rattle.peel.specs.declared.peeling.Peeled.{Peeled}
-use Rattle.peel.specs.Slices.{Slices, lentSketch}
-use Rattle.peel.specs.Peel.{peeledOf, peeledNumber, peeledIndex, peeledEntries, judged, walked, Peels}
-use Rattle.peel.proofs.Judged.{judged-peelable}
+use Rattle.peel.specs.Peel.{peeledNumber, peeledIndex}
 use Rattle.face.specs.Returned.{paramsOf, paramNumbers, figuresIn, AnswerReturned, WrittenReturned, PeeledReturned, LocatedReturned, HeadReturned}
 
 pub returned : {answer : Answer} {Contract : Answer → Type 0} {number place : ℕ} (x : Answer)
@@ -48,7 +41,7 @@ written-returned {Contract} x e held t =
       call = subst Contract e held;
     }
 
-pub peeled-returned : {peeled : Peeled} {Contract : Peeled → Type 0} {number place : ℕ} {figures : List ℤ} (x : Peeled)
+pub peeled-returned : {peeled : Peeled} {Contract : Peeled → Type 0} {number place : ℕ} {figures : List ℕ} (x : Peeled)
     → x ≡ peeled → Contract x → (number ≡ peeledNumber x) × (place ≡ peeledIndex x) × (figures ≡ figuresIn x)
     → PeeledReturned peeled Contract number place figures
 peeled-returned {Contract} x e held t =
@@ -58,16 +51,6 @@ peeled-returned {Contract} x e held t =
       figures-returned = t .2 ∙ ap figuresIn e;
       call = subst Contract e held;
     }
-
--- a table never has more entries than a table may have slots
-few-in : (x : Answer) (o : Outcome) → (x ≡ Done → length (closedTable o) ≤ 65536) → peeledEntries (peeledOf x o) ≤ 65536
-few-in Done o few = few refl
-few-in (Refused w k) o few = omega arith
-
-pub entries-few : {P : Params} {a : ℕ} {L : Slices} {r : Peeled} {L' : Slices} → Peels P a L r L' → peeledEntries r ≤ 65536
-entries-few {P} {a} {L} h =
-    subst (λ (x : Peeled). peeledEntries x ≤ 65536) (sym (h .answer))
-    (few-in (judged P L) (walked P a L) (λ done. le-trans (listed-few P (length (L .flows)) a (lentSketch L)) (judged-peelable P L done .few-slots)))
 
 pub located-returned : {located : Located} {number place found : ℕ} (x : Located)
     → x ≡ located → (number ≡ locatedNumber x) × (place ≡ locatedIndex x) × (found ≡ locatedAt x) → LocatedReturned located number place found

@@ -3,7 +3,6 @@
 use mathlib.Core.Bool.{Bool, true, false}
 use mathlib.Core.List.{List}
 use Prim.Native.Nat.{ℕ}
-use lib.IntN.{ℤ}
 use lib.ListN.{length}
 use Rattle.params.specs.declared.params.Params.{Params}
 use Rattle.params.specs.Answers.{locatedOf}
@@ -65,5 +64,5 @@ SketchWrittenFor P S out r k n out' =
     WrittenReturned (writtenOf (sketches.sketchWriteAnswer P S (length out)) (length (sketches.sketchBytes P S))) (λ x. sketches.SketchWritten P S out x out') r k n
 
 -- gs are the figures that the caller is returned; L is what the walk is lent, L' what it holds after
-abbrev pub PeelsFor : Params → ℕ → Slices → ℕ → ℕ → List ℤ → Slices → Type 0
+abbrev pub PeelsFor : Params → ℕ → Slices → ℕ → ℕ → List ℕ → Slices → Type 0
 PeelsFor P allowance L r k gs L' = PeeledReturned (peelReturns P allowance L) (λ x. Peels P allowance L x L') r k gs

@@ -2,7 +2,6 @@
 use mathlib.Core.Path.{_≡_}
 use mathlib.Core.List.{List, [], _∷_}
 use Prim.Native.Nat.{ℕ}
-use lib.IntN.{ℤ, pos}
 use lib.ListN.{getD}
 use Rattle.params.specs.declared.params.Params.{Params}
 use Rattle.params.specs.declared.answers.Answer.{Answer}
@@ -12,7 +11,7 @@ use Rattle.files.specs.declared.heads.Headed.{Headed}
 use Rattle.files.specs.declared.writing.Written.{Written}
 use Rattle.files.specs.Writing.{writtenNumber, writtenIndex, writtenLength}
 use Rattle.peel.specs.declared.peeling.Peeled.{Peeled}
-use Rattle.peel.specs.Peel.{peeledNumber, peeledIndex, peeledEnding, peeledEntries, peeledNet, peeledPops}
+use Rattle.peel.specs.Peel.{peeledNumber, peeledIndex, peeledEnding, peeledEntries, peeledLost, peeledExtra, peeledPops}
 
 -- d, m, the four multipliers, the four offsets
 unfoldable pub paramsOf : List ℕ → Params
@@ -31,9 +30,9 @@ paramNumbers P =
     ∷ getD (P .a) 0 0 ∷ getD (P .a) 1 0 ∷ getD (P .a) 2 0 ∷ getD (P .a) 3 0
     ∷ getD (P .b) 0 0 ∷ getD (P .b) 1 0 ∷ getD (P .b) 2 0 ∷ getD (P .b) 3 0 ∷ []
 
--- the ending's number, the entries, the net figure and the pops
-abbrev pub figuresIn : Peeled → List ℤ
-figuresIn x = pos (peeledEnding x) ∷ pos (peeledEntries x) ∷ peeledNet x ∷ pos (peeledPops x) ∷ []
+-- the ending's number, the entries, the packets lost, those extra and the pops
+abbrev pub figuresIn : Peeled → List ℕ
+figuresIn x = peeledEnding x ∷ peeledEntries x ∷ peeledLost x ∷ peeledExtra x ∷ peeledPops x ∷ []
 
 -- What a caller is returned of an answer, its number and its place, where `Contract` is what the library promises of a call that
 -- gives this answer; and the same with the length that a writer gives and with the figures of a walk.
@@ -48,7 +47,7 @@ pub record WrittenReturned (written : Written) (Contract : Written → Type 0) (
   pub length-returned : bytes ≡ writtenLength written
   pub call : Contract written
 
-pub record PeeledReturned (peeled : Peeled) (Contract : Peeled → Type 0) (number place : ℕ) (figures : List ℤ) : Type 0 where
+pub record PeeledReturned (peeled : Peeled) (Contract : Peeled → Type 0) (number place : ℕ) (figures : List ℕ) : Type 0 where
   pub number-returned : number ≡ peeledNumber peeled
   pub place-returned : place ≡ peeledIndex peeled
   pub figures-returned : figures ≡ figuresIn peeled

@@ -4,7 +4,7 @@ ghost use Prim.Native.Nat.{_≤_};
 ghost use Rattle.params.specs.Answers.{numberIn, indexIn, locatedNumber, locatedIndex, locatedAt};
 ghost use Rattle.files.specs.Writing.{writtenNumber, writtenIndex, writtenLength};
 ghost use Rattle.walk.specs.Endings.{endingNumber};
-ghost use Rattle.peel.specs.Peel.{peeledNumber, peeledIndex, peeledEntries};
+ghost use Rattle.peel.specs.Peel.{peeledNumber, peeledIndex};
 ghost use Rattle.face.specs.Returned.{paramsOf, paramNumbers, figuresIn};
 use files::writing::Written;
 use params::Answer;
@@ -120,25 +120,24 @@ fn ending_number(ending: Ending) -> u32
 }
 
 // The same for peeling, with what the walk found.
-pub(crate) fn return_peeled(peeled: Peeled, figures: &mut [i64; 4], place: &mut usize) -> u32
-    requires { ⌜ peeledEntries peeled ≤ 65536 ⌝ }
+pub(crate) fn return_peeled(peeled: Peeled, figures: &mut [u64; 5], place: &mut usize) -> u32
     ensures { λ r. ⌜ (r ≡ peeledNumber peeled) × (now (place .exit) ≡ peeledIndex peeled) × (now (figures .exit) ≡ figuresIn peeled) ⌝ }
 {
     match peeled {
         Peeled::Ended(found) => {
             let ending = found.ending;
-            let net = found.net;
             *figures = [
-                ending_number(ending) as i64,
-                found.entries as i64,
-                net,
-                found.pops as i64,
+                ending_number(ending) as u64,
+                found.entries as u64,
+                found.lost,
+                found.extra,
+                found.pops as u64,
             ];
             *place = 0;
             0
         }
         Peeled::Refused(refusal, index) => {
-            *figures = [0; 4];
+            *figures = [0; 5];
             *place = index;
             refusal.number()
         }

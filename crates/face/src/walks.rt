@@ -6,7 +6,7 @@ use crate::returned::params_of;
 use crate::returned::return_peeled;
 use peel::peeling::peel;
 
-// Peels a sketch into a table and gives the ending's number, the entries, the net figure and the pops, in this order.
+// Peels a sketch into a table and gives the ending's number, the entries, the packets lost, those extra and the pops, in this order.
 #[no_mangle]
 pub extern "C" fn gabunlitik_peel(
     params: &[u32; 10],
@@ -17,7 +17,7 @@ pub extern "C" fn gabunlitik_peel(
     queue: &mut [u32],
     marks: &mut [u32],
     allowance: u32,
-    figures: &mut [i64; 4],
+    figures: &mut [u64; 5],
     place: &mut usize,
 ) -> u32
     ensures { λ r. ⌜ PeelsFor (paramsOf (now (params .entry))) allowance (slices (now (counts .entry)) (now (idsums .entry)) (now («table_flows» .entry)) (now («table_counts» .entry)) (now (queue .entry)) (now (marks .entry))) r (now (place .exit)) (now (figures .exit)) (slices (now (counts .exit)) (now (idsums .exit)) (now («table_flows» .exit)) (now («table_counts» .exit)) (now (queue .exit)) (now (marks .exit))) ⌝ }

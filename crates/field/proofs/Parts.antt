@@ -10,16 +10,9 @@ use lib.Dec.{T, ltb, leb→le, le→leb, ltb→lt, lt→ltb}
 use borrow.Author.Tests.{ltb-true, ltb-false}
 use mir.Syntax.{Width}
 use mir.Val.{SFits, hbits}
+use Rattle.field.specs.Parts.{up, down}
 
 -- a number is its part above 0 less its part below
-abbrev pub up : ℤ → ℕ
-up (pos n) = n
-up (negsuc n) = 0
-
-abbrev pub down : ℤ → ℕ
-down (pos n) = 0
-down (negsuc n) = suc n
-
 pub up-down-sub : (a b : ℕ) → up (subℕ a b) + b ≡ a + down (subℕ a b)
 up-down-sub a b = go (ltb a b) refl
   where
@@ -147,3 +140,12 @@ negated z h =
 
 pub not-negative : (z : ℤ) → ltZ z (pos 0) ≡ false → z ≡ pos (natAbs z)
 not-negative z h = ⊎-elim (λ e. omega (int, abs-parts z)) (λ e. omega (int, abs-parts z)) (one-part z)
+
+-- which part a number has, by a test of whether it is below 0
+pub parts-negative : (z : ℤ) → ltZ z (pos 0) ≡ true → (up z ≡ 0) × (down z ≡ natAbs z)
+parts-negative (pos n) h = absurd (omega int)
+parts-negative (negsuc n) h = (refl, refl)
+
+pub parts-not-negative : (z : ℤ) → ltZ z (pos 0) ≡ false → (up z ≡ natAbs z) × (down z ≡ 0)
+parts-not-negative (pos n) h = (refl, refl)
+parts-not-negative (negsuc n) h = absurd (omega int)

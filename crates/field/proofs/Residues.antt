@@ -4,8 +4,9 @@ use Prim.Native.Nat.{ℕ, zero, suc, _+_, _-_, _*_, _/_, _%_, _≤_, _<_}
 use native.Mathlib.Nat.{mod-lt, mod-eq-of-lt, mod-add-div', mod-add-mod, add-mod-mod, zero-mod}
 use native.Mathlib.Omega.{arith}
 use lib.IntN.{ℤ, pos, negsuc, natAbs, negℤ, _+ℤ_, _-ℤ_, _*ℤ_}
+use Rattle.field.specs.Parts.{up, down}
 use Rattle.field.specs.Residue.{residue}
-use Rattle.field.proofs.Parts.{up, down, up-down-add, up-neg, down-neg, up-mul, down-mul}
+use Rattle.field.proofs.Parts.{up-down-add, up-neg, down-neg, up-mul, down-mul}
 use Rattle.field.proofs.Remainders.{same-rest, rest-same, rest-is, add-rest-cancel}
 
 -- modulo 0 every residue is 0

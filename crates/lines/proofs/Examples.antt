@@ -37,11 +37,11 @@ left-of-first : leftLine 0 (negsuc 9) 305 ≡ ascii "left 0 -10 305\n"
 unfolding leftLine digits
 left-of-first = refl
 
-clean-end : endLine Clean 3 (pos 3) ≡ ascii "end clean pops 3 net 3\n"
+clean-end : endLine Clean 3 3 0 ≡ ascii "end clean pops 3 lost 3 extra 0\n"
 unfolding endLine digits
 clean-end = refl
 
-full-end : endLine Full 2 (negsuc 1) ≡ ascii "end full pops 2 net -2\n"
+full-end : endLine Full 2 0 10 ≡ ascii "end full pops 2 lost 0 extra 10\n"
 unfolding endLine digits
 full-end = refl
 

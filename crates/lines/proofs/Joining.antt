@@ -1,5 +1,5 @@
 -- Texts written one after another, the whole line that they make, and how long the word of an ending is.
-use mathlib.Core.Path.{_≡_, ap, _∙_}
+use mathlib.Core.Path.{_≡_, ap, subst, _∙_}
 use mathlib.Core.Bool.{Bool, true, false}
 use mathlib.Core.List.{List, [], _∷_, _++_, append-assoc}
 use Prim.Native.Nat.{ℕ, _+_, _≤_, _<_}
@@ -12,7 +12,7 @@ use Rattle.walk.specs.declared.Ending.{Ending}
 use Rattle.walk.specs.declared.Ending.the-variants.{Clean, Stuck, Spent, Range, Full}
 use Rattle.walk.specs.Endings.{endingWord}
 use Rattle.lines.specs.Texts.{TextWritten}
-use Rattle.lines.specs.Lines.{lineFits, Lined}
+use Rattle.lines.specs.Lines.{lineRoom, lineFits, Lined}
 
 -- one byte, and a text right after another
 pub byte-written : (out : List ℕ) (at b : ℕ) → at < length out → TextWritten (b ∷ []) out at (at + 1) (set out at b)
@@ -38,19 +38,27 @@ pub text-of-three : {fits : Bool} {one two three xs ys zs last : List ℕ} {i j 
 text-of-three {one = one} {two = two} {three = three} t p q s =
     written _ t (then (omega arith) (then (omega arith) p q) s) (append-assoc one two three)
 
--- a line of three parts or of four, where there is room for 64 bytes, and none where there is no room
-pub line-of-three : {one two three xs ys zs last : List ℕ} {i j r : ℕ} → 64 ≤ length xs
+-- a line of three parts, of four or of five, where there is room for a line, and none where there is no room
+regrouped : {fits : Bool} (one two rest : List ℕ) {xs last : List ℕ} {r : ℕ} → Lined fits ((one ++ two) ++ rest) xs r last → Lined fits (one ++ (two ++ rest)) xs r last
+regrouped {fits} one two rest {xs} {last} {r} l = subst (λ text. Lined fits text xs r last) (append-assoc one two rest) l
+
+pub line-of-three : {one two three xs ys zs last : List ℕ} {i j r : ℕ} → lineRoom ≤ length xs
     → TextWritten one xs 0 i ys → TextWritten two ys i j zs → TextWritten three zs j r last → Lined (lineFits xs) (one ++ (two ++ three)) xs r last
-line-of-three {xs = xs} h p q s = text-of-three (le-leb 64 (length xs) h) p q s
+line-of-three {xs = xs} h p q s = text-of-three (le-leb lineRoom (length xs) h) p q s
 
-pub line-of-four : {one two three four xs ys zs now last : List ℕ} {i j k r : ℕ} → 64 ≤ length xs
+pub line-of-four : {one two three four xs ys zs now last : List ℕ} {i j k r : ℕ} → lineRoom ≤ length xs
     → TextWritten one xs 0 i ys → TextWritten two ys i j zs → TextWritten three zs j k now → TextWritten four now k r last → Lined (lineFits xs) (one ++ (two ++ (three ++ four))) xs r last
-line-of-four {one = one} {two = two} {three = three} {four = four} {xs = xs} h p q s t =
-    let start = then (omega arith) (then (omega arith) p q) s in
-    written _ (le-leb 64 (length xs) h) (then (omega arith) start t) (append-assoc (one ++ two) three four ∙ append-assoc one two (three ++ four))
+line-of-four {one = one} {two = two} {three = three} {four = four} h p q s t =
+    regrouped one two (three ++ four) (line-of-three h (then (omega arith) p q) s t)
 
-pub not-lined : (xs line : List ℕ) → length xs < 64 → Lined (lineFits xs) line xs 0 xs
-not-lined xs line h = not-written xs line (lt-leb 64 (length xs) h)
+pub line-of-five : {one two three four five xs ys zs us now last : List ℕ} {i j k l r : ℕ} → lineRoom ≤ length xs
+    → TextWritten one xs 0 i ys → TextWritten two ys i j zs → TextWritten three zs j k us → TextWritten four us k l now → TextWritten five now l r last
+    → Lined (lineFits xs) (one ++ (two ++ (three ++ (four ++ five)))) xs r last
+line-of-five {one = one} {two = two} {three = three} {four = four} {five = five} h p q s t u =
+    regrouped one two (three ++ (four ++ five)) (line-of-four h (then (omega arith) p q) s t u)
+
+pub not-lined : (xs line : List ℕ) → length xs < lineRoom → Lined (lineFits xs) line xs 0 xs
+not-lined xs line h = not-written xs line (lt-leb lineRoom (length xs) h)
 
 -- the longest word of an ending
 pub length-ending : (e : Ending) → length (endingWord e) ≤ 5

@@ -13,7 +13,7 @@ use lib.IntN.{ℤ, pos}
 use lib.ListN.{length, getD, take, drop, length-append, length-drop, drop-of-length-le}
 use lib.Seq.{take-all, drop-drop}
 use mir.Facts.{sfits-widen}
-use mir.Syntax.{w32, w64}
+use mir.Syntax.{w32}
 use mir.Val.{SFits}
 use Rattle.params.proofs.Searches.{and-true}
 use Rattle.files.specs.Bytes.{overwritten}
@@ -23,21 +23,21 @@ use Rattle.walk.specs.declared.Ending.{Ending}
 use Rattle.walk.specs.Ascii.{ascii}
 use Rattle.walk.specs.Endings.{endingWord}
 use Rattle.lines.specs.Decimal.{decimal, signedDecimal}
-use Rattle.lines.specs.Lines.{lossLine, leftLine, endLine, lineFits, Lined}
+use Rattle.lines.specs.Lines.{lossLine, leftLine, endLine, lineRoom, lineFits, Lined}
 use Rattle.lines.specs.Reports.{lossLines, leftIfAny, leftLines, reportFits}
 use Rattle.lines.specs.Texts.{TextWritten}
 use Rattle.lines.proofs.Digits.{length-decimal, length-short, length-signed}
 use Rattle.lines.proofs.Joining.{then, length-ending}
 
 -- what is written at the start of the rest is written from there on
-pub in-the-rest : (xs line : List ℕ) (at r : ℕ) {last : List ℕ} → at + 64 ≤ length xs → Lined (lineFits (midOf at (length xs - at) xs)) line (midOf at (length xs - at) xs) r last
+pub in-the-rest : (xs line : List ℕ) (at r : ℕ) {last : List ℕ} → at + lineRoom ≤ length xs → Lined (lineFits (midOf at (length xs - at) xs)) line (midOf at (length xs - at) xs) r last
     → TextWritten line xs at (at + r) (putMid at (length xs - at) xs last)
 unfolding overwritten
 in-the-rest xs line at r {last} h w =
     let rest : List ℕ = drop at xs in
     let k : ℕ = length xs - at in
     let whole : take k rest ≡ rest = take-all k rest (omega (arith, length-drop at xs)) in
-    let room : lineFits (take k rest) ≡ true = le-leb 64 (length (take k rest)) (omega (arith, ap length whole, length-drop at xs)) in
+    let room : lineFits (take k rest) ≡ true = le-leb lineRoom (length (take k rest)) (omega (arith, ap length whole, length-drop at xs)) in
     let returned : r ≡ length line = w .long ∙ ap (λ t. cond t (length line) 0) room in
     let there : last ≡ overwritten (take k rest) 0 line = w .bytes ∙ ap (λ t. cond t (overwritten (take k rest) 0 line) (take k rest)) room in
     let after : last ≡ line ++ drop (at + length line) xs =
@@ -46,39 +46,41 @@ in-the-rest xs line at r {last} h w =
     let none : postOf at k xs ≡ [] = drop-of-length-le rest {i = k} (omega (arith, length-drop at xs)) in
     record { next = ap (λ n. at + n) returned; bytes = ap (λ ys. take at xs ++ (last ++ ys)) none ∙ ap (λ ys. take at xs ++ ys) (append-nil last ∙ after) }
 
--- no line is longer than 64 bytes
-pub length-loss : (f : ℕ) (c : ℤ) → f < 2 ^ 32 → SFits w32 c → length (lossLine f c) ≤ 64
+-- no line is longer than there must be room for
+pub length-loss : (f : ℕ) (c : ℤ) → f < 2 ^ 32 → SFits w32 c → length (lossLine f c) ≤ lineRoom
 unfolding lossLine
 length-loss f c h k =
     omega (arith, length-append (decimal f) (ascii " " ++ (signedDecimal c ++ ascii "\n")), length-append (signedDecimal c) (ascii "\n"), length-short f h, length-signed c (sfits-widen tt k))
 
-pub length-left : (i : ℕ) (c : ℤ) (s : ℕ) → i < 2 ^ 64 → SFits w32 c → s < 2 ^ 32 → length (leftLine i c s) ≤ 64
+pub length-left : (i : ℕ) (c : ℤ) (s : ℕ) → i < 2 ^ 64 → SFits w32 c → s < 2 ^ 32 → length (leftLine i c s) ≤ lineRoom
 unfolding leftLine
 length-left i c s h k l =
     omega (arith, length-append (decimal i) (ascii " " ++ (signedDecimal c ++ (ascii " " ++ (decimal s ++ ascii "\n")))), length-append (signedDecimal c) (ascii " " ++ (decimal s ++ ascii "\n")), length-append (decimal s) (ascii "\n"), length-decimal i h, length-signed c (sfits-widen tt k), length-short s l)
 
-pub length-end : (e : Ending) (pops : ℕ) (net : ℤ) → pops < 2 ^ 32 → SFits w64 net → length (endLine e pops net) ≤ 64
+pub length-end : (e : Ending) (pops lost extra : ℕ) → pops < 2 ^ 32 → lost < 2 ^ 64 → extra < 2 ^ 64 → length (endLine e pops lost extra) ≤ lineRoom
 unfolding endLine
-length-end e n z h k =
-    omega (arith, length-append (endingWord e) (ascii " pops " ++ (decimal n ++ (ascii " net " ++ (signedDecimal z ++ ascii "\n")))), length-append (decimal n) (ascii " net " ++ (signedDecimal z ++ ascii "\n")), length-append (signedDecimal z) (ascii "\n"), length-ending e, length-short n h, length-signed z k)
+length-end e n l x h i k =
+    let extra : List ℕ = decimal x ++ ascii "\n" in
+    let lost : List ℕ = decimal l ++ (ascii " extra " ++ extra) in
+    omega (arith, length-append (endingWord e) (ascii " pops " ++ (decimal n ++ (ascii " lost " ++ lost))), length-append (decimal n) (ascii " lost " ++ lost), length-append (decimal l) (ascii " extra " ++ extra), length-append (decimal x) (ascii "\n"), length-ending e, length-short n h, length-decimal l i, length-decimal x k)
 
 -- a line in the rest of the output, and how far it reaches
-pub line-in-the-rest : (xs line : List ℕ) (at r : ℕ) {last : List ℕ} → at + 64 ≤ length xs → length line ≤ 64 → Lined (lineFits (midOf at (length xs - at) xs)) line (midOf at (length xs - at) xs) r last
-    → TextWritten line xs at (at + r) (putMid at (length xs - at) xs last) × (at + r ≤ at + 64)
+pub line-in-the-rest : (xs line : List ℕ) (at r : ℕ) {last : List ℕ} → at + lineRoom ≤ length xs → length line ≤ lineRoom → Lined (lineFits (midOf at (length xs - at) xs)) line (midOf at (length xs - at) xs) r last
+    → TextWritten line xs at (at + r) (putMid at (length xs - at) xs last) × (at + r ≤ at + lineRoom)
 line-in-the-rest xs line at r h short w =
     let p = in-the-rest xs line at r h w in
     (p, omega (arith, p .next))
 
 -- one line more, and how far the lines then reach
-pub one-more : {lines line out now last : List ℕ} {at next r : ℕ} (i : ℕ) → at ≤ length out → TextWritten lines out at next now × (next ≤ at + 64 * i) → TextWritten line now next r last × (r ≤ next + 64)
-    → TextWritten (lines ++ line) out at r last × (r ≤ at + 64 * (i + 1))
+pub one-more : {lines line out now last : List ℕ} {at next r : ℕ} (i : ℕ) → at ≤ length out → TextWritten lines out at next now × (next ≤ at + lineRoom * i) → TextWritten line now next r last × (r ≤ next + lineRoom)
+    → TextWritten (lines ++ line) out at r last × (r ≤ at + lineRoom * (i + 1))
 one-more i h p q = (then h (p .0) (q .0), omega (arith, p .1, q .1))
 
 -- room for so many lines, by whole lines or by bytes
-pub whole-lines : (out n k : ℕ) → n < out / 64 → ltb k (out / 64 - n) ≡ leb (64 * (n + k + 1)) out
-whole-lines out n k h = go (ltb k (out / 64 - n)) refl
+pub whole-lines : (out n k : ℕ) → n < out / lineRoom → ltb k (out / lineRoom - n) ≡ leb (lineRoom * (n + k + 1)) out
+whole-lines out n k h = go (ltb k (out / lineRoom - n)) refl
   where
-    go : (t : Bool) → ltb k (out / 64 - n) ≡ t → t ≡ leb (64 * (n + k + 1)) out
+    go : (t : Bool) → ltb k (out / lineRoom - n) ≡ t → t ≡ leb (lineRoom * (n + k + 1)) out
     go true e = let l = ltb-true k _ e in sym (le-leb _ out (omega arith))
     go false e = let l = ltb-false k _ e in sym (lt-leb _ out (omega arith))
 
@@ -92,18 +94,18 @@ unfolding leftLines
 lefts-next cs ss k = ap (leftLines cs ss) (add-one k)
 
 -- a bucket that is all zero has no line, and any other has one
-pub no-left : (k : ℕ) (c : ℤ) (s : ℕ) (out : List ℕ) (at : ℕ) → allZero c s ≡ true → TextWritten (leftIfAny k c s) out at at out × (at ≤ at + 64)
+pub no-left : (k : ℕ) (c : ℤ) (s : ℕ) (out : List ℕ) (at : ℕ) → allZero c s ≡ true → TextWritten (leftIfAny k c s) out at at out × (at ≤ at + lineRoom)
 no-left k c s out at e = rw e (record { next = omega arith; bytes = overwritten-none out at }, omega arith)
 
 -- no lines yet
-pub nothing-written : (out : List ℕ) (at : ℕ) → TextWritten [] out at at out × (at ≤ at + 64 * 0)
+pub nothing-written : (out : List ℕ) (at : ℕ) → TextWritten [] out at at out × (at ≤ at + lineRoom * 0)
 nothing-written out at = (record { next = omega arith; bytes = overwritten-none out at }, omega arith)
 
 -- what holds where a report fits
 pub fitting : (out flows numbers entries counts idsums : ℕ) → reportFits out flows numbers entries counts idsums ≡ true
-    → (entries ≤ flows) × (entries ≤ numbers) × (idsums ≡ counts) × (64 * (entries + counts + 1) ≤ out)
+    → (entries ≤ flows) × (entries ≤ numbers) × (idsums ≡ counts) × (lineRoom * (entries + counts + 1) ≤ out)
 fitting out flows numbers entries counts idsums e =
-    let both = and-true _ (leb (64 * (entries + counts + 1)) out) e in
+    let both = and-true _ (leb (lineRoom * (entries + counts + 1)) out) e in
     let three = and-true _ (eqb idsums counts) (both .0) in
     let two = and-true (leb entries flows) (leb entries numbers) (three .0) in
     (leb-true _ _ (two .0), leb-true _ _ (two .1), eqb-true _ _ (three .1), leb-true _ _ (both .1))

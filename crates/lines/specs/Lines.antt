@@ -22,9 +22,10 @@ lossLine f c = ascii "loss " ++ (decimal f ++ (ascii " " ++ (signedDecimal c ++ 
 unfoldable pub leftLine : ℕ → ℤ → ℕ → List ℕ
 leftLine k c s = ascii "left " ++ (decimal k ++ (ascii " " ++ (signedDecimal c ++ (ascii " " ++ (decimal s ++ ascii "\n")))))
 
--- end ENDING pops N net N
-unfoldable pub endLine : Ending → ℕ → ℤ → List ℕ
-endLine e p n = ascii "end " ++ (endingWord e ++ (ascii " pops " ++ (decimal p ++ (ascii " net " ++ (signedDecimal n ++ ascii "\n")))))
+-- end ENDING pops N lost N extra N
+unfoldable pub endLine : Ending → ℕ → ℕ → ℕ → List ℕ
+endLine e p l x =
+    ascii "end " ++ (endingWord e ++ (ascii " pops " ++ (decimal p ++ (ascii " lost " ++ (decimal l ++ (ascii " extra " ++ (decimal x ++ ascii "\n")))))))
 
 -- refused NUMBER at BYTE
 unfoldable pub refusedLine : Refusal → ℕ → List ℕ
@@ -35,6 +36,9 @@ pub record Lined (fits : Bool) (text out : List ℕ) (r : ℕ) (out' : List ℕ)
   pub long : r ≡ cond fits (length text) 0
   pub bytes : out' ≡ cond fits (overwritten out 0 text) out
 
--- no line is longer than 64 bytes, and so many must be there for each
+-- no line is longer than so many bytes, and so many must be there for each
+abbrev pub lineRoom : ℕ
+lineRoom = 80
+
 abbrev pub lineFits : List ℕ → Bool
-lineFits out = leb 64 (length out)
+lineFits out = leb lineRoom (length out)

@@ -8,8 +8,8 @@ use lib.ListN.{length, getD}
 use Rattle.buckets.specs.Buckets.{allZero}
 use Rattle.sketch.specs.Sketch.{Entry}
 use Rattle.walk.specs.declared.Ending.{Ending}
-use Rattle.walk.specs.Walk.{Outcome, closedTable, netOf}
-use Rattle.lines.specs.Lines.{lossLine, leftLine, endLine}
+use Rattle.walk.specs.Walk.{Outcome, closedTable, lostOf, extraOf}
+use Rattle.lines.specs.Lines.{lossLine, leftLine, endLine, lineRoom}
 
 -- a line for each of the table's first n entries
 unfoldable pub lossLines : List ℕ → List ℤ → ℕ → List ℕ
@@ -26,8 +26,8 @@ leftLines cs ss zero = []
 leftLines cs ss (suc k) = leftLines cs ss k ++ leftIfAny k (getD cs k (pos 0)) (getD ss k 0)
 
 -- the table fs and ns with n entries, the buckets cs and ss that are left, and how the walk ended
-unfoldable pub reportText : List ℕ → List ℤ → ℕ → List ℤ → List ℕ → Ending → ℕ → ℤ → List ℕ
-reportText fs ns n cs ss e pops net = lossLines fs ns n ++ (leftLines cs ss (length cs) ++ endLine e pops net)
+unfoldable pub reportText : List ℕ → List ℤ → ℕ → List ℤ → List ℕ → Ending → ℕ → ℕ → ℕ → List ℕ
+reportText fs ns n cs ss e pops lost extra = lossLines fs ns n ++ (leftLines cs ss (length cs) ++ endLine e pops lost extra)
 
 -- a line for each entry of a table
 unfoldable pub entryLines : List Entry → List ℕ
@@ -39,9 +39,9 @@ unfoldable pub walkText : Outcome → List ℕ
 walkText o =
     entryLines (closedTable o)
     ++ (leftLines (o .remainder .counts) (o .remainder .idsums) (length (o .remainder .counts))
-    ++ endLine (o .ending) (o .pops) (netOf o))
+    ++ endLine (o .ending) (o .pops) (lostOf o) (extraOf o))
 
--- whether the entries are within the table, each bucket has both fields, and there is room for 64 bytes a line
+-- whether the entries are within the table, each bucket has both fields, and there is room for every line
 abbrev pub reportFits : ℕ → ℕ → ℕ → ℕ → ℕ → ℕ → Bool
 reportFits out flows numbers entries counts idsums =
-    leb entries flows && leb entries numbers && eqb idsums counts && leb (64 * (entries + counts + 1)) out
+    leb entries flows && leb entries numbers && eqb idsums counts && leb (lineRoom * (entries + counts + 1)) out

@@ -1,5 +1,5 @@
-// The lines of the report. A line is written at the start of the output and its length returned. No line is longer than 64 bytes: where
-// the output has no room for so many, nothing is written and 0 returned.
+// The lines of the report. A line is written at the start of the output and its length returned. Where the output has no room for the
+// longest line, nothing is written and 0 returned.
 ghost use Rattle.lines.specs.Lines.{lossLine, leftLine, endLine, refusedLine, lineFits, Lined};
 use crate::text::put;
 use crate::text::put_ending;
@@ -8,11 +8,14 @@ use crate::text::put_named_signed;
 use params::Refusal;
 use walk::Ending;
 
+// No line is longer than so many bytes.
+pub const LINE_ROOM: usize = 80;
+
 // loss FLOW COUNT
 pub fn loss_line(out: &mut [u8], flow: u32, count: i32) -> usize
     ensures { λ r. ⌜ Lined (lineFits (now (out .entry))) (lossLine flow count) (now (out .entry)) r (now (out .exit)) ⌝ }
 {
-    if out.len() < 64 {
+    if out.len() < LINE_ROOM {
         return 0;
     }
     let mut at = put_named(out, 0, b"loss ", flow as u64);
@@ -24,7 +27,7 @@ pub fn loss_line(out: &mut [u8], flow: u32, count: i32) -> usize
 pub fn left_line(out: &mut [u8], index: usize, count: i32, idsum: u32) -> usize
     ensures { λ r. ⌜ Lined (lineFits (now (out .entry))) (leftLine index count idsum) (now (out .entry)) r (now (out .exit)) ⌝ }
 {
-    if out.len() < 64 {
+    if out.len() < LINE_ROOM {
         return 0;
     }
     let mut at = put_named(out, 0, b"left ", index as u64);
@@ -33,17 +36,18 @@ pub fn left_line(out: &mut [u8], index: usize, count: i32, idsum: u32) -> usize
     put(out, at, b"\n")
 }
 
-// end ENDING pops N net N
-pub fn end_line(out: &mut [u8], ending: Ending, pops: u32, net: i64) -> usize
-    ensures { λ r. ⌜ Lined (lineFits (now (out .entry))) (endLine ending pops net) (now (out .entry)) r (now (out .exit)) ⌝ }
+// end ENDING pops N lost N extra N
+pub fn end_line(out: &mut [u8], ending: Ending, pops: u32, lost: u64, extra: u64) -> usize
+    ensures { λ r. ⌜ Lined (lineFits (now (out .entry))) (endLine ending pops lost extra) (now (out .entry)) r (now (out .exit)) ⌝ }
 {
-    if out.len() < 64 {
+    if out.len() < LINE_ROOM {
         return 0;
     }
     let mut at = put(out, 0, b"end ");
     at = put_ending(out, at, ending);
     at = put_named(out, at, b" pops ", pops as u64);
-    at = put_named_signed(out, at, b" net ", net);
+    at = put_named(out, at, b" lost ", lost);
+    at = put_named(out, at, b" extra ", extra);
     put(out, at, b"\n")
 }
 
@@ -51,7 +55,7 @@ pub fn end_line(out: &mut [u8], ending: Ending, pops: u32, net: i64) -> usize
 pub fn refused_line(out: &mut [u8], refusal: Refusal, byte: usize) -> usize
     ensures { λ r. ⌜ Lined (lineFits (now (out .entry))) (refusedLine refusal byte) (now (out .entry)) r (now (out .exit)) ⌝ }
 {
-    if out.len() < 64 {
+    if out.len() < LINE_ROOM {
         return 0;
     }
     let number = refusal.number() as u64;

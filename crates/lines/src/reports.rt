@@ -1,10 +1,11 @@
-// A whole report: the lines of the table, then those of what is left, then the end. There must be room for 64 bytes a line.
+// A whole report: the lines of the table, then those of what is left, then the end. There must be room for each.
 ghost use mathlib.Core.Path.{_≡_};
 ghost use Prim.Native.Nat.{_+_, _*_, _≤_};
 ghost use lib.ListN.{length};
-ghost use Rattle.lines.specs.Lines.{lossLine, Lined};
+ghost use Rattle.lines.specs.Lines.{lossLine, lineRoom, Lined};
 ghost use Rattle.lines.specs.Reports.{lossLines, leftIfAny, leftLines, reportText, reportFits};
 ghost use Rattle.lines.specs.Texts.{TextWritten};
+use crate::lines::LINE_ROOM;
 use crate::lines::end_line;
 use crate::lines::left_line;
 use crate::lines::loss_line;
@@ -31,7 +32,7 @@ fn fits(
     if idsums != counts {
         return false;
     }
-    let lines = out / 64;
+    let lines = out / LINE_ROOM;
     if lines <= entries {
         return false;
     }
@@ -40,18 +41,18 @@ fn fits(
 
 // A line for an entry, from an offset on; the offset after it is returned, as by the functions below.
 fn put_loss(out: &mut [u8], at: usize, flow: u32, count: i32) -> usize
-    requires { ⌜ at + 64 ≤ length (now out) ⌝ }
+    requires { ⌜ at + lineRoom ≤ length (now out) ⌝ }
     ensures { λ r. ⌜ TextWritten (lossLine flow count) (now (out .entry)) at r (now (out .exit)) ⌝ }
-    ensures { λ r. ⌜ r ≤ at + 64 ⌝ }
+    ensures { λ r. ⌜ r ≤ at + lineRoom ⌝ }
 {
     at + loss_line(&mut out[at..], flow, count)
 }
 
 // A line for a bucket that is not all zero.
 fn put_left(out: &mut [u8], at: usize, index: usize, count: i32, idsum: u32) -> usize
-    requires { ⌜ at + 64 ≤ length (now out) ⌝ }
+    requires { ⌜ at + lineRoom ≤ length (now out) ⌝ }
     ensures { λ r. ⌜ TextWritten (leftIfAny index count idsum) (now (out .entry)) at r (now (out .exit)) ⌝ }
-    ensures { λ r. ⌜ r ≤ at + 64 ⌝ }
+    ensures { λ r. ⌜ r ≤ at + lineRoom ⌝ }
 {
     if all_zero(count, idsum) {
         return at;
@@ -61,11 +62,11 @@ fn put_left(out: &mut [u8], at: usize, index: usize, count: i32, idsum: u32) -> 
 
 // The lines of the table.
 fn put_losses(out: &mut [u8], from: usize, flows: &[u32], numbers: &[i32], entries: usize) -> usize
-    requires { ⌜ from + 64 * entries ≤ length (now out) ⌝ }
+    requires { ⌜ from + lineRoom * entries ≤ length (now out) ⌝ }
     requires { ⌜ entries ≤ length (now flows) ⌝ }
     requires { ⌜ entries ≤ length (now numbers) ⌝ }
     ensures { λ r. ⌜ TextWritten (lossLines (now (flows .entry)) (now (numbers .entry)) entries) (now (out .entry)) from r (now (out .exit)) ⌝ }
-    ensures { λ r. ⌜ r ≤ from + 64 * entries ⌝ }
+    ensures { λ r. ⌜ r ≤ from + lineRoom * entries ⌝ }
 {
     let mut at = from;
     let mut i = 0;
@@ -78,10 +79,10 @@ fn put_losses(out: &mut [u8], from: usize, flows: &[u32], numbers: &[i32], entri
 
 // The lines of what is left.
 fn put_lefts(out: &mut [u8], from: usize, counts: &[i32], idsums: &[u32]) -> usize
-    requires { ⌜ from + 64 * length (now counts) ≤ length (now out) ⌝ }
+    requires { ⌜ from + lineRoom * length (now counts) ≤ length (now out) ⌝ }
     requires { ⌜ length (now idsums) ≡ length (now counts) ⌝ }
     ensures { λ r. ⌜ TextWritten (leftLines (now (counts .entry)) (now (idsums .entry)) (length (now (counts .entry)))) (now (out .entry)) from r (now (out .exit)) ⌝ }
-    ensures { λ r. ⌜ r ≤ from + 64 * length (now (counts .entry)) ⌝ }
+    ensures { λ r. ⌜ r ≤ from + lineRoom * length (now (counts .entry)) ⌝ }
 {
     let mut at = from;
     let mut i = 0;
@@ -103,9 +104,10 @@ pub fn report(
     idsums: &[u32],
     ending: Ending,
     pops: u32,
-    net: i64,
+    lost: u64,
+    extra: u64,
 ) -> usize
-    ensures { λ r. ⌜ Lined (reportFits (length (now (out .entry))) (length (now (flows .entry))) (length (now (numbers .entry))) entries (length (now (counts .entry))) (length (now (idsums .entry)))) (reportText (now (flows .entry)) (now (numbers .entry)) entries (now (counts .entry)) (now (idsums .entry)) ending pops net) (now (out .entry)) r (now (out .exit)) ⌝ }
+    ensures { λ r. ⌜ Lined (reportFits (length (now (out .entry))) (length (now (flows .entry))) (length (now (numbers .entry))) entries (length (now (counts .entry))) (length (now (idsums .entry)))) (reportText (now (flows .entry)) (now (numbers .entry)) entries (now (counts .entry)) (now (idsums .entry)) ending pops lost extra) (now (out .entry)) r (now (out .exit)) ⌝ }
 {
     let room = fits(
         out.len(),
@@ -120,5 +122,5 @@ pub fn report(
     }
     let mut at = put_losses(out, 0, flows, numbers, entries);
     at = put_lefts(out, at, counts, idsums);
-    at + end_line(&mut out[at..], ending, pops, net)
+    at + end_line(&mut out[at..], ending, pops, lost, extra)
 }

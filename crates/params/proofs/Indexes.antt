@@ -14,7 +14,7 @@ use Rattle.params.proofs.Searches.{and-true}
 use Rattle.params.proofs.Standing.{standing-in}
 
 -- a position lies within its array
-position-below : (P : Params) (i f : ℕ) → Dimensions P → position P i f < P .m
+pub position-below : (P : Params) (i f : ℕ) → Dimensions P → position P i f < P .m
 unfolding stand
 position-below P i f h = mod-lt _ (h .m-low)
 

@@ -1,4 +1,4 @@
--- Laws of the close and of the net figure, an entry at a time.
+-- Laws of the close and of the figures, an entry at a time.
 use mathlib.Core.Path.{_≡_, sym, ap, ap₂, _∙_}
 use mathlib.Core.Bool.{true, false, cond}
 use mathlib.Core.List.{List, [], _∷_, _++_, append-assoc, append-nil}
@@ -6,13 +6,13 @@ use Prim.Native.Nat.{ℕ, suc, _+_, _-_, _<_, _≤_}
 use native.Mathlib.Nat.{sub-zero, zero-add}
 use native.Mathlib.Numerals.{add-one}
 use native.Mathlib.Omega.{arith}
-use lib.IntN.{ℤ, pos, _+ℤ_, +ℤ-idl}
+use lib.IntN.{ℤ, pos}
 use lib.ListN.{length, getD, set}
 use lib.Seq.{getD-set-same, getD-set-other}
 use Rattle.params.specs.Lists.{from}
 use Rattle.sketch.specs.Sketch.{Entry, by}
 use Rattle.sketch.proofs.Tables.{from-same}
-use Rattle.walk.specs.Walk.{close, netFigure}
+use Rattle.walk.specs.Walk.{close, summed}
 use Rattle.buckets.specs.Buckets.{isZero}
 use Rattle.peel.specs.Table.{row, tableOf}
 use Rattle.peel.proofs.Froms.{from-last}
@@ -68,20 +68,21 @@ pub close-all : (fs : List ℕ) (ns : List ℤ) (w i k : ℕ) (goal : List Entry
 unfolding from close
 close-all fs ns w i k goal e v = sym (append-nil (tableOf fs ns w)) ∙ rw e at v
 
--- the net figure of the entries from i on
-pub net-step : (fs : List ℕ) (ns : List ℤ) (i n : ℕ) → i < n → netFigure (from i (n - i) (row fs ns)) ≡ getD ns i (pos 0) +ℤ netFigure (from (i + 1) (n - (i + 1)) (row fs ns))
-unfolding from netFigure
-net-step fs ns i n l =
-    let e : n - i ≡ suc (n - (i + 1)) = omega arith in
-    ap (λ (k : ℕ). netFigure (from i k (row fs ns))) e ∙ rw add-one
+-- a figure of the entries from i on
+module _ (part : ℤ → ℕ) (fs : List ℕ) (ns : List ℤ) where
+  pub summed-step : (i n : ℕ) → i < n → summed part (from i (n - i) (row fs ns)) ≡ part (getD ns i (pos 0)) + summed part (from (i + 1) (n - (i + 1)) (row fs ns))
+  unfolding from summed
+  summed-step i n l =
+      let e : n - i ≡ suc (n - (i + 1)) = omega arith in
+      ap (λ (k : ℕ). summed part (from i k (row fs ns))) e ∙ rw add-one
 
-pub net-none : (fs : List ℕ) (ns : List ℤ) (n : ℕ) → pos 0 +ℤ netFigure (from 0 (n - 0) (row fs ns)) ≡ netFigure (tableOf fs ns n)
-unfolding tableOf
-net-none fs ns n = +ℤ-idl _ ∙ ap (λ (k : ℕ). netFigure (from 0 k (row fs ns))) (sub-zero n)
+  pub summed-none : (n : ℕ) → 0 + summed part (from 0 (n - 0) (row fs ns)) ≡ summed part (tableOf fs ns n)
+  unfolding tableOf
+  summed-none n = zero-add _ ∙ ap (λ (k : ℕ). summed part (from 0 k (row fs ns))) (sub-zero n)
 
-pub net-all : (fs : List ℕ) (ns : List ℤ) (i k : ℕ) → k ≡ 0 → netFigure (from i k (row fs ns)) ≡ pos 0
-unfolding from netFigure
-net-all fs ns i k e = rw e
+  pub summed-all : (i k : ℕ) → k ≡ 0 → summed part (from i k (row fs ns)) ≡ 0
+  unfolding from summed
+  summed-all i k e = rw e
 
 -- the table below n, with what is past it changed
 pub table-kept : (fs fs' : List ℕ) (ns ns' : List ℤ) (n : ℕ) → ((k : ℕ) → k < n → getD fs' k 0 ≡ getD fs k 0) → ((k : ℕ) → k < n → getD ns' k (pos 0) ≡ getD ns k (pos 0)) → tableOf fs' ns' n ≡ tableOf fs ns n

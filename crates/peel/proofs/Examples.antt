@@ -1,4 +1,4 @@
--- The examples E2 to E6, E9 and E10 of the bench and an old sketch of flow 0, as a caller of `peel` meets them, under a single theorem, `all-right`: the answer, and all that each slice
+-- The examples E2 to E6, E9 and E10 of the bench, a loss beside a gain and an old sketch of flow 0, as a caller of `peel` meets them, under a single theorem, `all-right`: the answer, and all that each slice
 -- holds after. The checker works every line out by the definitions. crates/walk has the whole table, over the definition of the walk.
 use mathlib.Core.Path.{_≡_, refl}
 use mathlib.Core.List.{List, [], _∷_, map}
@@ -13,12 +13,12 @@ use Rattle.params.specs.Params.{pairAt, twins, goodDimensions, goodParams, leng
 use Rattle.params.specs.Positions.{stand, standsIn}
 use Rattle.buckets.specs.Buckets.{inLimits}
 use Rattle.sketch.specs.Sketch.{Sketch}
-use Rattle.walk.specs.Walk.{all, any, nothingRemains, less, has, entryOf, credited, waits, requeue, inRange, hasRoom, taken, takes, follows, popped, before, after, run, firstQueue, walk, close, netFigure}
+use Rattle.walk.specs.Walk.{all, any, nothingRemains, less, has, entryOf, credited, waits, requeue, inRange, hasRoom, taken, takes, follows, popped, before, after, run, firstQueue, walk, close, summed}
 use Rattle.walk.specs.Purity.{testIn}
-use Rattle.walk.proofs.Examples.{K, S0, S1, S3, remainder3, S5, S6, SZ}
+use Rattle.walk.proofs.Examples.{K, S0, S1, S3, remainder3, S5, S6, SL, SZ}
 use Rattle.peel.specs.declared.peeling.Peeled.{Peeled}
 use Rattle.peel.specs.Slices.{Slices, slices}
-use Rattle.peel.specs.Peel.{walkLentAnswer, peelAnswer, flowsOf, numbersOf, padded, peeledNumber, peeledEnding, peeledPops, peeledNet, peeledEntries, peelReturns, peelLeaves}
+use Rattle.peel.specs.Peel.{walkLentAnswer, peelAnswer, flowsOf, numbersOf, padded, peeledNumber, peeledEnding, peeledPops, peeledLost, peeledExtra, peeledEntries, peelReturns, peelLeaves}
 
 -- a sketch peeled into a table of that many slots, with an allowance of pops
 pub record Call : Type 0 where
@@ -26,12 +26,13 @@ pub record Call : Type 0 where
   pub slots : ℕ
   pub allowance : ℕ
 
--- what it returns: the number, the ending, the pops, the net figure and the entries; and what the slices hold
+-- what it returns: the number, the ending, the pops, lost, extra and the entries; and what the slices hold
 pub record Reply : Type 0 where
   pub number : ℕ
   pub ending : ℕ
   pub pops : ℕ
-  pub net : ℤ
+  pub lost : ℕ
+  pub extra : ℕ
   pub entries : ℕ
   pub left : Slices
 
@@ -42,7 +43,15 @@ lent c =
 
 abbrev replyBy : Peeled → Slices → Reply
 replyBy r L =
-    record { number = peeledNumber r; ending = peeledEnding r; pops = peeledPops r; net = peeledNet r; entries = peeledEntries r; left = L }
+    record {
+      number = peeledNumber r;
+      ending = peeledEnding r;
+      pops = peeledPops r;
+      lost = peeledLost r;
+      extra = peeledExtra r;
+      entries = peeledEntries r;
+      left = L;
+    }
 
 -- what the definitions tell
 abbrev pub reply : Call → Reply
@@ -57,13 +66,14 @@ abbrev call : Sketch → ℕ → ℕ → Call
 call S slots allowance = record { held = S; slots = slots; allowance = allowance }
 
 -- peeling ended, and left this sketch and these table slices; the queue and the marks are all 0
-abbrev ends : ℕ → ℕ → ℤ → ℕ → Sketch → List ℕ → List ℤ → Reply
-ends ending pops net entries S flows numbers =
+abbrev ends : ℕ → ℕ → ℕ → ℕ → ℕ → Sketch → List ℕ → List ℤ → Reply
+ends ending pops lost extra entries S flows numbers =
     record {
       number = 0;
       ending = ending;
       pops = pops;
-      net = net;
+      lost = lost;
+      extra = extra;
       entries = entries;
       left = slices (S .counts) (S .idsums) flows numbers (replicate 10 0) (replicate 10 0);
     }
@@ -75,24 +85,26 @@ c gives t = record { asked = c; answer = t }
 abbrev pub examples : List Line
 examples =
     -- E2
-    (call S1 10 80 gives ends 1 3 (pos 3) 2 S0 (12 ∷ 7 ∷ replicate 8 0) (pos 2 ∷ pos 1 ∷ replicate 8 (pos 0)))
+    (call S1 10 80 gives ends 1 3 3 0 2 S0 (12 ∷ 7 ∷ replicate 8 0) (pos 2 ∷ pos 1 ∷ replicate 8 (pos 0)))
     -- E3
-    ∷ (call S3 10 10 gives ends 3 10 (pos 2) 1 remainder3 (7 ∷ replicate 9 0) (pos 2 ∷ replicate 9 (pos 0)))
+    ∷ (call S3 10 10 gives ends 3 10 2 0 1 remainder3 (7 ∷ replicate 9 0) (pos 2 ∷ replicate 9 (pos 0)))
     -- E4
-    ∷ (call S3 10 9 gives ends 3 9 (pos 0) 0 S3 (replicate 10 0) (replicate 10 (pos 0)))
+    ∷ (call S3 10 9 gives ends 3 9 0 0 0 S3 (replicate 10 0) (replicate 10 (pos 0)))
     -- E5
-    ∷ (call S5 10 80 gives ends 2 0 (pos 0) 0 S5 (replicate 10 0) (replicate 10 (pos 0)))
+    ∷ (call S5 10 80 gives ends 2 0 0 0 0 S5 (replicate 10 0) (replicate 10 (pos 0)))
     -- E6
-    ∷ (call S6 10 80 gives ends 1 1 (negsuc 3) 1 S0 (7 ∷ replicate 9 0) (negsuc 3 ∷ replicate 9 (pos 0)))
+    ∷ (call S6 10 80 gives ends 1 1 0 4 1 S0 (7 ∷ replicate 9 0) (negsuc 3 ∷ replicate 9 (pos 0)))
     -- E9
-    ∷ (call S0 10 0 gives ends 1 0 (pos 0) 0 S0 (replicate 10 0) (replicate 10 (pos 0)))
-    ∷ (call S1 10 0 gives ends 3 0 (pos 0) 0 S1 (replicate 10 0) (replicate 10 (pos 0)))
+    ∷ (call S0 10 0 gives ends 1 0 0 0 0 S0 (replicate 10 0) (replicate 10 (pos 0)))
+    ∷ (call S1 10 0 gives ends 3 0 0 0 0 S1 (replicate 10 0) (replicate 10 (pos 0)))
     -- E10
-    ∷ (call S1 0 80 gives ends 6 2 (pos 0) 0 S1 [] [])
+    ∷ (call S1 0 80 gives ends 6 2 0 0 0 S1 [] [])
+    -- a loss beside a gain
+    ∷ (call SL 10 80 gives ends 1 2 5 5 2 S0 (20 ∷ 7 ∷ replicate 8 0) (negsuc 4 ∷ pos 5 ∷ replicate 8 (pos 0)))
     -- flow 0
-    ∷ (call SZ 10 80 gives ends 2 2 (pos 0) 0 SZ (replicate 10 0) (replicate 10 (pos 0)))
+    ∷ (call SZ 10 80 gives ends 2 2 0 0 0 SZ (replicate 10 0) (replicate 10 (pos 0)))
     ∷ []
 
 pub all-right : map (λ l. reply (l .asked)) examples ≡ map (λ l. l .answer) examples
-unfolding residue inverseIn inverse flow below least mapFrom touched from refuseAt first kept pairAt twins goodDimensions goodParams lengthsAnswer lentAnswer stand standsIn inLimits all any nothingRemains less has entryOf credited waits requeue inRange hasRoom taken takes follows popped before after run firstQueue walk close netFigure testIn walkLentAnswer peelAnswer flowsOf numbersOf padded
+unfolding residue inverseIn inverse flow below least mapFrom touched from refuseAt first kept pairAt twins goodDimensions goodParams lengthsAnswer lentAnswer stand standsIn inLimits all any nothingRemains less has entryOf credited waits requeue inRange hasRoom taken takes follows popped before after run firstQueue walk close summed testIn walkLentAnswer peelAnswer flowsOf numbersOf padded
 all-right = refl

@@ -20,7 +20,7 @@ use Rattle.peel.proofs.Judged.{judged-peelable}
 figures-are : {o : Outcome} {r : Figures} {L : Slices} → Leaves o r L → r ≡ figuresOf o
 figures-are {o} {r} {L} l =
     let many = entries-many (L .flows) (L .numbers) (r .entries) (closedTable o) (l .table) in
-    λ i. record { ending = l .ending i; entries = many i; net = l .net i; pops = l .pops i }
+    λ i. record { ending = l .ending i; entries = many i; lost = l .lost i; extra = l .extra i; pops = l .pops i }
 
 module _ (P : Params) (allowance : ℕ) (L : Slices) where
   pub not-peeled : (w : Refusal) (k : ℕ) → Refused w k ≡ judged P L → Peels P allowance L (NotPeeled w k) L

@@ -2,10 +2,11 @@
 use mathlib.Core.Path.{_≡_, refl, sym, ap, subst, _∙_}
 use mathlib.Core.Bool.{true, false}
 use mathlib.Core.List.{List, [], _∷_}
-use Prim.Native.Nat.{ℕ, _<_, _≤_}
+use Prim.Native.Nat.{ℕ, _+_, _*_, _<_, _≤_}
 use native.Mathlib.Omega.{arith}
-use lib.IntN.{ℤ, pos}
+use lib.IntN.{ℤ, pos, _+ℤ_, _-ℤ_}
 use lib.ListN.{length, getD, replicate}
+use Rattle.field.specs.Parts.{up, down}
 use Rattle.field.specs.Flow.{flow}
 use Rattle.params.specs.declared.params.Params.{Params}
 use Rattle.params.specs.declared.answers.Answer.{Answer}
@@ -18,9 +19,11 @@ use Rattle.sketch.specs.Sketch.{Sketch, Entry, by, countIn, idsumIn, sketchOf}
 use Rattle.sums.specs.Sums.{combined}
 use Rattle.sketch.proofs.Tables.{from-at}
 use Rattle.walk.specs.Endings.{endingNumber}
-use Rattle.walk.specs.Walk.{Outcome, firstQueue, walk, closedTable, netFigure}
+use Rattle.walk.specs.Walk.{Outcome, firstQueue, walk, closedTable, lostBy, extraBy}
 use Rattle.walk.specs.Purity.{pureTest, foundNumber}
 use Rattle.walk.proofs.Numbers.{pure-by-number, never-four as no-ending-four}
+use Rattle.walk.proofs.Figures.{allCounts, figures-differ as of-table}
+use Rattle.walk.proofs.Totals.{arrayTotal}
 use Rattle.walk.proofs.Promises as walks
 use Rattle.walk.proofs.Promises.{Whole, Nothing, scopeRule}
 use Rattle.params.proofs.Judging.{number-some}
@@ -28,7 +31,7 @@ use Rattle.peel.specs.declared.peeling.Peeled.{Peeled}
 use Rattle.peel.specs.declared.peeling.Peeled.the-variants.{Ended, Refused as NotPeeled}
 use Rattle.peel.specs.Slices.{Slices, lentSketch}
 use Rattle.peel.specs.Table.{row, tableOf}
-use Rattle.peel.specs.Peel.{peeledOf, peeledNumber, peeledIndex, peeledEnding, peeledPops, peeledNet, peeledEntries, flowsOf, numbersOf, padded, closedSlices, judged, walked, Peels}
+use Rattle.peel.specs.Peel.{peeledOf, peeledNumber, peeledIndex, peeledEnding, peeledPops, peeledLost, peeledExtra, peeledEntries, flowsOf, numbersOf, padded, closedSlices, judged, walked, Peels}
 use Rattle.peel.proofs.Padding.{padded-past, flows-many, numbers-many, table-padded}
 use Rattle.peel.proofs.Judged.{judged-whole, judged-peelable}
 
@@ -181,10 +184,6 @@ module _ {P : Params} {a : ℕ} {L : Slices} {r : Peeled} {L' : Slices} (h : Pee
     pub spent-only : peeledEnding r ≡ 3 → peeledPops r ≡ a
     spent-only e = pops-are ∙ walks.spent-only P (length (L .flows)) a S (sym ending-is ∙ e)
 
-    -- the net figure is that of the table
-    pub net-is : peeledNet r ≡ netFigure listed
-    net-is = ap peeledNet answer-is ∙ ap netFigure (sym listed-is)
-
     -- slot i of the table, below its entries
     slot-is : (i : ℕ) → i < peeledEntries r → getD closed i (by 0 (pos 0)) ≡ row (L' .flows) (L' .numbers) i
     unfolding tableOf
@@ -214,6 +213,39 @@ module _ {P : Params} {a : ℕ} {L : Slices} {r : Peeled} {L' : Slices} (h : Pee
 
     pub listed-few : peeledEntries r ≤ length (L .flows)
     listed-few = omega (arith, entries-are, walks.listed-few P (length (L .flows)) a S)
+
+    -- lost is the sum of the table's positive counts, and extra that of its negative ones without their sign
+    pub lost-is : peeledLost r ≡ lostBy listed
+    lost-is = ap peeledLost answer-is ∙ ap lostBy (sym listed-is)
+
+    pub extra-is : peeledExtra r ≡ extraBy listed
+    extra-is = ap peeledExtra answer-is ∙ ap extraBy (sym listed-is)
+
+    -- lost less extra is the sum of all its counts
+    pub figures-differ : pos (peeledLost r) -ℤ pos (peeledExtra r) ≡ allCounts listed
+    figures-differ = rw (lost-is, extra-is) (of-table listed)
+
+    -- what the counts of an array add up to is what is left of it, and lost less extra
+    pub totals : (i : ℕ) → 1 ≤ i → i ≤ P .d → arrayTotal P i S' +ℤ (pos (peeledLost r) -ℤ pos (peeledExtra r)) ≡ arrayTotal P i S
+    totals i l u = rw (remainder-is, answer-is) (walks.totals P (length (L .flows)) a S sound-input (judged-peelable P L done .dimensions) i l u)
+
+    -- so after a clean end lost less extra is the sum of all numbers of any list whose sketch was peeled
+    pub clean-total : peeledEnding r ≡ 1 → (es : List Entry) → S ≡ sketchOf P es → pos (peeledLost r) -ℤ pos (peeledExtra r) ≡ allCounts es
+    clean-total e es s =
+        rw answer-is (walks.clean-total P (length (L .flows)) a S sound-input (judged-peelable P L done .dimensions) (sym ending-is ∙ e) es s)
+
+    -- each loss is within lost and each gain within extra, whatever the other entries are
+    pub lost-shows : (i : ℕ) → i < peeledEntries r → up (getD (L' .numbers) i (pos 0)) ≤ peeledLost r
+    lost-shows i l =
+        omega (arith, ap peeledLost answer-is, ap (λ (e : Entry). up (e .number)) (slot-is i l), walks.lost-shows P (length (L .flows)) a S i (omega (arith, entries-are)))
+
+    pub extra-shows : (i : ℕ) → i < peeledEntries r → down (getD (L' .numbers) i (pos 0)) ≤ peeledExtra r
+    extra-shows i l =
+        omega (arith, ap peeledExtra answer-is, ap (λ (e : Entry). down (e .number)) (slot-is i l), walks.extra-shows P (length (L .flows)) a S i (omega (arith, entries-are)))
+
+    -- both together are at most as many times the limit as there are entries
+    pub figures-small : peeledLost r + peeledExtra r ≤ peeledEntries r * 2147483646
+    figures-small = rw answer-is (walks.figures-small P (length (L .flows)) a S)
 
     -- table slots past the entries, the queue and the marks are all 0
     pub cleared-flows : (k : ℕ) → peeledEntries r ≤ k → getD (L' .flows) k 0 ≡ 0

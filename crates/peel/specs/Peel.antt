@@ -14,7 +14,7 @@ use Rattle.params.specs.Answers.{numberOf, refuseIf, refuseAt, first, kept}
 use Rattle.params.specs.Params.{size, lentAnswer}
 use Rattle.sketch.specs.Sketch.{Sketch, Entry, damagedAt}
 use Rattle.walk.specs.Endings.{endingNumber}
-use Rattle.walk.specs.Walk.{Outcome, walk, closedTable, netOf}
+use Rattle.walk.specs.Walk.{Outcome, walk, closedTable, lostOf, extraOf}
 use Rattle.walk.specs.Purity.{ruleOf}
 use Rattle.peel.specs.Slices.{Slices, slices, lentSketch}
 use Rattle.peel.specs.declared.peeling.Figures.{Figures}
@@ -38,7 +38,7 @@ peelAnswer P S flows numbers queue marks =
 -- what is returned of an outcome
 abbrev pub figuresOf : Outcome → Figures
 figuresOf o =
-    record { ending = o .ending; entries = length (closedTable o); net = netOf o; pops = o .pops }
+    record { ending = o .ending; entries = length (closedTable o); lost = lostOf o; extra = extraOf o; pops = o .pops }
 
 -- a refusal, or else what peeling returns
 abbrev pub unlessRefused : Answer → Peeled → Peeled
@@ -49,7 +49,7 @@ abbrev pub peeledOf : Answer → Outcome → Peeled
 peeledOf r o = unlessRefused r (Ended (figuresOf o))
 
 -- the caller's number and values: 0 where peeling ended, else the refusal's number and index; the ending's number, the pops, the
--- net figure and the table's entries, all 0 where it is refused
+-- packets lost and extra and the table's entries, all 0 where it is refused
 abbrev pub peeledNumber : Peeled → ℕ
 peeledNumber (Ended g) = 0
 peeledNumber (NotPeeled w k) = numberOf w
@@ -66,9 +66,13 @@ abbrev pub peeledPops : Peeled → ℕ
 peeledPops (Ended g) = g .pops
 peeledPops (NotPeeled w k) = 0
 
-abbrev pub peeledNet : Peeled → ℤ
-peeledNet (Ended g) = g .net
-peeledNet (NotPeeled w k) = pos 0
+abbrev pub peeledLost : Peeled → ℕ
+peeledLost (Ended g) = g .lost
+peeledLost (NotPeeled w k) = 0
+
+abbrev pub peeledExtra : Peeled → ℕ
+peeledExtra (Ended g) = g .extra
+peeledExtra (NotPeeled w k) = 0
 
 abbrev pub peeledEntries : Peeled → ℕ
 peeledEntries (Ended g) = g .entries

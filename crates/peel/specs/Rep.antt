@@ -9,7 +9,7 @@ use Rattle.params.specs.declared.params.Params.{Params}
 use Rattle.params.specs.Params.{prime, Dimensions}
 use Rattle.params.specs.Positions.{Positioned}
 use Rattle.buckets.specs.Buckets.{inLimits}
-use Rattle.walk.specs.Walk.{State, Outcome, entryOf, taken, closedTable, netOf}
+use Rattle.walk.specs.Walk.{State, Outcome, entryOf, taken, closedTable, lostOf, extraOf}
 use Rattle.walk.specs.Purity.{ruleOf}
 use Rattle.peel.specs.declared.take.Taken.{Taken}
 use Rattle.peel.specs.declared.walking.Walked.{Walked}
@@ -75,7 +75,8 @@ pub record Peelable (P : Params) (L : Slices) : Type 0 where
 pub record Leaves (o : Outcome) (r : Figures) (L : Slices) : Type 0 where
   pub ending : r .ending ≡ o .ending
   pub pops : r .pops ≡ o .pops
-  pub net : r .net ≡ netOf o
+  pub lost : r .lost ≡ lostOf o
+  pub extra : r .extra ≡ extraOf o
   pub remainder : lentSketch L ≡ o .remainder
   pub table : tableOf (L .flows) (L .numbers) (r .entries) ≡ closedTable o
   pub room : r .entries ≤ length (L .flows)

@@ -6,7 +6,7 @@ use lib.IntN.{ℤ, pos}
 use lib.ListN.{getD, length}
 use Rattle.params.specs.Lists.{from}
 use Rattle.sketch.specs.Sketch.{Entry, by}
-use Rattle.walk.specs.Walk.{credited, close, netFigure}
+use Rattle.walk.specs.Walk.{credited, close, lostBy, extraBy}
 use Rattle.peel.specs.declared.table.Listed.{Listed}
 
 -- the entry in slot i, and the first n entries
@@ -37,10 +37,17 @@ pub record Closed (fs : List ℕ) (ns : List ℤ) (n : ℕ) (fs' : List ℕ) (ns
   pub table : tableOf fs' ns' r ≡ close (tableOf fs ns n)
   pub within : r ≤ n
 
+-- the figures of the first n entries, which do not go by their flows
+pub record Adds (ns : List ℤ) (n : ℕ) (r : Listed) : Type 0 where
+  pub entries : r .entries ≡ n
+  pub lost : (fs : List ℕ) → r .lost ≡ lostBy (tableOf fs ns n)
+  pub extra : (fs : List ℕ) → r .extra ≡ extraBy (tableOf fs ns n)
+
 pub record Lists (fs : List ℕ) (ns : List ℤ) (n : ℕ) (r : Listed) (fs' : List ℕ) (ns' : List ℤ) : Type 0 where
   pub table : tableOf fs' ns' (r .entries) ≡ close (tableOf fs ns n)
   pub within : r .entries ≤ n
-  pub net : r .net ≡ netFigure (close (tableOf fs ns n))
+  pub lost : r .lost ≡ lostBy (close (tableOf fs ns n))
+  pub extra : r .extra ≡ extraBy (close (tableOf fs ns n))
   pub long : length fs' ≡ length fs
   pub long-numbers : length ns' ≡ length ns
   pub past : (k : ℕ) → r .entries ≤ k → getD fs' k 0 ≡ 0

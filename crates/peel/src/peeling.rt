@@ -16,11 +16,13 @@ use params::Params;
 use params::Refusal;
 use walk::Ending;
 
-// What a walk found: its ending, the entries of its closed table, the sum of their counts, and the pops made.
+// What a walk found: its ending, the entries of its closed table, the packets lost by them, which is the sum of their positive counts,
+// those extra, which is the sum of the negative ones without their sign, and the pops made.
 pub struct Figures {
     pub ending: Ending,
     pub entries: usize,
-    pub net: i64,
+    pub lost: u64,
+    pub extra: u64,
     pub pops: u32,
 }
 
@@ -108,7 +110,8 @@ fn unravel(
     Figures {
         ending,
         entries: listed.entries,
-        net: listed.net,
+        lost: listed.lost,
+        extra: listed.extra,
         pops,
     }
 }

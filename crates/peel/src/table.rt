@@ -5,24 +5,25 @@
 // d * m, at most 65536.
 ghost use mathlib.Core.Path.{_≡_};
 ghost use mathlib.Core.Bool.{true};
-ghost use mathlib.Core.List.{List};
-ghost use Prim.Native.Nat.{ℕ, _/_, _<_, _≤_};
+ghost use Prim.Native.Nat.{_/_, _<_, _≤_};
 ghost use lib.IntN.{pos, _+ℤ_};
 ghost use lib.ListN.{length, getD};
+ghost use Rattle.field.specs.Parts.{up, down};
 ghost use Rattle.buckets.specs.Buckets.{inLimits};
-ghost use Rattle.walk.specs.Walk.{entryOf, netFigure};
+ghost use Rattle.walk.specs.Walk.{entryOf};
 ghost use Rattle.peel.specs.Ring.{Cleared};
 ghost use Rattle.params.specs.Params.{Dimensions};
 ghost use Rattle.peel.specs.Chains.{chainBy, chainKey, Chained, Linked, Relinked};
-ghost use Rattle.peel.specs.Table.{tableOf, Finds, FindsFrom, Credited, Closed, Lists};
+ghost use Rattle.peel.specs.Table.{tableOf, Finds, FindsFrom, Credited, Closed, Adds, Lists};
 use crate::queue::clear;
 use params::PRIME;
 use params::Params;
 
-// How many entries a closed table has, and the sum of their numbers.
+// How many entries a closed table has, the sum of their positive numbers, and that of the negative ones without their sign.
 pub(crate) struct Listed {
     pub entries: usize,
-    pub net: i64,
+    pub lost: u64,
+    pub extra: u64,
 }
 
 // Which of so many chains a flow belongs to, by its value in an array with the pair a, b, before that is reduced to a position.
@@ -145,18 +146,45 @@ fn clear_numbers(s: &mut [i32], n: usize)
     }
 }
 
-// The net figure: the sum of the first n entries' numbers.
-fn net_of(numbers: &[i32], n: usize) -> i64
-    requires { ⌜ (n ≤ length (now numbers)) × (n ≤ 65536) ⌝ }
-    ensures { λ r. ⌜ ((fs : List ℕ) → r ≡ netFigure (tableOf fs (now (numbers .entry)) n)) ⌝ }
+// A number's part above 0.
+fn above(z: i32) -> u64
+    ensures { λ r. ⌜ r ≡ up z ⌝ }
 {
-    let mut sum: i64 = 0;
+    if z < 0 {
+        return 0;
+    }
+    z as u64
+}
+
+// Its part below 0, without the sign.
+fn below(z: i32) -> u64
+    ensures { λ r. ⌜ r ≡ down z ⌝ }
+{
+    if z < 0 {
+        return (-(z as i64)) as u64;
+    }
+    0
+}
+
+// What the first n entries add up to.
+fn add_up(numbers: &[i32], n: usize) -> Listed
+    requires { ⌜ (n ≤ length (now numbers)) × (n ≤ 65536) ⌝ }
+    ensures { λ r. ⌜ Adds (now (numbers .entry)) n r ⌝ }
+{
+    let mut lost: u64 = 0;
+    let mut extra: u64 = 0;
     let mut i = 0;
     while i < n {
-        sum += numbers[i] as i64;
+        let c = numbers[i];
+        lost += above(c);
+        extra += below(c);
         i += 1;
     }
-    sum
+    Listed {
+        entries: n,
+        lost,
+        extra,
+    }
 }
 
 // The close: entries with number 0 go, the others keep their order, and all slots past them are 0.
@@ -167,6 +195,5 @@ pub(crate) fn close(flows: &mut [u32], numbers: &mut [i32], n: usize) -> Listed
     let entries = compact(flows, numbers, n);
     clear(flows, entries);
     clear_numbers(numbers, entries);
-    let net = net_of(numbers, entries);
-    Listed { entries, net }
+    add_up(numbers, entries)
 }

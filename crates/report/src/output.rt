@@ -1,14 +1,15 @@
 // The output: all lines in one buffer, written out at once.
 use crate::MOST;
+use lines::lines::LINE_ROOM;
 use params::Refusal;
 use peel::peeling::Figures;
 
-// Room for a line of 64 bytes for each entry, each bucket and the end; no line is longer.
-const ROOM: usize = 64 * (2 * MOST + 1);
+// Room for a line for each entry, each bucket and the end.
+const ROOM: usize = LINE_ROOM * (2 * MOST + 1);
 
 // The one line of a refusal.
 pub(crate) fn refusal(refusal: Refusal, at: usize) {
-    let mut out = [0u8; 64];
+    let mut out = [0u8; LINE_ROOM];
     let n = lines::lines::refused_line(&mut out, refusal, at);
     write_front(&out, n);
 }
@@ -32,7 +33,8 @@ pub(crate) fn report(
         idsums,
         ending,
         figures.pops,
-        figures.net,
+        figures.lost,
+        figures.extra,
     );
     write_front(&out, n);
 }

@@ -10,7 +10,8 @@ use borrow.Author.Tests.{eq-eqb, le-leb}
 use lib.IntN.{ℤ, pos, natAbs, negℤ, _-ℤ_}
 use lib.Signed.{_≤ℤ_}
 use lib.ListN.{length, getD}
-use Rattle.field.proofs.Parts.{int, up, down, up-down-add, up-neg, down-neg, abs-parts, one-part}
+use Rattle.field.specs.Parts.{up, down}
+use Rattle.field.proofs.Parts.{int, up-down-add, up-neg, down-neg, abs-parts, one-part}
 use Rattle.field.proofs.Residues.{residue-below}
 use Rattle.params.specs.declared.params.Params.{Params}
 use Rattle.params.specs.declared.answers.Answer.the-variants.{Done}

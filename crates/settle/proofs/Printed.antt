@@ -30,7 +30,7 @@ use Rattle.files.specs.Records.{headLength}
 use Rattle.files.specs.Heads.{paramsIn, headAnswer}
 use Rattle.streamfile.specs.Streams.{streamAnswer, StreamRead}
 use Rattle.streamfile.proofs.FreshStreams.{fresh-grown}
-use Rattle.lines.specs.Lines.{refusedLine, Lined, lineFits}
+use Rattle.lines.specs.Lines.{refusedLine, Lined, lineRoom, lineFits}
 use Rattle.lines.specs.Reports.{reportText, walkText, reportFits}
 use Rattle.desk.specs.declared.states.Fed.{Fed}
 use Rattle.desk.specs.Desk.{mostBuckets, fewEnough, beginOf, started, offsetsFit, packetsSketch, rest, downstreamHeaded, fedState, lentBoth, Feeds, finishAnswer}
@@ -53,9 +53,9 @@ front {fits} {text} {out} {out'} {n} room l =
 
 -- of a report, in as many bytes as the program lends
 module _ {P : Params} {input text : List ℕ} (r : Reported P input text) where
-  pub report-printed : {out out' : List ℕ} {n : ℕ} → length out ≡ 64 * (2 * mostBuckets + 1)
+  pub report-printed : {out out' : List ℕ} {n : ℕ} → length out ≡ lineRoom * (2 * mostBuckets + 1)
       → Lined (reportFits (length out) (length (r .after .flows)) (length (r .after .numbers)) (r .figures .entries) (length (r .after .counts)) (length (r .after .idsums)))
-      (reportText (r .after .flows) (r .after .numbers) (r .figures .entries) (r .after .counts) (r .after .idsums) (r .figures .ending) (r .figures .pops) (r .figures .net)) out n out'
+      (reportText (r .after .flows) (r .after .numbers) (r .figures .entries) (r .after .counts) (r .after .idsums) (r .figures .ending) (r .figures .pops) (r .figures .lost) (r .figures .extra)) out n out'
       → (n ≡ length text) × (take n out' ≡ text)
   report-printed {out} e l =
       let fits = ap (λ (o : ℕ). reportFits o (length (r .after .flows)) (length (r .after .numbers)) (r .figures .entries) (length (r .after .counts)) (length (r .after .idsums))) e ∙ report-fits r in
@@ -115,7 +115,7 @@ module _ {a b : List ℕ} {S T : Sketch} (one : StreamRead (paramsIn a) a (zeros
   text =
       let L = closedSlices P outcome peeled in
       let g = figuresOf outcome in
-      reportText (L .flows) (L .numbers) (g .entries) (L .counts) (L .idsums) (g .ending) (g .pops) (g .net)
+      reportText (L .flows) (L .numbers) (g .entries) (L .counts) (L .idsums) (g .ending) (g .pops) (g .lost) (g .extra)
 
   made : Reported P (a ++ b) text
   made =
@@ -157,7 +157,7 @@ pub reason : {input : List ℕ} {w : Refusal} {k : ℕ} → TurnedAway input w k
 reason {input} {w} {k} (by-head e) = ⊎-elim no-right-head (λ h. too-many-buckets (h .0) (h .1) (h .2) (h .3)) (begin-refused input w k e)
 reason {input} {w} {k} (by-records P r up down head near fed e) = ⊎-elim (upstream-at-fault P head) (downstream-at-fault P head) (refused-as P input r up down head near fed w k e)
 
--- what is printed of it, in an output of 64 bytes or more, is one line with that number and that byte
-pub refusal-printed : {input : List ℕ} {w : Refusal} {k n : ℕ} {out out' : List ℕ} → TurnedAway input w k → 64 ≤ length out → Lined (lineFits out) (refusedLine w k) out n out'
+-- what is printed of it, in an output with room for a line, is one line with that number and that byte
+pub refusal-printed : {input : List ℕ} {w : Refusal} {k n : ℕ} {out out' : List ℕ} → TurnedAway input w k → lineRoom ≤ length out → Lined (lineFits out) (refusedLine w k) out n out'
     → (n ≡ length (refusedLine w k)) × (take n out' ≡ refusedLine w k) × Reason input w k
-refusal-printed {out = out} t h l = let p = front (le-leb 64 (length out) h) l in (p .0, p .1, reason t)
+refusal-printed {out = out} t h l = let p = front (le-leb lineRoom (length out) h) l in (p .0, p .1, reason t)

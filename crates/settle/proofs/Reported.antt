@@ -5,23 +5,26 @@ use mathlib.Core.List.{List, [], _∷_, _++_}
 use Prim.Native.Nat.{ℕ, _+_, _-_, _*_, _≤_}
 use native.Mathlib.Omega.{arith}
 use borrow.Author.Tests.{leb-true, le-leb, eq-eqb}
-use lib.IntN.{ℤ, pos}
+use lib.IntN.{ℤ, pos, _-ℤ_}
 use lib.ListN.{length, drop, replicate, length-append, length-replicate}
 use Rattle.params.specs.declared.params.Params.{Params}
 use Rattle.params.specs.declared.answers.Answer.the-variants.{Done}
 use Rattle.params.specs.Params.{size}
 use Rattle.sketch.specs.Sketch.{Sketch, Entry, zeros}
 use Rattle.sums.specs.Sums.{combined}
-use Rattle.walk.specs.Walk.{Outcome, walk, closedTable, netOf}
+use Rattle.sums.specs.History.{negated}
+use Rattle.walk.specs.Walk.{Outcome, walk, closedTable, lostOf, extraOf}
 use Rattle.walk.specs.Purity.{ruleOf}
+use Rattle.walk.specs.Endings.{endingNumber}
+use Rattle.walk.proofs.Figures.{allCounts, counts-less}
 use Rattle.peel.specs.declared.peeling.Figures.{Figures}
 use Rattle.peel.specs.declared.peeling.Peeled.{Peeled}
 use Rattle.peel.specs.declared.peeling.Peeled.the-variants.{Ended, Refused as NotPeeled}
 use Rattle.peel.specs.Slices.{Slices, lentSketch}
 use Rattle.peel.specs.Peel.{figuresOf, peeledOf, flowsOf, numbersOf, padded, closedSlices, judged, walked, Peels}
 use Rattle.peel.proofs.Padding.{flows-many, numbers-many}
-use Rattle.peel.proofs.Promised.{remainder-whole, listed-few}
-use Rattle.lines.specs.Lines.{lossLine, endLine}
+use Rattle.peel.proofs.Promised.{remainder-whole, listed-few, clean-total}
+use Rattle.lines.specs.Lines.{lossLine, endLine, lineRoom}
 use Rattle.lines.specs.Reports.{lossLines, leftLines, entryLines, reportText, walkText, reportFits}
 use Rattle.lines.proofs.Reporting.{losses-first, losses-none}
 use Rattle.params.proofs.Judging.{kept-new}
@@ -34,7 +37,7 @@ use Rattle.desk.proofs.Accepted.{TwoStreams, few-begun, near-done, accepted}
 use Rattle.desk.proofs.Accepts.{accepts}
 use Rattle.settle.specs.Settling.{settleJudged, lessDownstream, Settles}
 use Rattle.settle.proofs.Settled.{settled-is-peeled, settled-ends}
-use Rattle.settle.proofs.TwoStreams.{streams-settle, lost, by-net-counts}
+use Rattle.settle.proofs.TwoStreams.{streams-settle, packetsOf, netBetween, difference-packets, by-net-counts}
 use Rattle.files.specs.Records.{headLength}
 
 -- slices that begin with a table have its lines
@@ -46,10 +49,10 @@ table-lines (e ∷ es) fs ns =
 
 -- the text that is written of a walk's figures, of its remainder and of the slices that hold its table
 walk-text : (o : Outcome) (n m : ℕ) → let es = closedTable o in let g = figuresOf o in
-    reportText (padded n 0 (flowsOf es)) (padded m (pos 0) (numbersOf es)) (g .entries) (o .remainder .counts) (o .remainder .idsums) (g .ending) (g .pops) (g .net) ≡ walkText o
+    reportText (padded n 0 (flowsOf es)) (padded m (pos 0) (numbersOf es)) (g .entries) (o .remainder .counts) (o .remainder .idsums) (g .ending) (g .pops) (g .lost) (g .extra) ≡ walkText o
 unfolding reportText walkText padded
 walk-text o n m =
-    ap (λ ys. ys ++ (leftLines (o .remainder .counts) (o .remainder .idsums) (length (o .remainder .counts)) ++ endLine (o .ending) (o .pops) (netOf o)))
+    ap (λ ys. ys ++ (leftLines (o .remainder .counts) (o .remainder .idsums) (length (o .remainder .counts)) ++ endLine (o .ending) (o .pops) (lostOf o) (extraOf o)))
     (table-lines (closedTable o) _ _)
 
 -- a list in as many slots as are there
@@ -75,7 +78,7 @@ pub record Reported (P : Params) (input text : List ℕ) : Type 0 where
   pub figures : Figures
   pub after : Slices
   pub settled : Settles P down lent (Ended figures) after
-  pub written : text ≡ reportText (after .flows) (after .numbers) (figures .entries) (after .counts) (after .idsums) (figures .ending) (figures .pops) (figures .net)
+  pub written : text ≡ reportText (after .flows) (after .numbers) (figures .entries) (after .counts) (after .idsums) (figures .ending) (figures .pops) (figures .lost) (figures .extra)
 
 module _ {P : Params} {input text : List ℕ} (r : Reported P input text) where
   -- the two streams that the input is
@@ -115,13 +118,13 @@ module _ {P : Params} {input text : List ℕ} (r : Reported P input text) where
   pub report-of-walk : text ≡ walkText (walk (ruleOf P) (size P) (8 * size P) difference)
   report-of-walk =
       let g = r .figures in
-      let read : reportText (r .after .flows) (r .after .numbers) (g .entries) (r .after .counts) (r .after .idsums) (g .ending) (g .pops) (g .net) ≡ walkText outcome =
+      let read : reportText (r .after .flows) (r .after .numbers) (g .entries) (r .after .counts) (r .after .idsums) (g .ending) (g .pops) (g .lost) (g .extra) ≡ walkText outcome =
       rw (after-is, figures-are) (walk-text outcome (length (r .lent .flows)) (length (r .lent .numbers)))
       in
       r .written ∙ read ∙ ap (λ n. walkText (walk (ruleOf P) n (8 * size P) difference)) (r .long .0)
 
-  -- it fits in 64 bytes for each of twice the most buckets that a desk takes and one more, which is what the program lends
-  pub report-fits : reportFits (64 * (2 * mostBuckets + 1)) (length (r .after .flows)) (length (r .after .numbers)) (r .figures .entries) (length (r .after .counts)) (length (r .after .idsums)) ≡ true
+  -- it fits where there is room for as many lines as twice the most buckets that a desk takes and one more, which is what the program lends
+  pub report-fits : reportFits (lineRoom * (2 * mostBuckets + 1)) (length (r .after .flows)) (length (r .after .numbers)) (r .figures .entries) (length (r .after .counts)) (length (r .after .idsums)) ≡ true
   unfolding fewEnough
   report-fits =
       let whole = remainder-whole peels refl in
@@ -130,7 +133,7 @@ module _ {P : Params} {input text : List ℕ} (r : Reported P input text) where
       let entries-are : r .figures .entries ≡ length (closedTable outcome) = ap (λ g. g .entries) figures-are in
       let flows = ap (λ (L : Slices). length (L .flows)) after-is ∙ padded-long (length (r .lent .flows)) 0 _ (omega (arith, entries, entries-are, flows-many (closedTable outcome))) in
       let numbers = ap (λ (L : Slices). length (L .numbers)) after-is ∙ padded-long (length (r .lent .numbers)) (pos 0) _ (omega (arith, entries, entries-are, numbers-many (closedTable outcome), r .long .0, r .long .1)) in
-      rw (le-leb (r .figures .entries) (length (r .after .flows)) (omega (arith, flows, entries)), le-leb (r .figures .entries) (length (r .after .numbers)) (omega (arith, numbers, entries, r .long .0, r .long .1)), eq-eqb (length (r .after .idsums)) (length (r .after .counts)) (omega (arith, whole .counts-long, whole .idsums-long)), le-leb (64 * (r .figures .entries + length (r .after .counts) + 1)) (64 * (2 * mostBuckets + 1)) (omega (arith, entries, few, r .long .0, whole .counts-long)))
+      rw (le-leb (r .figures .entries) (length (r .after .flows)) (omega (arith, flows, entries)), le-leb (r .figures .entries) (length (r .after .numbers)) (omega (arith, numbers, entries, r .long .0, r .long .1)), eq-eqb (length (r .after .idsums)) (length (r .after .counts)) (omega (arith, whole .counts-long, whole .idsums-long)), le-leb (lineRoom * (r .figures .entries + length (r .after .counts) + 1)) (lineRoom * (2 * mostBuckets + 1)) (omega (arith, entries, few, r .long .0, whole .counts-long)))
 
   -- where the input is two streams, one directly after the other, the sketches are what their reader makes of them
   module _ {a b : List ℕ} {S T : Sketch} (is : input ≡ a ++ b) (one : StreamRead P a (zeros P) Done S) (two : StreamRead P b (zeros P) Done T) where
@@ -140,10 +143,15 @@ module _ {P : Params} {input text : List ℕ} (r : Reported P input text) where
         let same = accepts one two (few-begun P input (r .head)) (r .fed) (lentSketch (r .lent)) (r .down) (near-done fed (r .finished)) fed in
         ap₂ (combined true) (same .1) (same .2)
 
+    -- after a clean end lost less extra is how many packets more the upstream stream has than the downstream one
+    pub clean-packets : endingNumber (r .figures .ending) ≡ 1 → pos (r .figures .lost) -ℤ pos (r .figures .extra) ≡ allCounts (packetsOf a) -ℤ allCounts (packetsOf b)
+    clean-packets e =
+        clean-total peels refl e (packetsOf a ++ negated (packetsOf b)) (difference-is ∙ difference-packets one two) ∙ counts-less (packetsOf a) (packetsOf b)
+
 -- so two inputs of the same parameters, whose streams differ by the same packets of each flow, have the same report
 pub same-report : {P : Params} {a b a' b' text text' : List ℕ} {S T S' T' : Sketch} → Reported P (a ++ b) text → Reported P (a' ++ b') text'
     → StreamRead P a (zeros P) Done S → StreamRead P b (zeros P) Done T → StreamRead P a' (zeros P) Done S' → StreamRead P b' (zeros P) Done T'
-    → ((f : ℕ) → lost a b f ≡ lost a' b' f) → text ≡ text'
+    → ((f : ℕ) → netBetween a b f ≡ netBetween a' b' f) → text ≡ text'
 same-report {P} r r' one two one' two' e =
     report-of-walk r
     ∙ ap (λ D. walkText (walk (ruleOf P) (size P) (8 * size P) D)) (difference-is r refl one two ∙ by-net-counts one two one' two' e ∙ sym (difference-is r' refl one' two'))

@@ -1,7 +1,7 @@
 -- Two streams that were read into fresh sketches: of their subtraction comes no RANGE, nothing else is refused, and the difference depends on the parameters and net counts alone.
 use mathlib.Core.Path.{_≡_, refl, sym}
 use mathlib.Core.Bool.{true}
-use mathlib.Core.List.{List}
+use mathlib.Core.List.{List, _++_}
 use Prim.Native.Nat.{ℕ, _≤_}
 use borrow.Author.Tests.{eq-eqb}
 use lib.IntN.{ℤ, pos, _-ℤ_}
@@ -10,11 +10,11 @@ use Rattle.params.specs.declared.params.Params.{Params}
 use Rattle.params.specs.declared.answers.Answer.the-variants.{Done}
 use Rattle.params.specs.Params.{size, goodParams, lengthsAnswer, lentAnswer}
 use Rattle.params.specs.Answers.{kept}
-use Rattle.sketch.specs.Sketch.{Sketch, Entry, zeros, Freshened}
+use Rattle.sketch.specs.Sketch.{Sketch, Entry, sketchOf, zeros, Freshened}
 use Rattle.sketch.specs.Packets.{entriesOf}
 use Rattle.sums.specs.Sums.{combineAnswer, combined}
-use Rattle.sums.specs.History.{History, freshly, netCount}
-use Rattle.sums.proofs.Histories.{combined-by-nets}
+use Rattle.sums.specs.History.{History, freshly, negated, netCount}
+use Rattle.sums.proofs.Histories.{difference-of, combined-by-nets}
 use Rattle.walk.proofs.Promises.{Whole}
 use Rattle.streamfile.specs.Streams.{flowsIn, numbersIn, StreamRead}
 use Rattle.streamfile.proofs.AsInserted.{reading-on}
@@ -50,12 +50,12 @@ module _ {P : Params} {a b : List ℕ} {S T : Sketch} (up : StreamRead P a (zero
       let lent = well-lent P flows numbers queue marks (length (S .counts)) (length (S .idsums)) sketch-lent (record { queue-long = h; marks-long = k; same = e; few = l }) in
       sym (lent-first P S T flows numbers queue marks Done (sym lent) (sym streams-subtract))
 
--- the packets of a stream, and how many of a flow two streams differ by
+-- the packets of a stream, and the net count of a flow between two streams
 abbrev pub packetsOf : List ℕ → List Entry
 packetsOf bs = entriesOf (flowsIn bs) (numbersIn bs)
 
-abbrev pub lost : List ℕ → List ℕ → ℕ → ℤ
-lost a b f = netCount (packetsOf a) f -ℤ netCount (packetsOf b) f
+abbrev pub netBetween : List ℕ → List ℕ → ℕ → ℤ
+netBetween a b f = netCount (packetsOf a) f -ℤ netCount (packetsOf b) f
 
 -- a stream that was read into a fresh sketch is the history of its packets
 fresh-history : {P : Params} {bs : List ℕ} {S : Sketch} → StreamRead P bs (zeros P) Done S → History P (packetsOf bs) S
@@ -65,7 +65,11 @@ fresh-history {P} r =
     let fresh : Freshened P (zeros P) Done (zeros P) = record { answer = sym (lent-good P _ _ good (length-replicate (size P) (pos 0)) (length-replicate {A = ℕ} (size P) 0)); after = refl } in
     reading-on (freshly {S = zeros P} fresh) r
 
--- the difference is settled by the parameters and by how many packets of each flow were lost
+-- the difference is the sketch of the packets of the one and the opposite ones of the other
+pub difference-packets : {P : Params} {a b : List ℕ} {S T : Sketch} → StreamRead P a (zeros P) Done S → StreamRead P b (zeros P) Done T → combined true S T ≡ sketchOf P (packetsOf a ++ negated (packetsOf b))
+difference-packets one two = difference-of (fresh-history one) (fresh-history two)
+
+-- it is settled by the parameters and by the net count of each flow
 pub by-net-counts : {P : Params} {a b a' b' : List ℕ} {S T S' T' : Sketch} → StreamRead P a (zeros P) Done S → StreamRead P b (zeros P) Done T → StreamRead P a' (zeros P) Done S'
-    → StreamRead P b' (zeros P) Done T' → ((f : ℕ) → lost a b f ≡ lost a' b' f) → combined true S T ≡ combined true S' T'
+    → StreamRead P b' (zeros P) Done T' → ((f : ℕ) → netBetween a b f ≡ netBetween a' b' f) → combined true S T ≡ combined true S' T'
 by-net-counts a b a' b' = combined-by-nets (fresh-history a) (fresh-history b) (fresh-history a') (fresh-history b')

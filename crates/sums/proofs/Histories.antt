@@ -114,15 +114,17 @@ history (subtracting h g i) = combined-shared true _ _ (history h) (history g) i
 pub split-free : {P : Params} {es gs : List Entry} {S T : Sketch} → History P es S → History P gs T → ((f : ℕ) → netCount es f ≡ netCount gs f) → S ≡ T
 split-free h g e = history h ∙ net-decides _ _ _ e ∙ sym (history g)
 
--- so the difference of two sketches goes by the differences of the net counts
+-- the difference of two sketches is the sketch of the entries of the first and the opposite ones of the second
+pub difference-of : {P : Params} {es gs : List Entry} {S T : Sketch} → History P es S → History P gs T → combined true S T ≡ sketchOf P (es ++ negated gs)
+difference-of {P} {es} {gs} h g = ap₂ (combined true) (history h) (history g) ∙ sym (joined-less P es gs)
+
+-- so it goes by the differences of the net counts
 pub combined-by-nets : {P : Params} {es gs es' gs' : List Entry} {S T S' T' : Sketch} → History P es S → History P gs T → History P es' S' → History P gs' T'
     → ((f : ℕ) → netCount es f -ℤ netCount gs f ≡ netCount es' f -ℤ netCount gs' f) → combined true S T ≡ combined true S' T'
 combined-by-nets {P} {es} {gs} {es'} {gs'} h g h' g' e =
-    ap₂ (combined true) (history h) (history g)
-    ∙ sym (joined-less P es gs)
+    difference-of h g
     ∙ net-decides P (es ++ negated gs) (es' ++ negated gs') (λ f. net-less es gs f ∙ e f ∙ sym (net-less es' gs' f))
-    ∙ joined-less P es' gs'
-    ∙ sym (ap₂ (combined true) (history h') (history g'))
+    ∙ sym (difference-of h' g')
 
 -- the parameters of a sum or a difference that was not refused
 called-good : {minus : Bool} {P Q : Params} {S T S' : Sketch} → Combined minus P Q S T Done S' → goodParams P ≡ true

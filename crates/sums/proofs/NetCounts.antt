@@ -8,7 +8,8 @@ use native.Mathlib.Omega.{arith}
 use borrow.Author.Tests.{eq-eqb, ne-eqb}
 use lib.Dec.{eqb}
 use lib.IntN.{ℤ, pos, _+ℤ_, _-ℤ_, _*ℤ_, +ℤ-idl, +ℤ-idr, +ℤ-assoc, +ℤ-comm, zero-*ℤ}
-use Rattle.field.proofs.Parts.{int, up, down, up-down-add, up-mul, down-mul}
+use Rattle.field.specs.Parts.{up, down}
+use Rattle.field.proofs.Parts.{int, up-down-add, up-mul, down-mul}
 use Rattle.params.specs.declared.params.Params.{Params}
 use Rattle.sketch.specs.Sketch.{Entry, sketchOf}
 use Rattle.sums.specs.History.{negated, netCount, Rearranged, none, keeping, swapping, twice}

@@ -6,7 +6,8 @@ use Prim.Native.Nat.{ℕ, _+_, _*_}
 use lib.Dec.{eqb}
 use lib.IntN.{ℤ, pos, negℤ, _+ℤ_, _*ℤ_, +ℤ-idl, +ℤ-assoc, negℤ-+ℤ, *ℤ-zero}
 use Rattle.field.specs.Residue.{residue}
-use Rattle.field.proofs.Parts.{int, up, down, up-neg, down-neg, up-mul, down-mul}
+use Rattle.field.specs.Parts.{up, down}
+use Rattle.field.proofs.Parts.{int, up-neg, down-neg, up-mul, down-mul}
 use Rattle.params.specs.declared.params.Params.{Params}
 use Rattle.params.specs.Lists.{from}
 use Rattle.params.specs.Params.{prime, size}
@@ -19,7 +20,7 @@ weighted h [] = pos 0
 weighted h (e ∷ es) = e .number *ℤ h (e .flow) +ℤ weighted h es
 
 -- a weight of v where a test holds and 0 elsewhere
-times-one : (z : ℤ) → z *ℤ pos 1 ≡ z
+pub times-one : (z : ℤ) → z *ℤ pos 1 ≡ z
 times-one z = omega (int, up-mul z (pos 1), down-mul z (pos 1))
 
 times-picked : (z : ℤ) (b : Bool) (v : ℤ) → cond b (z *ℤ v) (pos 0) ≡ z *ℤ cond b v (pos 0)

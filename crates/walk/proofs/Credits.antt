@@ -1,8 +1,8 @@
--- What a credit and the close make of sums over the table.
+-- What a credit and the close make of weighted sums over the table.
 use mathlib.Core.Path.{_≡_, refl, sym, ap, _∙_}
 use mathlib.Core.Bool.{Bool, true, false, cond}
 use mathlib.Core.List.{List, [], _∷_}
-use Prim.Native.Nat.{ℕ, _*_}
+use Prim.Native.Nat.{ℕ}
 use borrow.Author.Tests.{eqb-true}
 use lib.Dec.{eqb}
 use lib.IntN.{ℤ, _+ℤ_, _*ℤ_, +ℤ-assoc, +ℤ-idl, +ℤ-idr, zero-*ℤ}
@@ -10,7 +10,7 @@ use Rattle.field.proofs.Parts.{int, up-down-add}
 use Rattle.sketch.specs.Sketch.{Entry, by}
 use Rattle.sums.proofs.NetCounts.{times-sum}
 use Rattle.sums.proofs.Weighted.{weighted}
-use Rattle.walk.specs.Walk.{credited, close, netFigure}
+use Rattle.walk.specs.Walk.{credited, close}
 use Rattle.buckets.specs.Buckets.{isZero}
 use Rattle.buckets.proofs.Zeros.{zero-is}
 
@@ -41,13 +41,3 @@ module _ (h : ℕ → ℤ) where
           → weighted h (cond b (close es) (e ∷ close es)) ≡ e .number *ℤ h (e .flow) +ℤ weighted h es
       go true q ih = ih ∙ sym (ap (λ (z : ℤ). z *ℤ h (e .flow) +ℤ weighted h es) (zero-is (e .number) q) ∙ ap (λ (z : ℤ). z +ℤ weighted h es) (zero-*ℤ (h (e .flow))) ∙ +ℤ-idl (weighted h es))
       go false q ih = ap (_+ℤ_ (e .number *ℤ h (e .flow))) ih
-
--- nor does it count
-pub net-close : (t : List Entry) → netFigure (close t) ≡ netFigure t
-unfolding netFigure close
-net-close [] = refl
-net-close (e ∷ es) = go (isZero (e .number)) refl (net-close es)
-  where
-    go : (b : Bool) → isZero (e .number) ≡ b → netFigure (close es) ≡ netFigure es → netFigure (cond b (close es) (e ∷ close es)) ≡ e .number +ℤ netFigure es
-    go true q ih = ih ∙ sym (ap (λ (z : ℤ). z +ℤ netFigure es) (zero-is (e .number) q) ∙ +ℤ-idl (netFigure es))
-    go false q ih = ap (_+ℤ_ (e .number)) ih

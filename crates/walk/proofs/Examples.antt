@@ -1,4 +1,4 @@
--- The examples E1 to E10 of the bench, and what they do not come to: flow 0, a walk that ends by its range, and the edges of the purity test. They are one table, under a single theorem, `all-right`: the checker works every line out by the definitions.
+-- The examples E1 to E10 of the bench, and what they do not come to: flow 0, a walk that ends by its range, losses beside gains, and the edges of the purity test. They are one table, under a single theorem, `all-right`: the checker works every line out by the definitions.
 use mathlib.Core.Path.{_≡_, refl}
 use mathlib.Core.Bool.{false}
 use mathlib.Core.List.{List, [], _∷_, map}
@@ -21,7 +21,7 @@ use Rattle.sketch.specs.Packets.{packetAnswer, entryAnswer, stepAnswer, changed
 use Rattle.walk.specs.declared.Found.{Found}
 use Rattle.walk.specs.declared.Found.the-variants.{Impure, Pure}
 use Rattle.walk.specs.Endings.{endingNumber}
-use Rattle.walk.specs.Walk.{State, Move, stops, goes, Outcome, queued, all, any, nothingRemains, less, has, entryOf, credited, waits, requeue, inRange, hasRoom, taken, takes, follows, popped, before, after, run, firstQueue, walk, close, netFigure, closedTable, netOf}
+use Rattle.walk.specs.Walk.{State, Move, stops, goes, Outcome, queued, all, any, nothingRemains, less, has, entryOf, credited, waits, requeue, inRange, hasRoom, taken, takes, follows, popped, before, after, run, firstQueue, walk, close, summed, closedTable, lostOf, extraOf}
 use Rattle.walk.specs.Purity.{testIn, wideTest, pureTest, ruleOf}
 
 -- d = 2, m = 5, pairs (1, 0) and (1073741824, 0)
@@ -42,13 +42,13 @@ pub data Reply : Type 0 where
   located : Located → Reply
   holds : Sketch → Reply
   finds : (number : ℕ) (wide pure : Found) → Reply
-  ends : (ending pops : ℕ) (net : ℤ) (table : List Entry) (remainder : Sketch) → Reply
+  ends : (ending pops lost extra : ℕ) (table : List Entry) (remainder : Sketch) → Reply
   waits-on : List ℕ → Reply
   says : (number index : ℕ) → Sketch → Reply
 
 -- the ending by its number, and the table after the close
 abbrev ended : Outcome → Reply
-ended o = ends (endingNumber (o .ending)) (o .pops) (netOf o) (closedTable o) (o .remainder)
+ended o = ends (endingNumber (o .ending)) (o .pops) (lostOf o) (extraOf o) (closedTable o) (o .remainder)
 
 -- the walk's own moves, pop by pop
 abbrev moved : Move → State → State
@@ -135,6 +135,18 @@ SZ20 = buckets (b (pos 2) 20 ∷ o ∷ o ∷ o ∷ o ∷ b (pos 2) 20 ∷ o ∷ 
 abbrev SI : Sketch
 SI = buckets (o ∷ b (pos 1) 1 ∷ o ∷ o ∷ o ∷ o ∷ o ∷ o ∷ o ∷ b (pos 1) 1 ∷ [])
 
+-- E1's flows the other way round
+abbrev SE : Sketch
+SE = buckets (o ∷ o ∷ b (negsuc 2) 2147483616 ∷ o ∷ o ∷ o ∷ b (negsuc 1) 2147483623 ∷ b (negsuc 0) 2147483640 ∷ o ∷ o ∷ [])
+
+-- flow 7 lost 5 packets, and flow 20 gained 5
+abbrev pub SL : Sketch
+SL = buckets (b (negsuc 4) 2147483547 ∷ o ∷ b (pos 5) 35 ∷ o ∷ o ∷ b (negsuc 4) 2147483547 ∷ o ∷ b (pos 5) 35 ∷ o ∷ o ∷ [])
+
+-- flow 7 by 5
+abbrev S75 : Sketch
+S75 = buckets (o ∷ o ∷ b (pos 5) 35 ∷ o ∷ o ∷ o ∷ o ∷ b (pos 5) 35 ∷ o ∷ o ∷ [])
+
 -- index 2 is pure with flow 7, whose other bucket the take would bring to -2147483647
 abbrev SR : Sketch
 SR = buckets (o ∷ o ∷ b (pos 2147483646) 2147483640 ∷ o ∷ o ∷ o ∷ o ∷ b (negsuc 0) 0 ∷ o ∷ o ∷ [])
@@ -156,21 +168,21 @@ examples =
     ∷ (sketch-of (by 7 (pos 1) ∷ by 12 (pos 2) ∷ []) gives holds S1)
     -- E2
     ∷ (test-of 2 (pos 3) 31 gives finds 1431655775 Impure Impure)
-    ∷ (peeling S1 10 80 gives ends 1 3 (pos 3) (by 12 (pos 2) ∷ by 7 (pos 1) ∷ []) S0)
+    ∷ (peeling S1 10 80 gives ends 1 3 3 0 (by 12 (pos 2) ∷ by 7 (pos 1) ∷ []) S0)
     ∷ (queue-after 0 S1 gives waits-on (2 ∷ 6 ∷ 7 ∷ []))
     ∷ (queue-after 3 S1 gives waits-on (2 ∷ []))
     -- E3
     ∷ (sketch-of (by 2 (pos 1) ∷ by 12 (pos 1) ∷ []) gives holds S3)
     ∷ (test-of 2 (pos 2) 14 gives finds 7 (Pure 7) (Pure 7))
-    ∷ (peeling S3 10 10 gives ends 3 10 (pos 2) (by 7 (pos 2) ∷ []) remainder3)
+    ∷ (peeling S3 10 10 gives ends 3 10 2 0 (by 7 (pos 2) ∷ []) remainder3)
     -- E4
-    ∷ (peeling S3 10 9 gives ends 3 9 (pos 0) [] S3)
+    ∷ (peeling S3 10 9 gives ends 3 9 0 0 [] S3)
     -- E5
     ∷ (sketch-of (by 2 (pos 1) ∷ by 12 (negsuc 0) ∷ []) gives holds S5)
-    ∷ (peeling S5 10 80 gives ends 2 0 (pos 0) [] S5)
+    ∷ (peeling S5 10 80 gives ends 2 0 0 0 [] S5)
     -- E6
     ∷ (sketch-of (by 7 (negsuc 3) ∷ []) gives holds S6)
-    ∷ (peeling S6 10 80 gives ends 1 1 (negsuc 3) (by 7 (negsuc 3) ∷ []) S0)
+    ∷ (peeling S6 10 80 gives ends 1 1 0 4 (by 7 (negsuc 3) ∷ []) S0)
     -- E7
     ∷ (sketch-of (by 2147483646 (pos 2147483646) ∷ []) gives holds S7)
     ∷ (inserting S0 2147483646 2147483646 gives says 0 0 S7)
@@ -180,10 +192,16 @@ examples =
     ∷ (inserting S0 1 0 gives says 4 0 S0)
     ∷ (inserting S0 1 2147483647 gives says 4 0 S0)
     -- E9
-    ∷ (peeling S0 10 0 gives ends 1 0 (pos 0) [] S0)
-    ∷ (peeling S1 10 0 gives ends 3 0 (pos 0) [] S1)
+    ∷ (peeling S0 10 0 gives ends 1 0 0 0 [] S0)
+    ∷ (peeling S1 10 0 gives ends 3 0 0 0 [] S1)
     -- E10
-    ∷ (peeling S1 0 80 gives ends 6 2 (pos 0) [] S1)
+    ∷ (peeling S1 0 80 gives ends 6 2 0 0 [] S1)
+    -- what one flow lost is not hidden by what another gained; figures are of what is listed, so that a walk that ends early may have only one of them
+    ∷ (sketch-of (by 7 (pos 5) ∷ by 20 (negsuc 4) ∷ []) gives holds SL)
+    ∷ (peeling SL 10 80 gives ends 1 2 5 5 (by 20 (negsuc 4) ∷ by 7 (pos 5) ∷ []) S0)
+    ∷ (peeling SL 10 1 gives ends 3 1 0 5 (by 20 (negsuc 4) ∷ []) S75)
+    ∷ (sketch-of (by 7 (negsuc 0) ∷ by 12 (negsuc 1) ∷ []) gives holds SE)
+    ∷ (peeling SE 10 80 gives ends 1 3 0 3 (by 12 (negsuc 1) ∷ by 7 (negsuc 0) ∷ []) S0)
     -- flow 0 is FLOW, before COUNT, and as a position; flow 1 is a flow
     ∷ (inserting S0 0 1 gives says 3 0 S0)
     ∷ (inserting S0 0 0 gives says 3 0 S0)
@@ -193,14 +211,14 @@ examples =
     -- an old sketch of flow 0 is stuck, by itself and where all else is listed; its buckets are not pure
     ∷ (sketch-of (by 0 (pos 3) ∷ []) gives holds SZ)
     ∷ (test-of 0 (pos 3) 0 gives finds 0 (Pure 0) Impure)
-    ∷ (peeling SZ 10 80 gives ends 2 2 (pos 0) [] SZ)
+    ∷ (peeling SZ 10 80 gives ends 2 2 0 0 [] SZ)
     ∷ (sketch-of (by 7 (pos 1) ∷ by 0 (pos 3) ∷ by 12 (pos 2) ∷ []) gives holds SZ1)
-    ∷ (peeling SZ1 10 80 gives ends 2 6 (pos 3) (by 12 (pos 2) ∷ by 7 (pos 1) ∷ []) SZ)
+    ∷ (peeling SZ1 10 80 gives ends 2 6 3 0 (by 12 (pos 2) ∷ by 7 (pos 1) ∷ []) SZ)
     -- where flow 0 stands beside another flow, the two can pass as a third, as those of E3 do
     ∷ (sketch-of (by 0 (pos 1) ∷ by 20 (pos 1) ∷ []) gives holds SZ20)
-    ∷ (peeling SZ20 10 80 gives ends 1 1 (pos 2) (by 10 (pos 2) ∷ []) S0)
+    ∷ (peeling SZ20 10 80 gives ends 1 1 2 0 (by 10 (pos 2) ∷ []) S0)
     -- a take that would leave the range
-    ∷ (peeling SR 10 80 gives ends 5 1 (pos 0) [] SR)
+    ∷ (peeling SR 10 80 gives ends 5 1 0 0 [] SR)
     -- counts that are multiples of the prime, where flow 0 would stand, the last two outside the limits; the greatest and the least count within them
     ∷ (test-of 0 (pos 0) 7 gives finds 0 Impure Impure)
     ∷ (test-of 0 (pos 2147483647) 7 gives finds 0 Impure Impure)
@@ -211,7 +229,7 @@ examples =
 
 -- every line of the table is right, and the walk of E3 goes on without end: it is spent whatever it is allowed
 pub all-right : (map (λ l. reply (l .asked)) examples ≡ map (λ l. l .answer) examples) × ((n : ℕ) → endingNumber (walk (ruleOf K) 10 n S3 .ending) ≡ 3)
-unfolding residue inverseIn inverse flow below least mapFrom touched from refuseAt first kept pairAt twins goodDimensions goodParams lengthsAnswer dimensionsAnswer stand positionAnswer standsIn inLimits isNumber countAt weightAt sketchOf damagedIn leavesIn flowBucketsAnswer changedIn packetAnswer entryAnswer stepAnswer changed moveAnswer all any nothingRemains less has entryOf credited waits requeue inRange hasRoom taken takes follows popped before after run firstQueue walk close netFigure testIn pops
+unfolding residue inverseIn inverse flow below least mapFrom touched from refuseAt first kept pairAt twins goodDimensions goodParams lengthsAnswer dimensionsAnswer stand positionAnswer standsIn inLimits isNumber countAt weightAt sketchOf damagedIn leavesIn flowBucketsAnswer changedIn packetAnswer entryAnswer stepAnswer changed moveAnswer all any nothingRemains less has entryOf credited waits requeue inRange hasRoom taken takes follows popped before after run firstQueue walk close summed testIn pops
 all-right = (refl, without-end)
   where
     -- flow 7 goes in and comes out

@@ -5,6 +5,8 @@ pub mod Waiting
 pub mod Lessened
 pub mod Credits
 pub mod Entries
+pub mod Figures
+pub mod Totals
 pub mod Carried
 pub mod Clean
 pub mod Pops

@@ -2,13 +2,14 @@
 use mathlib.Core.Path.{_≡_, sym, ap, subst, _∙_}
 use mathlib.Core.Bool.{true, false, not, true≢false}
 use mathlib.Core.List.{List, [], _∷_}
-use Prim.Native.Nat.{ℕ, _<_, _≤_}
+use Prim.Native.Nat.{ℕ, _+_, _*_, _<_, _≤_}
 use native.Mathlib.Decide.{decLt}
 use native.Mathlib.Nat.{le-trans}
 use native.Mathlib.Omega.{arith}
 use borrow.Author.Tests.{not-true}
-use lib.IntN.{ℤ, pos}
+use lib.IntN.{ℤ, pos, _+ℤ_, _-ℤ_}
 use lib.ListN.{length, getD, List·getD-eq-default}
+use Rattle.field.specs.Parts.{up, down}
 use Rattle.field.specs.Flow.{flow}
 use Rattle.params.specs.declared.params.Params.{Params}
 use Rattle.params.specs.Params.{primeOf, size, isFlow, Dimensions}
@@ -23,14 +24,14 @@ use Rattle.buckets.proofs.Limits.{whole, whole-back}
 use Rattle.walk.specs.declared.Ending.the-variants.{Clean, Stuck, Spent}
 use Rattle.walk.specs.declared.Found.the-variants.{Pure}
 use Rattle.walk.specs.Endings.{endingNumber}
-use Rattle.walk.specs.Walk.{Rule, Outcome, nothingRemains, firstQueue, walk, close, closedTable, netFigure, netOf}
+use Rattle.walk.specs.Walk.{Rule, Outcome, nothingRemains, firstQueue, walk, close, closedTable, lostOf, extraOf}
 use Rattle.buckets.specs.Buckets.{isZero}
 use Rattle.walk.specs.Purity.{wideTest, onlyIf, pureTest, ruleOf}
 use Rattle.walk.proofs.Numbers.{ending-by-number}
 use Rattle.buckets.proofs.Zeros.{is-zero, not-zero}
 use Rattle.walk.proofs.Alls.{all-at, nothing-count, nothing-idsum, all-zero}
 use Rattle.walk.proofs.Balance.{Balanced, balanced, balanced-closed}
-use Rattle.walk.proofs.Rebuilt.{rebuilt, rebuilt-alone}
+use Rattle.walk.proofs.Rebuilt.{count-back, rebuilt, rebuilt-alone}
 use Rattle.walk.proofs.Purity.{scopeTest, wideRule, sound, by-arrays, test-within, pure-unless-zero}
 use Rattle.walk.proofs.Narrowed.{narrowed, only-if-passes}
 use Rattle.walk.proofs.Untaken.{flow-zero-untaken}
@@ -40,7 +41,9 @@ use Rattle.walk.proofs.Retested.{retested, same-walk}
 use Rattle.walk.proofs.Clean.{cleanly}
 use Rattle.walk.proofs.Pops.{made}
 use Rattle.walk.proofs.Entries.{all-close, close-nonzero, close-fewer, once-close, once-at}
-use Rattle.walk.proofs.Credits.{net-close as same-net}
+use Rattle.walk.proofs.Figures as figures
+use Rattle.walk.proofs.Figures.{allCounts}
+use Rattle.walk.proofs.Totals.{arrayTotal, total-balance, same-counts}
 use Rattle.walk.proofs.TableFacts.{Listed, listed as table-facts}
 
 -- S has the size of P, and no bucket of it is outside its limits
@@ -182,6 +185,27 @@ module _ (P : Params) (slots allowance : ℕ) (S : Sketch) where
   pub listed-few : length listed ≤ slots
   listed-few = le-trans (close-fewer (outcome .table)) (before-close .few)
 
-  -- entries with count 0 make no difference to the net figure
-  pub net-closed : netOf outcome ≡ netFigure (outcome .table)
-  net-closed = same-net (outcome .table)
+  -- lost less extra is the sum of all counts
+  pub figures-differ : pos (lostOf outcome) -ℤ pos (extraOf outcome) ≡ allCounts listed
+  figures-differ = figures.figures-differ listed
+
+  -- what the counts of an array add up to is what is left of it, and lost less extra
+  pub totals : Whole P S → Dimensions P → (i : ℕ) → 1 ≤ i → i ≤ P .d → arrayTotal P i (outcome .remainder) +ℤ (pos (lostOf outcome) -ℤ pos (extraOf outcome)) ≡ arrayTotal P i S
+  totals w h i l u =
+      ap (_+ℤ_ (arrayTotal P i (outcome .remainder))) figures-differ
+      ∙ total-balance P h i l u S (outcome .remainder) listed (count-back P S (outcome .remainder) listed (w .counts-long) (w .idsums-long) (in-balance w))
+
+  -- so after a clean end lost less extra is the sum of all numbers of any list whose sketch was peeled
+  pub clean-total : Whole P S → Dimensions P → endingNumber (outcome .ending) ≡ 1 → (es : List Entry) → S ≡ sketchOf P es → pos (lostOf outcome) -ℤ pos (extraOf outcome) ≡ allCounts es
+  clean-total w h e es s = figures-differ ∙ same-counts P h listed es (clean-table w e ∙ s)
+
+  -- each loss is within lost and each gain within extra, whatever the other entries are
+  pub lost-shows : (i : ℕ) → i < length listed → up (entry i .number) ≤ lostOf outcome
+  lost-shows i l = figures.shows up listed i (by 0 (pos 0)) l
+
+  pub extra-shows : (i : ℕ) → i < length listed → down (entry i .number) ≤ extraOf outcome
+  extra-shows i l = figures.shows down listed i (by 0 (pos 0)) l
+
+  -- both together are at most as many times the limit as there are entries
+  pub figures-small : lostOf outcome + extraOf outcome ≤ length listed * 2147483646
+  figures-small = figures.figures-small listed (all-close _ (outcome .table) (before-close .limits))

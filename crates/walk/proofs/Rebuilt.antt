@@ -42,7 +42,7 @@ residue-inner a w =
     ∙ ap (residue prime) (+ℤ-comm w a)
 
 module _ (P : Params) (S remainder : Sketch) (t : List Entry) (counts-long : length (S .counts) ≡ size P) (idsums-long : length (S .idsums) ≡ size P) (h : Balanced (ruleOf P) S remainder t) where
-  count-back : (k : ℕ) → k < size P → countIn remainder k +ℤ countIn (sketchOf P t) k ≡ countIn S k
+  pub count-back : (k : ℕ) → k < size P → countIn remainder k +ℤ countIn (sketchOf P t) k ≡ countIn S k
   unfolding sketchOf
   count-back k l =
       ap (_+ℤ_ (countIn remainder k)) (from-at (size P) (countAt P t) k (pos 0) l ∙ count-weighted P t k)

@@ -1,10 +1,11 @@
 -- The walk, over any prime for idsums, any placing of flows and any test of a popped bucket; the limits of counts are those of a sketch.
 use mathlib.Core.Bool.{Bool, true, false, cond, _&&_, _||_}
 use mathlib.Core.List.{List, [], _∷_, _++_}
-use Prim.Native.Nat.{ℕ, zero, suc}
+use Prim.Native.Nat.{ℕ, zero, suc, _+_}
 use lib.IntN.{ℤ, pos, _+ℤ_, _-ℤ_}
 use lib.Dec.{eqb, ltb}
 use lib.ListN.{length}
+use Rattle.field.specs.Parts.{up, down}
 use Rattle.field.specs.Residue.{residue}
 use Rattle.params.specs.Lists.{below, touched}
 use Rattle.buckets.specs.Buckets.{inLimits, isZero}
@@ -155,14 +156,24 @@ unfoldable pub close : List Entry → List Entry
 close [] = []
 close (e ∷ es) = cond (isZero (e .number)) (close es) (e ∷ close es)
 
--- the net figure: the sum of all entries' counts
-unfoldable pub netFigure : List Entry → ℤ
-netFigure [] = pos 0
-netFigure (e ∷ es) = e .number +ℤ netFigure es
+-- the sum over the entries of a part of their counts
+unfoldable pub summed : (ℤ → ℕ) → List Entry → ℕ
+summed part [] = 0
+summed part (e ∷ es) = part (e .number) + summed part es
 
--- what is returned of an outcome: its table after the close, and the figure of that table
+-- the packets lost by a table, the sum of its positive counts, and those extra, the sum of the negative ones without their sign
+abbrev pub lostBy : List Entry → ℕ
+lostBy t = summed up t
+
+abbrev pub extraBy : List Entry → ℕ
+extraBy t = summed down t
+
+-- what is returned of an outcome: its table after the close, and the figures of that table
 abbrev pub closedTable : Outcome → List Entry
 closedTable o = close (o .table)
 
-abbrev pub netOf : Outcome → ℤ
-netOf o = netFigure (closedTable o)
+abbrev pub lostOf : Outcome → ℕ
+lostOf o = lostBy (closedTable o)
+
+abbrev pub extraOf : Outcome → ℕ
+extraOf o = extraBy (closedTable o)

@@ -32,7 +32,7 @@ pub fn left(index: usize, bucket: &Bucket) -> String {
 }
 
 pub fn end(walked: &Walked) -> String {
-    format!("end {} pops {} net {}\n", word(&walked.ending), walked.pops, walked.net)
+    format!("end {} pops {} lost {} extra {}\n", word(&walked.ending), walked.pops, walked.lost, walked.extra)
 }
 
 fn word(ending: &Ending) -> &'static str {

@@ -19,7 +19,8 @@ pub struct Entry {
 pub struct Walked {
     pub ending: Ending,
     pub entries: Vec<Entry>,
-    pub net: i64,
+    pub lost: u64,
+    pub extra: u64,
     pub pops: usize,
 }
 
@@ -87,8 +88,9 @@ pub fn walk(sketch: &mut Sketch, slots: usize, allowance: usize) -> Walked {
 
     // The close: until here an entry whose count became 0 kept its slot.
     entries.retain(|entry| entry.count != 0);
-    let net = entries.iter().map(|entry| entry.count).sum();
-    Walked { ending, entries, net, pops }
+    let (lost, extra): (Vec<i64>, Vec<i64>) = entries.iter().map(|entry| entry.count).partition(|&count| count > 0);
+    let sum = |counts: Vec<i64>| counts.into_iter().map(i64::unsigned_abs).sum();
+    Walked { ending, entries, lost: sum(lost), extra: sum(extra), pops }
 }
 
 /// The flow of a pure bucket. One whose flow comes out as 0 is not pure.

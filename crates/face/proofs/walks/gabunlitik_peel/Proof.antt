@@ -1,5 +1,5 @@
 -- `face::walks::gabunlitik_peel` meets its contract: what the library promises of the call, returned in numbers.
-use Rattle.face.proofs.Returning.{peeled-returned, entries-few}
+use Rattle.face.proofs.Returning.{peeled-returned}
 use borrow.Author.Needs.{needs}
 use Rattle.face.proofs.walks.gabunlitik_peel.Statement.{statement}
 use Rattle.face.proofs.walks.gabunlitik_peel.Tie as tie
@@ -11,7 +11,7 @@ peel-requires : tie.Need-peel-requires
 peel-requires c κs = search needs
 
 return-peeled-requires : tie.Need-return-peeled-requires
-return-peeled-requires c κs = entries-few (c .before .before .before .before .before .before .before .before .before .before .before .before .peel .ensures)
+return-peeled-requires c κs = search needs
 
 same-length : tie.Need-same-length
 same-length c = search needs

@@ -1,9 +1,8 @@
--- `lines::lines::end_line` meets its contract: the words, the pops, the net and the newline, one after another.
+-- `lines::lines::end_line` meets its contract: the words, the pops, the two sums and the newline, one after another.
 use native.Mathlib.Omega.{arith}
-use mir.Facts.{toZ-ofZ}
 use Rattle.lines.specs.Lines.{endLine}
-use Rattle.lines.proofs.Digits.{length-short, length-read}
-use Rattle.lines.proofs.Joining.{then, line-of-four, not-lined, length-ending}
+use Rattle.lines.proofs.Digits.{length-short, length-decimal}
+use Rattle.lines.proofs.Joining.{then, line-of-five, not-lined, length-ending}
 use borrow.Author.Needs.{needs}
 use Rattle.lines.proofs.lines.end_line.Statement.{statement}
 use Rattle.lines.proofs.lines.end_line.Tie as tie
@@ -26,19 +25,29 @@ slice-aggregate-put-named c = search needs
 put-named-requires : tie.Need-put-named-requires
 put-named-requires c κs = let s = c .before .before .before .before .before .before .before .before .before .before .before .before .before in omega (arith, length-ending (s .args .ending), length-short (s .args .pops) (omega arith))
 
-slice-aggregate-put-named-signed : tie.Need-slice-aggregate-put-named-signed
-slice-aggregate-put-named-signed c = search needs
+slice-aggregate-put-named-2 : tie.Need-slice-aggregate-put-named-2
+slice-aggregate-put-named-2 c = search needs
 
-put-named-signed-requires : tie.Need-put-named-signed-requires
-put-named-signed-requires c κs = let s = c .before .before .before .before .before .before .before .before .before .before .before .before .before .before .before .before .before .before in omega (arith, length-ending (s .args .ending), length-short (s .args .pops) (omega arith))
+put-named-requires-2 : tie.Need-put-named-requires-2
+put-named-requires-2 c κs =
+    let s = c .before .before .before .before .before .before .before .before .before .before .before .before .before .before .before .before .before .before in
+    omega (arith, length-ending (s .args .ending), length-short (s .args .pops) (omega arith), length-decimal (s .args .lost) (omega arith))
+
+slice-aggregate-put-named-3 : tie.Need-slice-aggregate-put-named-3
+slice-aggregate-put-named-3 c = search needs
+
+put-named-requires-3 : tie.Need-put-named-requires-3
+put-named-requires-3 c κs =
+    let s = c .before .before .before .before .before .before .before .before .before .before .before .before .before .before .before .before .before .before .before .before .before .before .before in
+    omega (arith, length-ending (s .args .ending), length-short (s .args .pops) (omega arith), length-decimal (s .args .lost) (omega arith), length-decimal (s .args .extra) (omega arith))
 
 slice-aggregate-put-2 : tie.Need-slice-aggregate-put-2
 slice-aggregate-put-2 c = search needs
 
 put-requires-2 : tie.Need-put-requires-2
 put-requires-2 c κs =
-    let s = c .before .before .before .before .before .before .before .before .before .before .before .before .before .before .before .before .before .before .before .before .before .before .before in
-    omega (arith, length-ending (s .args .ending), length-short (s .args .pops) (omega arith), length-read (toZ-ofZ (s .fits .net)) (s .fits .net))
+    let s = c .before .before .before .before .before .before .before .before .before .before .before .before .before .before .before .before .before .before .before .before .before .before .before .before .before .before .before .before in
+    omega (arith, c .before .before .before .before .before .before .before .before .before .before .before .before .before .before .before .before .before .before .before .before .before .before .before .before .before .before .if1 .left, length-ending (s .args .ending), length-short (s .args .pops) (omega arith), length-decimal (s .args .lost) (omega arith), length-decimal (s .args .extra) (omega arith))
 
 same-length : tie.Need-same-length
 same-length c = search needs
@@ -46,10 +55,11 @@ same-length c = search needs
 returns-2 : tie.Need-returns-2
 unfolding endLine
 returns-2 c =
-    let s = c .before .before .before .before .before .before .before .before .before .before .before .before .before .before .before .before .before .before .before .before .before .before .before .before .before .before in
-    let net = rw (toZ-ofZ (s .fits .net)) at (c .before .before .before .before .before .before .before .put-named-signed .ensures) in
-    let ending = then (omega arith) (c .before .before .before .before .before .before .before .before .before .before .before .before .before .before .before .before .before .before .before .before .before .put .ensures) (c .before .before .before .before .before .before .before .before .before .before .before .before .before .before .before .before .before .put-ending .ensures) in
-    line-of-four (omega arith) ending (c .before .before .before .before .before .before .before .before .before .before .before .before .put-named .ensures) net (c .before .before .put2 .ensures)
+    let ending = then (omega arith) (c .before .before .before .before .before .before .before .before .before .before .before .before .before .before .before .before .before .before .before .before .before .before .before .before .before .before .put .ensures) (c .before .before .before .before .before .before .before .before .before .before .before .before .before .before .before .before .before .before .before .before .before .before .put-ending .ensures) in
+    let pops = c .before .before .before .before .before .before .before .before .before .before .before .before .before .before .before .before .before .put-named .ensures in
+    let lost = c .before .before .before .before .before .before .before .before .before .before .before .before .put-named2 .ensures in
+    let extra = c .before .before .before .before .before .before .before .put-named3 .ensures in
+    line-of-five (omega arith) ending pops lost extra (c .before .before .put2 .ensures)
 
 pub end-line-spec : {M : Type 1} → statement M
 end-line-spec =
@@ -61,8 +71,10 @@ end-line-spec =
     put-ending-requires
     slice-aggregate-put-named
     put-named-requires
-    slice-aggregate-put-named-signed
-    put-named-signed-requires
+    slice-aggregate-put-named-2
+    put-named-requires-2
+    slice-aggregate-put-named-3
+    put-named-requires-3
     slice-aggregate-put-2
     put-requires-2
     same-length

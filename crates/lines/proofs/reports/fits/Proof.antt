@@ -2,6 +2,7 @@
 use Prim.Native.Nat.{_+_, _*_}
 use native.Mathlib.Omega.{arith}
 use borrow.Author.Tests.{lt-leb, le-leb, eq-eqb, ne-eqb}
+use Rattle.lines.specs.Lines.{lineRoom}
 use Rattle.lines.proofs.Reporting.{whole-lines}
 use borrow.Author.Needs.{needs}
 use Rattle.lines.proofs.reports.fits.Statement.{statement}
@@ -21,7 +22,7 @@ returns-3 c =
 returns-4 : tie.Need-returns-4
 returns-4 c =
     let s = c .before .before .before .before .args in
-    rw (le-leb (s .entries) (s .flows) (omega arith), le-leb (s .entries) (s .numbers) (omega arith), eq-eqb (s .idsums) (s .counts) (omega arith), lt-leb (64 * (s .entries + s .counts + 1)) (s .out) (omega arith))
+    rw (le-leb (s .entries) (s .flows) (omega arith), le-leb (s .entries) (s .numbers) (omega arith), eq-eqb (s .idsums) (s .counts) (omega arith), lt-leb (lineRoom * (s .entries + s .counts + 1)) (s .out) (omega arith))
 
 sub-result : tie.Need-sub-result
 sub-result c = search needs

@@ -7,6 +7,7 @@ use denote.Ref.{now}
 use mir.Syntax.{w32}
 use borrow.Author.Needs.{needs}
 use Rattle.field.proofs.Casts.{back}
+use Rattle.lines.specs.Lines.{lineRoom}
 use Rattle.lines.specs.Reports.{leftLines}
 use Rattle.lines.specs.Texts.{TextWritten}
 use Rattle.lines.proofs.Reporting.{lefts-next, nothing-written, one-more}
@@ -15,7 +16,7 @@ use Rattle.lines.proofs.reports.put_lefts.Tie as tie
 
 abbrev Inv-loop : tie.InvT-loop
 Inv-loop out₀ from counts idsums at₀ i₀ out at i =
-    (TextWritten (leftLines counts idsums i) out₀ from at out × (at ≤ from + 64 * i)) × (i ≤ length counts) × (length out ≡ length out₀)
+    (TextWritten (leftLines counts idsums i) out₀ from at out × (at ≤ from + lineRoom * i)) × (i ≤ length counts) × (length out ≡ length out₀)
 
 abbrev μ-loop : tie.MeasureT-loop
 μ-loop out₀ from counts idsums at₀ i₀ out at i = length counts - i

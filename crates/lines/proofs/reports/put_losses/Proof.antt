@@ -6,6 +6,7 @@ use lib.ListN.{length}
 use mir.Syntax.{w32}
 use borrow.Author.Needs.{needs}
 use Rattle.field.proofs.Casts.{back}
+use Rattle.lines.specs.Lines.{lineRoom}
 use Rattle.lines.specs.Reports.{lossLines}
 use Rattle.lines.specs.Texts.{TextWritten}
 use Rattle.lines.proofs.Reporting.{losses-next, nothing-written, one-more}
@@ -14,7 +15,7 @@ use Rattle.lines.proofs.reports.put_losses.Tie as tie
 
 abbrev Inv-loop : tie.InvT-loop
 Inv-loop out₀ from flows numbers entries at₀ i₀ out at i =
-    (TextWritten (lossLines flows numbers i) out₀ from at out × (at ≤ from + 64 * i)) × (i ≤ entries) × (length out ≡ length out₀)
+    (TextWritten (lossLines flows numbers i) out₀ from at out × (at ≤ from + lineRoom * i)) × (i ≤ entries) × (length out ≡ length out₀)
 
 abbrev μ-loop : tie.MeasureT-loop
 μ-loop out₀ from flows numbers entries at₀ i₀ out at i = entries - i

@@ -6,10 +6,9 @@ use Prim.Native.Nat.{_+_, _-_, _*_, _≤_}
 use borrow.Rule.Slice.PartMut.{putMid}
 use denote.Ref.{now}
 use lib.ListN.{length}
-use mir.Facts.{toZ-ofZ}
 use borrow.Author.Needs.{needs}
 use borrow.Author.Tests.{not-true, not-false}
-use Rattle.lines.specs.Lines.{endLine}
+use Rattle.lines.specs.Lines.{endLine, lineRoom}
 use Rattle.lines.specs.Reports.{reportText, reportFits}
 use Rattle.lines.specs.Texts.{TextWritten}
 use Rattle.lines.proofs.Joining.{text-of-three, not-written}
@@ -23,7 +22,7 @@ room : (c : tie.Else1) → let a = c .before .before .before .before .before .ar
 room c = sym (c .before .fits2 .ensures) ∙ not-false _ (c .if1 .left)
 
 within : (c : tie.Else1) → let a = c .before .before .before .before .before .args in
-    (a .entries ≤ length (now (a .flows))) × (a .entries ≤ length (now (a .numbers))) × (length (now (a .idsums)) ≡ length (now (a .counts))) × (64 * (a .entries + length (now (a .counts)) + 1) ≤ length (now (a .out)))
+    (a .entries ≤ length (now (a .flows))) × (a .entries ≤ length (now (a .numbers))) × (length (now (a .idsums)) ≡ length (now (a .counts))) × (lineRoom * (a .entries + length (now (a .counts)) + 1) ≤ length (now (a .out)))
 within c =
     let a = c .before .before .before .before .before .args in
     fitting (length (now (a .out))) (length (now (a .flows))) (length (now (a .numbers))) (a .entries) (length (now (a .counts))) (length (now (a .idsums))) (room c)
@@ -57,12 +56,12 @@ same-length c = search needs
 
 -- the end's line, after all others
 last-line : (c : tie.After-slice-known4) → let lefts = c .before .before .before .before .before .before .put-lefts in let a = c .before .before .before .before .before .before .before .before .before .before .before .before .before .before .before .before .before .args in
-    TextWritten (endLine (a .ending) (a .pops) (a .net)) (lefts .last .0) (lefts .result) (lefts .result + c .before .before .end-line .result) (putMid (lefts .result) (length (lefts .last .0) - lefts .result) (lefts .last .0) (c .before .before .end-line .last .0))
-    × (lefts .result + c .before .before .end-line .result ≤ lefts .result + 64)
+    TextWritten (endLine (a .ending) (a .pops) (a .lost) (a .extra)) (lefts .last .0) (lefts .result) (lefts .result + c .before .before .end-line .result) (putMid (lefts .result) (length (lefts .last .0) - lefts .result) (lefts .last .0) (c .before .before .end-line .last .0))
+    × (lefts .result + c .before .before .end-line .result ≤ lefts .result + lineRoom)
 last-line c =
     let s = c .before .before .before .before .before .before .before .before .before .before .before .before .before .before .before .before .before in
     let f = within (c .before .before .before .before .before .before .before .before .before .before .before .before) in
-    line-in-the-rest _ _ _ _ (omega (arith, f)) (length-end _ _ _ (omega arith) (s .fits .net)) (rw (toZ-ofZ (s .fits .net)) at (c .before .before .end-line .ensures))
+    line-in-the-rest _ _ _ _ (omega (arith, f)) (length-end _ _ _ _ (omega arith) (omega arith) (omega arith)) (c .before .before .end-line .ensures)
 
 returns-2 : tie.Need-returns-2
 unfolding reportText

@@ -1,9 +1,8 @@
 -- `peel::peeling::unravel` meets its contract: the walk, the close, and the queue and the marks cleared.
 use mathlib.Core.Path.{ap, _∙_}
 use native.Mathlib.Omega.{arith}
-use mir.Facts.{toZ-ofZ}
 use borrow.Author.Needs.{needs}
-use Rattle.walk.specs.Walk.{Outcome, close, netOf}
+use Rattle.walk.specs.Walk.{Outcome, close, lostOf, extraOf}
 use Rattle.peel.proofs.peeling.unravel.Statement.{statement}
 use Rattle.peel.proofs.peeling.unravel.Tie as tie
 
@@ -39,21 +38,22 @@ same-length-6 c = search needs
 
 returns : tie.Need-returns
 returns c =
-    let w = c .before .before .before .before .before .before .before .before .before .before .before .before .before .before .before .before .before .before .before .before .before .before .before .before .before .walk-whole in
-    let l = c .before .before .before .before .before .before .before .before .before .before .before .before .close in
+    let w = c .before .before .before .before .before .before .before .before .before .before .before .before .before .before .before .before .before .before .before .before .before .before .before .before .walk-whole in
+    let l = c .before .before .before .before .before .before .before .before .before .before .before .close in
     let e = w .ensures .outcome in
     let t = l .ensures .table ∙ ap (λ (o : Outcome). close (o .table)) e in
     record {
       ending = ap (λ (o : Outcome). o .ending) e;
       pops = ap (λ (o : Outcome). o .pops) e;
-      net = toZ-ofZ (record { sfits = c .struct-told .given .1 .0 .1 }) ∙ l .ensures .net ∙ ap (λ (o : Outcome). netOf o) e;
+      lost = l .ensures .lost ∙ ap lostOf e;
+      extra = l .ensures .extra ∙ ap extraOf e;
       remainder = ap (λ (o : Outcome). o .remainder) e;
       table = t;
       room = omega (arith, l .ensures .within, w .ensures .room, l .ensures .long, w .kept .1 .1 .1 .0);
       past = l .ensures .past;
       past-numbers = l .ensures .past-numbers;
-      queue = λ j. c .before .before .before .before .before .before .before .clear .ensures .zeros j (omega arith);
-      marks = λ j. c .before .before .before .clear2 .ensures .zeros j (omega arith);
+      queue = λ j. c .before .before .before .before .before .before .clear .ensures .zeros j (omega arith);
+      marks = λ j. c .before .before .clear2 .ensures .zeros j (omega arith);
     }
 
 pub unravel-spec : {M : Type 1} → statement M
