@@ -270,7 +270,8 @@ static void print_walk(const struct setting *setting, uint64_t seed) {
     struct figures figures = walk(setting, seed, &params);
     for (uint32_t slot = 0; slot < figures.entries; slot++)
         printf("loss %u %d\n", table_flows[slot], table_counts[slot]);
-    printf("end %s pops %u lost %lu extra %lu\n", word_of(figures.ending), figures.pops, figures.lost, figures.extra);
+    printf("end %s pops %u lost %lu extra %lu\n", word_of(figures.ending), figures.pops, (unsigned long)figures.lost,
+           (unsigned long)figures.extra);
 }
 
 static uint32_t draw_flow(uint64_t *seed) {

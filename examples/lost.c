@@ -1,8 +1,10 @@
-/* Two switches sketch the packets that pass them; what was lost between them is the difference, peeled. Prints
+/* Two switches sketch the packets that pass them; what was lost between them is the difference, peeled. A packet of flow 11 arrives
+ * twice. Prints
  *
+ *     loss 11 -1
  *     loss 12 2
  *     loss 7 1
- *     ending 1, 3 pops, 3 packets lost, 0 extra
+ *     ending 1, 4 pops, 3 packets lost, 1 extra
  */
 #include <stdio.h>
 
@@ -35,7 +37,7 @@ static int build(struct sketch *s, const uint32_t *flows, const uint32_t *number
 
 int main(void) {
     static const uint32_t sent_flows[] = {7, 12, 11}, sent[] = {3, 2, 1};
-    static const uint32_t arrived_flows[] = {7, 11}, arrived[] = {2, 1};
+    static const uint32_t arrived_flows[] = {7, 11}, arrived[] = {2, 2};
     struct sketch upstream = {{0}, {0}}, downstream = {{0}, {0}};
     if (build(&upstream, sent_flows, sent, 3) || build(&downstream, arrived_flows, arrived, 2))
         return 1;

@@ -58,8 +58,8 @@ enum {
     GABUNLITIK_OFFSETS = 6
 };
 
-/* What a walk returns in `figures`: its ending, how many entries the table has, the packets lost, which is the sum of its positive
- * counts, the extra packets, which is the sum of the negative ones without their sign, and the pops made. */
+/* What a walk returns in `figures`: its ending, how many entries the table has, the packets lost (the sum of the table's positive
+ * counts) and the extra ones (the sum of its negative counts, without their sign), and the pops made. */
 enum {
     GABUNLITIK_FIGURES = 5,
     GABUNLITIK_ENDING = 0,

@@ -1,7 +1,7 @@
 /* Peeling, called from C. */
 #include "bench.h"
 
-enum { MOST_SLOTS = 4 };
+enum { MOST_SLOTS = 6 };
 
 /* All that a walk is lent beside the sketch, and the figures it tells. */
 struct walk {
@@ -64,7 +64,7 @@ static void clean(void) {
     CHECK(cleared(&w));
 }
 
-/* What some flows lost is not hidden by what others gained. The flows share no bucket in array 1. */
+/* What a flow lost is not hidden by what another gained. */
 static void lost_beside_extra(void) {
     struct sketch s = fresh_sketch();
     struct walk w = unwalked();
@@ -73,21 +73,39 @@ static void lost_beside_extra(void) {
     CHECK_DONE(peel(&s, &w, MOST_SLOTS, 80));
     CHECK(figures_are(&w, GABUNLITIK_ENDED_CLEAN, 2, 5, 5, 2));
     CHECK(w.flows[0] == 20 && w.counts[0] == -5 && w.flows[1] == 7 && w.counts[1] == 5);
-    CHECK(used(&s) == 0);
-    w = unwalked();
-    CHECK_DONE(insert(&s, 7, 2147483646)); /* sums above 32 bits */
-    CHECK_DONE(insert(&s, 11, 2147483645));
-    CHECK_DONE(withdraw(&s, 20, 2147483646));
-    CHECK_DONE(withdraw(&s, 4, 2147483644));
-    CHECK_DONE(peel(&s, &w, MOST_SLOTS, 80));
-    CHECK(figures_are(&w, GABUNLITIK_ENDED_CLEAN, 4, 4294967291, 4294967290, 4));
+    CHECK(cleared(&w));
     CHECK(used(&s) == 0);
     w = unwalked();
     CHECK_DONE(insert(&s, 7, 5));
     CHECK_DONE(withdraw(&s, 20, 5));
     CHECK_DONE(peel(&s, &w, MOST_SLOTS, 1)); /* of what is listed alone: flow 7 is still to come */
     CHECK(figures_are(&w, GABUNLITIK_ENDED_SPENT, 1, 0, 5, 1));
+    CHECK(w.flows[0] == 20 && w.counts[0] == -5);
     CHECK(cleared(&w));
+    s = of_flow_0();
+    w = unwalked();
+    CHECK_DONE(insert(&s, 7, 5));
+    CHECK_DONE(withdraw(&s, 11, 4));
+    CHECK_DONE(peel(&s, &w, MOST_SLOTS, 80)); /* both, where something is left */
+    CHECK(figures_are(&w, GABUNLITIK_ENDED_STUCK, 2, 5, 4, 6));
+    CHECK(w.flows[0] == 11 && w.counts[0] == -4 && w.flows[1] == 7 && w.counts[1] == 5);
+    CHECK(cleared(&w));
+}
+
+/* Sums that need more than 32 bits. */
+static void large_sums(void) {
+    struct sketch s = fresh_sketch();
+    struct walk w = unwalked();
+    CHECK_DONE(insert(&s, 7, 2147483646));
+    CHECK_DONE(withdraw(&s, 20, 2147483646));
+    CHECK_DONE(insert(&s, 11, 2147483645));
+    CHECK_DONE(withdraw(&s, 4, 2147483644));
+    CHECK_DONE(insert(&s, 3, 2147483643));
+    CHECK_DONE(withdraw(&s, 2, 2147483642));
+    CHECK_DONE(peel(&s, &w, MOST_SLOTS, 80));
+    CHECK(figures_are(&w, GABUNLITIK_ENDED_CLEAN, 6, 6442450934, 6442450932, 8));
+    CHECK(cleared(&w));
+    CHECK(used(&s) == 0);
 }
 
 static void spent(void) {
@@ -259,6 +277,7 @@ static void refused(void) {
 void test_walks(void) {
     clean();
     lost_beside_extra();
+    large_sums();
     spent();
     stuck_and_full();
     flow_0();

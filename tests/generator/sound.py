@@ -1,5 +1,7 @@
 """Sound pairs of streams, each walked to an ending: parameters, and the packets upstream and downstream."""
 
+import collections
+
 from generator.files import MOST, P, Params
 from generator.values import MOST_BUCKETS, any_flow, any_pair, any_params, four_pairs, position, small_entries, split, uniform_flow
 
@@ -25,16 +27,27 @@ def duplicates(rng):
 
 
 def ring_link(rng):
-    """As many packets extra of some flows as are lost of others, in small numbers or in sums that need more than 32 bits."""
+    """As many packets extra of some flows as are lost of others, in small numbers or up to sums that need more than 32 bits."""
     params = any_params(rng, 20, 80)
     most = rng.choice((9, MOST // 2))
-    entries = [(uniform_flow(rng), rng.randint(1, most)) for _ in range(rng.randint(1, 14))]
-    numbers = [number for _, number in entries]
-    # The same sum on the other side, by the same numbers or by one packet less here and one more there.
-    if len(numbers) > 1 and rng.random() < 0.5:
-        numbers[0], numbers[1] = numbers[0] + 1, numbers[1] - 1
-    rng.shuffle(numbers)
-    return params, *split(rng, entries + [(uniform_flow(rng), -number) for number in numbers if number])
+    while True:
+        numbers = [rng.randint(1, most) for _ in range(rng.randint(1, 14))]
+        losses = [(uniform_flow(rng), number) for number in numbers]
+        # The same sum on the other side, by the same numbers or by one packet more here and one less there.
+        if len(numbers) > 1 and rng.random() < 0.5:
+            numbers[0], numbers[1] = numbers[0] + 1, numbers[1] - 1
+        gains = [(uniform_flow(rng), number) for number in numbers if number]
+        if fits(params, losses) and fits(params, gains):
+            return params, *split(rng, losses + [(flow, -number) for flow, number in gains])
+
+
+def fits(params, entries):
+    """Whether a sketch takes the entries, and those that `split` puts beside them."""
+    sums = collections.Counter()
+    for i in range(params.d):
+        for flow, number in entries:
+            sums[i, position(params, i, flow)] += number
+    return max(sums.values()) <= MOST - 20
 
 
 def crowded(rng):

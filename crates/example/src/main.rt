@@ -1,10 +1,14 @@
 // example: what two switches of a line see, as sketches, and what was lost between them. README quotes the body of main.
+use lines::lines::LINE_ROOM;
 use params::Params;
 use peel::Figures;
 use peel::Peeled;
 use peel::peeling::peel;
 use sketch::packets::insert;
 use sums::subtract;
+
+// Room for a line for each of ten entries and ten buckets, and for the end.
+const ROOM: usize = 21 * LINE_ROOM;
 
 fn main() {
     // two arrays of five buckets, each with a multiplier and an offset
@@ -45,7 +49,7 @@ fn main() {
 
 // The lines of a report: the table, what is left in the buckets, and how the walk ended.
 fn print(flows: &[u32], numbers: &[i32], counts: &[i32], idsums: &[u32], figures: Figures) {
-    let mut out = [0u8; 1680];
+    let mut out: [u8; ROOM] = [0; ROOM];
     let ending = figures.ending;
     let n = lines::reports::report(
         &mut out,
@@ -59,7 +63,7 @@ fn print(flows: &[u32], numbers: &[i32], counts: &[i32], idsums: &[u32], figures
         figures.lost,
         figures.extra,
     );
-    if n <= 1680 {
+    if n <= ROOM {
         io::write_all(1, &out[0..n]);
     }
 }

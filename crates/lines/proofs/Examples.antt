@@ -2,7 +2,7 @@
 use mathlib.Core.Path.{_≡_, refl}
 use lib.IntN.{pos, negsuc}
 use Rattle.params.specs.declared.answers.Refusal.the-variants.{Form}
-use Rattle.walk.specs.declared.Ending.the-variants.{Clean, Full}
+use Rattle.walk.specs.declared.Ending.the-variants.{Clean, Stuck, Full}
 use Rattle.walk.specs.Ascii.{ascii}
 use Rattle.lines.specs.Decimal.{digits, decimal, signedDecimal}
 use Rattle.lines.specs.Lines.{lossLine, leftLine, endLine, refusedLine}
@@ -41,9 +41,13 @@ clean-end : endLine Clean 3 3 0 ≡ ascii "end clean pops 3 lost 3 extra 0\n"
 unfolding endLine digits
 clean-end = refl
 
-full-end : endLine Full 2 0 10 ≡ ascii "end full pops 2 lost 0 extra 10\n"
+full-end : endLine Full 2 12 10 ≡ ascii "end full pops 2 lost 12 extra 10\n"
 unfolding endLine digits
 full-end = refl
+
+longest-end : endLine Stuck 4294967295 18446744073709551615 18446744073709551615 ≡ ascii "end stuck pops 4294967295 lost 18446744073709551615 extra 18446744073709551615\n"
+unfolding endLine digits
+longest-end = refl
 
 refused-at-131 : refusedLine Form 131 ≡ ascii "refused 8 at 131\n"
 unfolding refusedLine digits

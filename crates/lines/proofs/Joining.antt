@@ -38,10 +38,11 @@ pub text-of-three : {fits : Bool} {one two three xs ys zs last : List ℕ} {i j 
 text-of-three {one = one} {two = two} {three = three} t p q s =
     written _ t (then (omega arith) (then (omega arith) p q) s) (append-assoc one two three)
 
--- a line of three parts, of four or of five, where there is room for a line, and none where there is no room
+-- the first two parts of a line are taken together or not
 regrouped : {fits : Bool} (one two rest : List ℕ) {xs last : List ℕ} {r : ℕ} → Lined fits ((one ++ two) ++ rest) xs r last → Lined fits (one ++ (two ++ rest)) xs r last
 regrouped {fits} one two rest {xs} {last} {r} l = subst (λ text. Lined fits text xs r last) (append-assoc one two rest) l
 
+-- a line of three parts, of four or of five, where there is room for a line, and none where there is no room
 pub line-of-three : {one two three xs ys zs last : List ℕ} {i j r : ℕ} → lineRoom ≤ length xs
     → TextWritten one xs 0 i ys → TextWritten two ys i j zs → TextWritten three zs j r last → Lined (lineFits xs) (one ++ (two ++ three)) xs r last
 line-of-three {xs = xs} h p q s = text-of-three (le-leb lineRoom (length xs) h) p q s

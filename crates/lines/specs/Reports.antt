@@ -41,7 +41,7 @@ walkText o =
     ++ (leftLines (o .remainder .counts) (o .remainder .idsums) (length (o .remainder .counts))
     ++ endLine (o .ending) (o .pops) (lostOf o) (extraOf o))
 
--- whether the entries are within the table, each bucket has both fields, and there is room for every line
+-- whether the entries are within the table, each bucket has both fields, and there is room for a line for each entry, each bucket and the end
 abbrev pub reportFits : ℕ → ℕ → ℕ → ℕ → ℕ → ℕ → Bool
 reportFits out flows numbers entries counts idsums =
     leb entries flows && leb entries numbers && eqb idsums counts && leb (lineRoom * (entries + counts + 1)) out

@@ -1,5 +1,5 @@
-// The lines of the report. A line is written at the start of the output and its length returned. Where the output has no room for the
-// longest line, nothing is written and 0 returned.
+// The lines of the report. A line is written at the start of the output and its length returned. Where the output is
+// shorter than LINE_ROOM, nothing is written and 0 returned.
 ghost use Rattle.lines.specs.Lines.{lossLine, leftLine, endLine, refusedLine, lineFits, Lined};
 use crate::text::put;
 use crate::text::put_ending;

@@ -1,4 +1,5 @@
-// A whole report: the lines of the table, then those of what is left, then the end. There must be room for each.
+// A whole report: the lines of the table, then those of what is left, then the end. There must be LINE_ROOM bytes
+// for each entry, each bucket and the end.
 ghost use mathlib.Core.Path.{_≡_};
 ghost use Prim.Native.Nat.{_+_, _*_, _≤_};
 ghost use lib.ListN.{length};

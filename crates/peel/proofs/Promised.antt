@@ -23,7 +23,7 @@ use Rattle.walk.specs.Walk.{Outcome, firstQueue, walk, closedTable, lostBy, ext
 use Rattle.walk.specs.Purity.{pureTest, foundNumber}
 use Rattle.walk.proofs.Numbers.{pure-by-number, never-four as no-ending-four}
 use Rattle.walk.proofs.Figures.{allCounts, figures-differ as of-table}
-use Rattle.walk.proofs.Totals.{arrayTotal}
+use Rattle.walk.proofs.ArrayTotals.{arrayTotal}
 use Rattle.walk.proofs.Promises as walks
 use Rattle.walk.proofs.Promises.{Whole, Nothing, scopeRule}
 use Rattle.params.proofs.Judging.{number-some}

@@ -37,12 +37,6 @@ pub record Closed (fs : List ℕ) (ns : List ℤ) (n : ℕ) (fs' : List ℕ) (ns
   pub table : tableOf fs' ns' r ≡ close (tableOf fs ns n)
   pub within : r ≤ n
 
--- the figures of the first n entries, which do not go by their flows
-pub record Adds (ns : List ℤ) (n : ℕ) (r : Listed) : Type 0 where
-  pub entries : r .entries ≡ n
-  pub lost : (fs : List ℕ) → r .lost ≡ lostBy (tableOf fs ns n)
-  pub extra : (fs : List ℕ) → r .extra ≡ extraBy (tableOf fs ns n)
-
 pub record Lists (fs : List ℕ) (ns : List ℤ) (n : ℕ) (r : Listed) (fs' : List ℕ) (ns' : List ℤ) : Type 0 where
   pub table : tableOf fs' ns' (r .entries) ≡ close (tableOf fs ns n)
   pub within : r .entries ≤ n
@@ -52,3 +46,9 @@ pub record Lists (fs : List ℕ) (ns : List ℤ) (n : ℕ) (r : Listed) (fs' : L
   pub long-numbers : length ns' ≡ length ns
   pub past : (k : ℕ) → r .entries ≤ k → getD fs' k 0 ≡ 0
   pub past-numbers : (k : ℕ) → r .entries ≤ k → getD ns' k (pos 0) ≡ pos 0
+
+-- the figures of the first n entries, which do not go by their flows
+pub record Adds (ns : List ℤ) (n : ℕ) (r : Listed) : Type 0 where
+  pub entries : r .entries ≡ n
+  pub lost : (fs : List ℕ) → r .lost ≡ lostBy (tableOf fs ns n)
+  pub extra : (fs : List ℕ) → r .extra ≡ extraBy (tableOf fs ns n)

@@ -16,8 +16,8 @@ use params::Params;
 use params::Refusal;
 use walk::Ending;
 
-// What a walk found: its ending, the entries of its closed table, the packets lost by them, which is the sum of their positive counts,
-// those extra, which is the sum of the negative ones without their sign, and the pops made.
+// What a walk found: its ending, the entries of its closed table, the packets lost by its account (the sum of the positive counts) and the
+// extra ones (the sum of the negative counts, without their sign), and the pops made.
 pub struct Figures {
     pub ending: Ending,
     pub entries: usize,

@@ -147,7 +147,7 @@ fn clear_numbers(s: &mut [i32], n: usize)
 }
 
 // A number's part above 0.
-fn above(z: i32) -> u64
+fn up(z: i32) -> u64
     ensures { λ r. ⌜ r ≡ up z ⌝ }
 {
     if z < 0 {
@@ -157,7 +157,7 @@ fn above(z: i32) -> u64
 }
 
 // Its part below 0, without the sign.
-fn below(z: i32) -> u64
+fn down(z: i32) -> u64
     ensures { λ r. ⌜ r ≡ down z ⌝ }
 {
     if z < 0 {
@@ -176,8 +176,8 @@ fn add_up(numbers: &[i32], n: usize) -> Listed
     let mut i = 0;
     while i < n {
         let c = numbers[i];
-        lost += above(c);
-        extra += below(c);
+        lost += up(c);
+        extra += down(c);
         i += 1;
     }
     Listed {

@@ -1,5 +1,6 @@
 -- The laws of sums and differences of sketches, which the proofs of this crate and of those above it cite.
 pub mod TwoSketches
+pub mod Totals
 pub mod Weighted
 pub mod Linear
 pub mod NetCounts

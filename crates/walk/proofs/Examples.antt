@@ -143,9 +143,16 @@ SE = buckets (o ∷ o ∷ b (negsuc 2) 2147483616 ∷ o ∷ o ∷ o ∷ b (negsu
 abbrev pub SL : Sketch
 SL = buckets (b (negsuc 4) 2147483547 ∷ o ∷ b (pos 5) 35 ∷ o ∷ o ∷ b (negsuc 4) 2147483547 ∷ o ∷ b (pos 5) 35 ∷ o ∷ o ∷ [])
 
--- flow 7 by 5
+-- flow 7 by 1, and by 5
+abbrev S71 : Sketch
+S71 = buckets (o ∷ o ∷ b (pos 1) 7 ∷ o ∷ o ∷ o ∷ o ∷ b (pos 1) 7 ∷ o ∷ o ∷ [])
+
 abbrev S75 : Sketch
 S75 = buckets (o ∷ o ∷ b (pos 5) 35 ∷ o ∷ o ∷ o ∷ o ∷ b (pos 5) 35 ∷ o ∷ o ∷ [])
+
+-- flows 7, 11 and 20, each by the greatest number
+abbrev SB : Sketch
+SB = buckets (b (pos 2147483646) 2147483627 ∷ b (pos 2147483646) 2147483636 ∷ b (pos 2147483646) 2147483640 ∷ o ∷ o ∷ b (pos 2147483646) 2147483627 ∷ o ∷ b (pos 2147483646) 2147483640 ∷ o ∷ b (pos 2147483646) 2147483636 ∷ [])
 
 -- index 2 is pure with flow 7, whose other bucket the take would bring to -2147483647
 abbrev SR : Sketch
@@ -196,12 +203,14 @@ examples =
     ∷ (peeling S1 10 0 gives ends 3 0 0 0 [] S1)
     -- E10
     ∷ (peeling S1 0 80 gives ends 6 2 0 0 [] S1)
-    -- what one flow lost is not hidden by what another gained; figures are of what is listed, so that a walk that ends early may have only one of them
+    -- what one flow lost is not hidden by what another gained; figures are of what is listed, so that a walk that ends early may have only one of them; and they may need more than 32 bits
     ∷ (sketch-of (by 7 (pos 5) ∷ by 20 (negsuc 4) ∷ []) gives holds SL)
     ∷ (peeling SL 10 80 gives ends 1 2 5 5 (by 20 (negsuc 4) ∷ by 7 (pos 5) ∷ []) S0)
     ∷ (peeling SL 10 1 gives ends 3 1 0 5 (by 20 (negsuc 4) ∷ []) S75)
     ∷ (sketch-of (by 7 (negsuc 0) ∷ by 12 (negsuc 1) ∷ []) gives holds SE)
     ∷ (peeling SE 10 80 gives ends 1 3 0 3 (by 12 (negsuc 1) ∷ by 7 (negsuc 0) ∷ []) S0)
+    ∷ (peeling S1 1 80 gives ends 6 3 2 0 (by 12 (pos 2) ∷ []) S71)
+    ∷ (peeling SB 10 80 gives ends 1 3 6442450938 0 (by 20 (pos 2147483646) ∷ by 11 (pos 2147483646) ∷ by 7 (pos 2147483646) ∷ []) S0)
     -- flow 0 is FLOW, before COUNT, and as a position; flow 1 is a flow
     ∷ (inserting S0 0 1 gives says 3 0 S0)
     ∷ (inserting S0 0 0 gives says 3 0 S0)

@@ -6,7 +6,7 @@ pub mod Lessened
 pub mod Credits
 pub mod Entries
 pub mod Figures
-pub mod Totals
+pub mod ArrayTotals
 pub mod Carried
 pub mod Clean
 pub mod Pops

@@ -43,7 +43,7 @@ use Rattle.walk.proofs.Pops.{made}
 use Rattle.walk.proofs.Entries.{all-close, close-nonzero, close-fewer, once-close, once-at}
 use Rattle.walk.proofs.Figures as figures
 use Rattle.walk.proofs.Figures.{allCounts}
-use Rattle.walk.proofs.Totals.{arrayTotal, total-balance, same-counts}
+use Rattle.walk.proofs.ArrayTotals.{arrayTotal, total-balance, same-counts}
 use Rattle.walk.proofs.TableFacts.{Listed, listed as table-facts}
 
 -- S has the size of P, and no bucket of it is outside its limits

@@ -161,7 +161,7 @@ unfoldable pub summed : (ℤ → ℕ) → List Entry → ℕ
 summed part [] = 0
 summed part (e ∷ es) = part (e .number) + summed part es
 
--- the packets lost by a table, the sum of its positive counts, and those extra, the sum of the negative ones without their sign
+-- the packets lost by a table's account, which is the sum of its positive counts, and the extra ones, which is the sum of the negative counts without their sign
 abbrev pub lostBy : List Entry → ℕ
 lostBy t = summed up t
 

@@ -38,8 +38,8 @@ mul-c c = search needs
 shared-slice-copy-out-c : tie.Need-shared-slice-copy-out-c Inv-loop μ-loop
 shared-slice-copy-out-c c = search needs
 
-above-requires : tie.Need-above-requires Inv-loop μ-loop
-above-requires c κs = search needs
+up-requires : tie.Need-up-requires Inv-loop μ-loop
+up-requires c κs = search needs
 
 -- the number that is added, and how large its parts are
 abbrev number : tie.After-c Inv-loop μ-loop → ℤ
@@ -51,19 +51,19 @@ fits c = sfits-of (c .c .given)
 small : (c : tie.After-c Inv-loop μ-loop) → up (number c) + down (number c) ≤ 2147483648
 small c = omega (arith, abs-parts (number c), abs-of-sfits (fits c))
 
-lost-by : (c : tie.After-above Inv-loop μ-loop) → c .above .result ≡ up (number (c .before))
-lost-by c = c .above .ensures ∙ ap up (toZ-ofZ (fits (c .before)))
+lost-by : (c : tie.After-up Inv-loop μ-loop) → c .up .result ≡ up (number (c .before))
+lost-by c = c .up .ensures ∙ ap up (toZ-ofZ (fits (c .before)))
 
-extra-by : (c : tie.After-below Inv-loop μ-loop) → c .below .result ≡ down (number (c .before .before))
-extra-by c = c .below .ensures ∙ ap down (toZ-ofZ (fits (c .before .before)))
+extra-by : (c : tie.After-down Inv-loop μ-loop) → c .down .result ≡ down (number (c .before .before))
+extra-by c = c .down .ensures ∙ ap down (toZ-ofZ (fits (c .before .before)))
 
 add-lost : tie.Need-add-lost Inv-loop μ-loop
 add-lost c =
     let s = c .before .before .before in
     record { fits = omega (arith, small (c .before), lost-by c, s .loop .inv .1, s .before .pre .1) }
 
-below-requires : tie.Need-below-requires Inv-loop μ-loop
-below-requires c κs = search needs
+down-requires : tie.Need-down-requires Inv-loop μ-loop
+down-requires c κs = search needs
 
 add-extra : tie.Need-add-extra Inv-loop μ-loop
 add-extra c =
@@ -107,9 +107,9 @@ add-up-spec =
     loop-holds
     mul-c
     shared-slice-copy-out-c
-    above-requires
+    up-requires
     add-lost
-    below-requires
+    down-requires
     add-extra
     add-i
     loop-less

@@ -1,4 +1,4 @@
--- `peel::table::above` meets its contract.
+-- `peel::table::up` meets its contract.
 use mathlib.Core.Path.{_≡_, sym, ap, _∙_}
 use mathlib.Core.Bool.{false}
 use native.Mathlib.Omega.{arith}
@@ -7,8 +7,8 @@ use lib.Signed.{ltZ}
 use mir.Facts.{toZ-ofZ}
 use Rattle.field.proofs.Casts.{cast-asks}
 use Rattle.field.proofs.Parts.{not-negative, parts-negative, parts-not-negative, abs-of-sfits}
-use Rattle.peel.proofs.table.above.Statement.{statement}
-use Rattle.peel.proofs.table.above.Tie as tie
+use Rattle.peel.proofs.table.up.Statement.{statement}
+use Rattle.peel.proofs.table.up.Tie as tie
 
 -- the number is not below 0
 not-below : (c : tie.Else1) → ltZ (c .before .args .z) (pos 0) ≡ false
@@ -24,5 +24,5 @@ cast-result c =
 returns-2 : tie.Need-returns-2
 returns-2 c = ap natAbs (toZ-ofZ (c .before .fits .z)) ∙ sym (parts-not-negative (c .before .args .z) (not-below c) .0)
 
-pub above-spec : {M : Type 1} → statement M
-above-spec = tie.close (tie.spec returns cast-result returns-2)
+pub up-spec : {M : Type 1} → statement M
+up-spec = tie.close (tie.spec returns cast-result returns-2)

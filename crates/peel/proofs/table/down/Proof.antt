@@ -1,4 +1,4 @@
--- `peel::table::below` meets its contract: what 0 exceeds a negative number by is its size.
+-- `peel::table::down` meets its contract: what 0 exceeds a negative number by is its size.
 use mathlib.Core.Path.{_≡_, sym, ap, subst⁻¹, _∙_}
 use mathlib.Core.Bool.{true}
 use native.Mathlib.Omega.{arith}
@@ -9,8 +9,8 @@ use mir.Val.{SFits, toZ, ofZ}
 use mir.Facts.{toZ-ofZ}
 use Rattle.field.proofs.Casts.{as-is, widened, widens, cast-asks}
 use Rattle.field.proofs.Parts.{negative, parts-negative, parts-not-negative, abs-of-sfits}
-use Rattle.peel.proofs.table.below.Statement.{statement}
-use Rattle.peel.proofs.table.below.Tie as tie
+use Rattle.peel.proofs.table.down.Statement.{statement}
+use Rattle.peel.proofs.table.down.Tie as tie
 
 -- the number is below 0, and what 0 exceeds it by fits
 is-below : (c : tie.Then1) → ltZ (c .before .args .z) (pos 0) ≡ true
@@ -38,5 +38,5 @@ returns c = ap natAbs (as-is (excess c) (excess-fits c)) ∙ sym (parts-negative
 returns-2 : tie.Need-returns-2
 returns-2 c = sym (parts-not-negative (c .before .args .z) (rw (toZ-ofZ (c .before .fits .z)) at (c .if1 .left)) .1)
 
-pub below-spec : {M : Type 1} → statement M
-below-spec = tie.close (tie.spec cast-result sub-result cast-result-2 returns returns-2)
+pub down-spec : {M : Type 1} → statement M
+down-spec = tie.close (tie.spec cast-result sub-result cast-result-2 returns returns-2)
