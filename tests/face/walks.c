@@ -104,6 +104,7 @@ static void large_sums(void) {
     CHECK_DONE(withdraw(&s, 2, 2147483642));
     CHECK_DONE(peel(&s, &w, MOST_SLOTS, 80));
     CHECK(figures_are(&w, GABUNLITIK_ENDED_CLEAN, 6, 6442450934, 6442450932, 8));
+    CHECK(w.flows[0] == 20 && w.counts[0] == -2147483646 && w.flows[5] == 7 && w.counts[5] == 2147483646);
     CHECK(cleared(&w));
     CHECK(used(&s) == 0);
 }

@@ -47,6 +47,7 @@ def fits(params, entries):
     for i in range(params.d):
         for flow, number in entries:
             sums[i, position(params, i, flow)] += number
+    # Those are at most 4, of at most 5 packets each.
     return max(sums.values()) <= MOST - 20
 
 

@@ -6,7 +6,7 @@ use crate::returned::params_of;
 use crate::returned::return_peeled;
 use peel::peeling::peel;
 
-// Peels a sketch into a table and gives the ending's number, the entries, the packets lost, those extra and the pops, in this order.
+// Peels a sketch into a table and returns in `figures` the ending's number, the entries, the packets lost, those extra and the pops, in this order.
 #[no_mangle]
 pub extern "C" fn gabunlitik_peel(
     params: &[u32; 10],

@@ -12,7 +12,7 @@ use mir.Syntax.{Width}
 use mir.Val.{SFits, hbits}
 use Rattle.field.specs.Parts.{up, down}
 
--- a number is its part above 0 less its part below
+-- the parts of a difference, a sum, an opposite and a product
 pub up-down-sub : (a b : ℕ) → up (subℕ a b) + b ≡ a + down (subℕ a b)
 up-down-sub a b = go (ltb a b) refl
   where

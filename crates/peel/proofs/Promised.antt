@@ -225,7 +225,7 @@ module _ {P : Params} {a : ℕ} {L : Slices} {r : Peeled} {L' : Slices} (h : Pee
     pub figures-differ : pos (peeledLost r) -ℤ pos (peeledExtra r) ≡ allCounts listed
     figures-differ = rw (lost-is, extra-is) (of-table listed)
 
-    -- what the counts of an array add up to is what is left of it, and lost less extra
+    -- in every array, what the remaining counts add up to, with lost less extra, is what the counts of the input add up to
     pub totals : (i : ℕ) → 1 ≤ i → i ≤ P .d → arrayTotal P i S' +ℤ (pos (peeledLost r) -ℤ pos (peeledExtra r)) ≡ arrayTotal P i S
     totals i l u = rw (remainder-is, answer-is) (walks.totals P (length (L .flows)) a S sound-input (judged-peelable P L done .dimensions) i l u)
 

@@ -1,4 +1,4 @@
--- What a report says: of an input that the desk accepts, the lines are those of the walk over the difference of its two streams.
+-- What a report says: of an input that the desk accepts, the lines are those of the walk over the difference of its two streams; after a clean end lost less extra is by how many packets these differ.
 use mathlib.Core.Path.{_≡_, refl, sym, ap, ap₂, _∙_}
 use mathlib.Core.Bool.{true}
 use mathlib.Core.List.{List, [], _∷_, _++_}

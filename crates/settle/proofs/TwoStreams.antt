@@ -1,4 +1,4 @@
--- Two streams that were read into fresh sketches: of their subtraction comes no RANGE, nothing else is refused, and the difference depends on the parameters and net counts alone.
+-- Two streams that were read into fresh sketches: of their subtraction comes no RANGE, nothing else is refused, and the difference is the sketch of the packets of one less those of the other, and depends on the parameters and net counts alone.
 use mathlib.Core.Path.{_≡_, refl, sym}
 use mathlib.Core.Bool.{true}
 use mathlib.Core.List.{List, _++_}

@@ -135,7 +135,7 @@ SZ20 = buckets (b (pos 2) 20 ∷ o ∷ o ∷ o ∷ o ∷ b (pos 2) 20 ∷ o ∷ 
 abbrev SI : Sketch
 SI = buckets (o ∷ b (pos 1) 1 ∷ o ∷ o ∷ o ∷ o ∷ o ∷ o ∷ o ∷ b (pos 1) 1 ∷ [])
 
--- E1's flows the other way round
+-- E1's packets gained in place of lost
 abbrev SE : Sketch
 SE = buckets (o ∷ o ∷ b (negsuc 2) 2147483616 ∷ o ∷ o ∷ o ∷ b (negsuc 1) 2147483623 ∷ b (negsuc 0) 2147483640 ∷ o ∷ o ∷ [])
 

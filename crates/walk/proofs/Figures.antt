@@ -21,12 +21,13 @@ unfoldable pub allCounts : List Entry → ℤ
 allCounts [] = pos 0
 allCounts (e ∷ es) = e .number +ℤ allCounts es
 
--- of the entries of one list and the opposite ones of another
+-- it is the weighted sum in which every flow weighs 1
 all-weighted : (es : List Entry) → allCounts es ≡ weighted (λ f. pos 1) es
 unfolding weighted allCounts
 all-weighted [] = refl
 all-weighted (e ∷ es) = ap₂ _+ℤ_ (sym (times-one (e .number))) (all-weighted es)
 
+-- of the entries of one list and the opposite ones of another it is the difference
 pub counts-less : (es gs : List Entry) → allCounts (es ++ negated gs) ≡ allCounts es -ℤ allCounts gs
 counts-less es gs =
     all-weighted (es ++ negated gs)

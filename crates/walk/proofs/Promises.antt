@@ -189,7 +189,7 @@ module _ (P : Params) (slots allowance : ℕ) (S : Sketch) where
   pub figures-differ : pos (lostOf outcome) -ℤ pos (extraOf outcome) ≡ allCounts listed
   figures-differ = figures.figures-differ listed
 
-  -- what the counts of an array add up to is what is left of it, and lost less extra
+  -- in every array, what the remaining counts add up to, with lost less extra, is what the counts of the input add up to
   pub totals : Whole P S → Dimensions P → (i : ℕ) → 1 ≤ i → i ≤ P .d → arrayTotal P i (outcome .remainder) +ℤ (pos (lostOf outcome) -ℤ pos (extraOf outcome)) ≡ arrayTotal P i S
   totals w h i l u =
       ap (_+ℤ_ (arrayTotal P i (outcome .remainder))) figures-differ
