@@ -1,29 +1,26 @@
 -- `field::raise` meets its contract: a negative count is the opposite of its size.
-use mathlib.Core.Path.{_≡_, sym, ap, subst⁻¹, _∙_}
+use mathlib.Core.Path.{_≡_, sym, ap, _∙_}
 use lib.IntN.{pos, natAbs, negℤ, _-ℤ_}
 use mir.Facts.{toZ-ofZ}
 use mir.Syntax.{w32, w64}
-use mir.Val.{SFits, toZ, ofZ}
+use mir.Val.{toZ, ofZ}
 use native.Mathlib.Omega.{arith}
 use borrow.Author.Needs.{needs}
 use Rattle.field.specs.Residue.{residue}
-use Rattle.field.proofs.Parts.{negative, not-negative, negated, abs-of-sfits}
-use Rattle.field.proofs.Casts.{widened, widens, cast-asks}
+use Rattle.field.proofs.Parts.{negated, abs-of-sfits}
+use Rattle.field.proofs.Casts.{widens, cast-asks, negative-fits, negative-read, plain-read}
 use Rattle.field.proofs.raise.Statement.{statement}
 use Rattle.field.proofs.raise.Tie as tie
 
 cast-opposite : tie.Need-cast-opposite
 cast-opposite c = widens (c .before .fits .c)
 
--- the size of a negative count, and that it fits
-size : (c : tie.Then1) → pos 0 -ℤ toZ w64 (ofZ w64 (toZ w32 (ofZ w32 (c .before .args .c)))) ≡ pos (natAbs (c .before .args .c))
-size c = ap (λ z. pos 0 -ℤ z) (widened (c .before .fits .c)) ∙ negative (c .before .args .c) (rw (toZ-ofZ (c .before .fits .c)) at (c .if1 .taken))
-
 sub-opposite : tie.Need-sub-opposite
-sub-opposite c = subst⁻¹ (SFits w64) (size c) (record { sfits = omega (arith, abs-of-sfits (c .before .fits .c)) })
+sub-opposite c = negative-fits (c .before .args .c) (c .before .fits .c) (c .if1 .taken)
 
+-- the size of a negative count, as it is read back
 read : (c : tie.Then1) → toZ w64 (ofZ w64 (pos 0 -ℤ toZ w64 (ofZ w64 (toZ w32 (ofZ w32 (c .before .args .c)))))) ≡ pos (natAbs (c .before .args .c))
-read c = toZ-ofZ (sub-opposite c) ∙ size c
+read c = negative-read (c .before .args .c) (c .before .fits .c) (c .if1 .taken)
 
 cast-opposite-2 : tie.Need-cast-opposite-2
 cast-opposite-2 c = cast-asks (read c) (record { fits = omega (arith, abs-of-sfits (c .before .fits .c)) })
@@ -32,7 +29,7 @@ opposite-requires : tie.Need-opposite-requires
 opposite-requires c κs = search needs
 
 plain : (c : tie.Else1) → toZ w32 (ofZ w32 (c .before .args .c)) ≡ pos (natAbs (c .before .args .c))
-plain c = toZ-ofZ (c .before .fits .c) ∙ not-negative (c .before .args .c) (rw (toZ-ofZ (c .before .fits .c)) at (c .if1 .left))
+plain c = plain-read (c .before .args .c) (c .before .fits .c) (c .if1 .left)
 
 cast-rest : tie.Need-cast-rest
 cast-rest c = cast-asks (plain c) (record { fits = omega (arith, abs-of-sfits (c .before .fits .c)) })
