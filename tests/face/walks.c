@@ -109,6 +109,19 @@ static void large_sums(void) {
     CHECK(used(&s) == 0);
 }
 
+/* An entry that comes to 0 between two others goes: the first stays in its slot, and the last moves down. */
+static void entry_at_0(void) {
+    struct sketch s = e3(), kept = s;
+    struct walk w = unwalked();
+    CHECK_DONE(insert(&s, 20, 3));
+    CHECK_DONE(withdraw(&s, 4, 4));
+    CHECK_DONE(peel(&s, &w, MOST_SLOTS, 6));
+    CHECK(figures_are(&w, GABUNLITIK_ENDED_SPENT, 2, 3, 4, 6));
+    CHECK(w.flows[0] == 20 && w.counts[0] == 3 && w.flows[1] == 4 && w.counts[1] == -4);
+    CHECK(cleared(&w));
+    CHECK(same(&s, &kept));
+}
+
 static void spent(void) {
     struct sketch s = e3(), kept = s;
     struct walk w = unwalked();
@@ -279,6 +292,7 @@ void test_walks(void) {
     clean();
     lost_beside_extra();
     large_sums();
+    entry_at_0();
     spent();
     stuck_and_full();
     flow_0();

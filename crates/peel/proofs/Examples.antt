@@ -15,7 +15,7 @@ use Rattle.buckets.specs.Buckets.{inLimits}
 use Rattle.sketch.specs.Sketch.{Sketch}
 use Rattle.walk.specs.Walk.{all, any, nothingRemains, less, has, entryOf, credited, waits, requeue, inRange, hasRoom, taken, takes, follows, popped, before, after, run, firstQueue, walk, close, summed}
 use Rattle.walk.specs.Purity.{testIn}
-use Rattle.walk.proofs.Examples.{K, S0, S1, S3, remainder3, S5, S6, SL, SZ}
+use Rattle.walk.proofs.Examples.{K, S0, S1, S3, remainder3, S5, S6, SL, SC, SZ}
 use Rattle.peel.specs.declared.peeling.Peeled.{Peeled}
 use Rattle.peel.specs.Slices.{Slices, slices}
 use Rattle.peel.specs.Peel.{walkLentAnswer, peelAnswer, flowsOf, numbersOf, padded, peeledNumber, peeledEnding, peeledPops, peeledLost, peeledExtra, peeledEntries, peelReturns, peelLeaves}
@@ -101,6 +101,8 @@ examples =
     ∷ (call S1 0 80 gives ends 6 2 0 0 0 S1 [] [])
     -- a loss beside a gain
     ∷ (call SL 10 80 gives ends 1 2 5 5 2 S0 (20 ∷ 7 ∷ replicate 8 0) (negsuc 4 ∷ pos 5 ∷ replicate 8 (pos 0)))
+    -- an entry between two others came to 0: the first stays in its slot, the last moves
+    ∷ (call SC 10 6 gives ends 3 6 3 4 2 S3 (20 ∷ 4 ∷ replicate 8 0) (pos 3 ∷ negsuc 3 ∷ replicate 8 (pos 0)))
     -- flow 0
     ∷ (call SZ 10 80 gives ends 2 2 0 0 0 SZ (replicate 10 0) (replicate 10 (pos 0)))
     ∷ []

@@ -28,14 +28,10 @@ pub record FindsFrom (a : ℕ) (fs : List ℕ) (n f r : ℕ) : Type 0 where
   pub before : (j : ℕ) → j < r → a ≤ j → getD fs j 0 ≡ f → ⊥
   pub found : r < n → getD fs r 0 ≡ f
 
--- what a take leaves in the table, what keeping the entries that are not 0 does, and what the close does
+-- what a take leaves in the table, and what the close does
 pub record Credited (f : ℕ) (c : ℤ) (fs : List ℕ) (ns : List ℤ) (n : ℕ) (fs' : List ℕ) (ns' : List ℤ) (r : ℕ) : Type 0 where
   pub table : tableOf fs' ns' r ≡ credited f c (tableOf fs ns n)
   pub room : r ≤ length fs
-
-pub record Closed (fs : List ℕ) (ns : List ℤ) (n : ℕ) (fs' : List ℕ) (ns' : List ℤ) (r : ℕ) : Type 0 where
-  pub table : tableOf fs' ns' r ≡ close (tableOf fs ns n)
-  pub within : r ≤ n
 
 pub record Lists (fs : List ℕ) (ns : List ℤ) (n : ℕ) (r : Listed) (fs' : List ℕ) (ns' : List ℤ) : Type 0 where
   pub table : tableOf fs' ns' (r .entries) ≡ close (tableOf fs ns n)
@@ -46,9 +42,3 @@ pub record Lists (fs : List ℕ) (ns : List ℤ) (n : ℕ) (r : Listed) (fs' : L
   pub long-numbers : length ns' ≡ length ns
   pub past : (k : ℕ) → r .entries ≤ k → getD fs' k 0 ≡ 0
   pub past-numbers : (k : ℕ) → r .entries ≤ k → getD ns' k (pos 0) ≡ pos 0
-
--- the figures of the first n entries, which do not go by their flows
-pub record Adds (ns : List ℤ) (n : ℕ) (r : Listed) : Type 0 where
-  pub entries : r .entries ≡ n
-  pub lost : (fs : List ℕ) → r .lost ≡ lostBy (tableOf fs ns n)
-  pub extra : (fs : List ℕ) → r .extra ≡ extraBy (tableOf fs ns n)

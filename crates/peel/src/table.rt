@@ -14,7 +14,7 @@ ghost use Rattle.walk.specs.Walk.{entryOf};
 ghost use Rattle.peel.specs.Ring.{Cleared};
 ghost use Rattle.params.specs.Params.{Dimensions};
 ghost use Rattle.peel.specs.Chains.{chainBy, chainKey, Chained, Linked, Relinked};
-ghost use Rattle.peel.specs.Table.{tableOf, Finds, FindsFrom, Credited, Closed, Adds, Lists};
+ghost use Rattle.peel.specs.Table.{tableOf, Finds, FindsFrom, Credited, Lists};
 use crate::queue::clear;
 use params::PRIME;
 use params::Params;
@@ -115,26 +115,6 @@ pub(crate) fn credit(
     n + 1
 }
 
-// The entries that are not 0, in their order, each moved at most once: how many there are.
-fn compact(flows: &mut [u32], numbers: &mut [i32], n: usize) -> usize
-    requires { ⌜ (n ≤ length (now flows)) × (length (now numbers) ≡ length (now flows)) ⌝ }
-    ensures { λ r. ⌜ Closed (now (flows .entry)) (now (numbers .entry)) n (now (flows .exit)) (now (numbers .exit)) r ⌝ }
-{
-    let mut w = 0;
-    let mut i = 0;
-    while i < n {
-        let f = flows[i];
-        let c = numbers[i];
-        if c != 0 {
-            flows[w] = f;
-            numbers[w] = c;
-            w += 1;
-        }
-        i += 1;
-    }
-    w
-}
-
 // Zeros from slot n on.
 fn clear_numbers(s: &mut [i32], n: usize)
     ensures { λ _. ⌜ Cleared (pos 0) n (now (s .entry)) (now (s .exit)) ⌝ }
@@ -166,34 +146,34 @@ fn down(z: i32) -> u64
     0
 }
 
-// What the first n entries add up to.
-fn add_up(numbers: &[i32], n: usize) -> Listed
-    requires { ⌜ (n ≤ length (now numbers)) × (n ≤ 65536) ⌝ }
-    ensures { λ r. ⌜ Adds (now (numbers .entry)) n r ⌝ }
+// The close: entries with number 0 go, the others keep their order, and all slots past them are 0. It goes over the table once. An entry
+// that is kept moves to the lowest slot that is free; where none before it was dropped it stands there already, and is not written.
+pub(crate) fn close(flows: &mut [u32], numbers: &mut [i32], n: usize) -> Listed
+    requires { ⌜ (n ≤ length (now flows)) × (length (now numbers) ≡ length (now flows)) × (length (now flows) ≤ 65536) ⌝ }
+    ensures { λ r. ⌜ Lists (now (flows .entry)) (now (numbers .entry)) n r (now (flows .exit)) (now (numbers .exit)) ⌝ }
 {
+    let mut entries = 0;
     let mut lost: u64 = 0;
     let mut extra: u64 = 0;
     let mut i = 0;
     while i < n {
         let c = numbers[i];
-        lost += up(c);
-        extra += down(c);
+        if c != 0 {
+            if entries < i {
+                flows[entries] = flows[i];
+                numbers[entries] = c;
+            }
+            entries += 1;
+            lost += up(c);
+            extra += down(c);
+        }
         i += 1;
     }
+    clear(flows, entries);
+    clear_numbers(numbers, entries);
     Listed {
-        entries: n,
+        entries,
         lost,
         extra,
     }
-}
-
-// The close: entries with number 0 go, the others keep their order, and all slots past them are 0.
-pub(crate) fn close(flows: &mut [u32], numbers: &mut [i32], n: usize) -> Listed
-    requires { ⌜ (n ≤ length (now flows)) × (length (now numbers) ≡ length (now flows)) × (length (now flows) ≤ 65536) ⌝ }
-    ensures { λ r. ⌜ Lists (now (flows .entry)) (now (numbers .entry)) n r (now (flows .exit)) (now (numbers .exit)) ⌝ }
-{
-    let entries = compact(flows, numbers, n);
-    clear(flows, entries);
-    clear_numbers(numbers, entries);
-    add_up(numbers, entries)
 }

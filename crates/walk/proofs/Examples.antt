@@ -154,6 +154,10 @@ S75 = buckets (o ∷ o ∷ b (pos 5) 35 ∷ o ∷ o ∷ o ∷ o ∷ b (pos 5) 35
 abbrev SB : Sketch
 SB = buckets (b (pos 2147483646) 2147483627 ∷ b (pos 2147483646) 2147483636 ∷ b (pos 2147483646) 2147483640 ∷ o ∷ o ∷ b (pos 2147483646) 2147483627 ∷ o ∷ b (pos 2147483646) 2147483640 ∷ o ∷ b (pos 2147483646) 2147483636 ∷ [])
 
+-- flow 20 by 3, E3's two flows, and flow 4 by -4
+abbrev pub SC : Sketch
+SC = buckets (b (pos 3) 60 ∷ o ∷ b (pos 2) 14 ∷ o ∷ b (negsuc 3) 2147483631 ∷ b (pos 3) 60 ∷ b (pos 2) 14 ∷ b (negsuc 3) 2147483631 ∷ o ∷ o ∷ [])
+
 -- index 2 is pure with flow 7, whose other bucket the take would bring to -2147483647
 abbrev SR : Sketch
 SR = buckets (o ∷ o ∷ b (pos 2147483646) 2147483640 ∷ o ∷ o ∷ o ∷ o ∷ b (negsuc 0) 0 ∷ o ∷ o ∷ [])
@@ -211,6 +215,9 @@ examples =
     ∷ (peeling SE 10 80 gives ends 1 3 0 3 (by 12 (negsuc 1) ∷ by 7 (negsuc 0) ∷ []) S0)
     ∷ (peeling S1 1 80 gives ends 6 3 2 0 (by 12 (pos 2) ∷ []) S71)
     ∷ (peeling SB 10 80 gives ends 1 3 6442450938 0 (by 20 (pos 2147483646) ∷ by 11 (pos 2147483646) ∷ by 7 (pos 2147483646) ∷ []) S0)
+    -- an entry between the two that are listed came to 0: E3's two flows passed as flow 7, which was taken and put back
+    ∷ (sketch-of (by 20 (pos 3) ∷ by 2 (pos 1) ∷ by 12 (pos 1) ∷ by 4 (negsuc 3) ∷ []) gives holds SC)
+    ∷ (peeling SC 10 6 gives ends 3 6 3 4 (by 20 (pos 3) ∷ by 4 (negsuc 3) ∷ []) S3)
     -- flow 0 is FLOW, before COUNT, and as a position; flow 1 is a flow
     ∷ (inserting S0 0 1 gives says 3 0 S0)
     ∷ (inserting S0 0 0 gives says 3 0 S0)
