@@ -137,4 +137,7 @@ enum refusal baseline_read_stream(struct sketch *sketch, const uint8_t *bytes, s
 
 struct figures baseline_peel(struct sketch *sketch, struct table *table, struct room *room, uint32_t allowance);
 
+// Drops the entries that have become 0, sums up the others, and zeros the slots past them.
+void baseline_close(struct table *table, uint32_t entries, struct figures *figures);
+
 #endif

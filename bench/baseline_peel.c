@@ -148,8 +148,7 @@ static enum ending run(struct walk *walk, struct sketch *sketch, struct table *t
     }
 }
 
-// Drops the entries that have become 0, sums up the others, and zeros the slots past them.
-static void close(struct table *table, uint32_t entries, struct figures *figures) {
+void baseline_close(struct table *table, uint32_t entries, struct figures *figures) {
     uint32_t kept = 0;
     uint64_t lost = 0, extra = 0;
     for (uint32_t slot = 0; slot < entries; slot++) {
@@ -176,6 +175,6 @@ struct figures baseline_peel(struct sketch *sketch, struct table *table, struct 
     struct figures figures;
     figures.ending = run(&walk, sketch, table, room, allowance);
     figures.pops = walk.pops;
-    close(table, walk.entries, &figures);
+    baseline_close(table, walk.entries, &figures);
     return figures;
 }

@@ -1,4 +1,4 @@
-// Seeded data for the measurements: parameters, packets and streams.
+// Seeded data for the measurements: parameters, packets, streams and tables.
 #include "data.h"
 
 // Splitmix64: the same numbers for the same seed on every machine.
@@ -55,6 +55,20 @@ void gather(struct packets *packets, uint64_t *seed, const struct params *params
             uint64_t value = (uint64_t)params->m * number_below(seed, PRIME / params->m);
             packets->flows[i] = (uint32_t)((value + PRIME - params->b[0]) % PRIME * inverse % PRIME);
         } while (packets->flows[i] == 0);
+    }
+}
+
+// Where half have come to 0, one of each two neighbours has.
+void make_tables(struct entries *entries, uint64_t *seed, size_t slots, enum zeros zeros, uint32_t most_number) {
+    size_t dropped = 0;
+    for (size_t i = 0; i < MOST_BUCKETS; i++) {
+        if (i % 2 == 0)
+            dropped = number_below(seed, 2);
+        int is_zero = zeros == HALF ? i % 2 == dropped : zeros == ALL_BUT_ONE && i % slots != slots - 1;
+        int32_t number = 1 + (int32_t)number_below(seed, most_number);
+        int is_extra = number_below(seed, 2) == 1;
+        entries->flows[i] = draw_flow(seed);
+        entries->counts[i] = is_zero ? 0 : is_extra ? -number : number;
     }
 }
 

@@ -1,4 +1,4 @@
-// Seeded data for the measurements: parameters, packets and streams.
+// Seeded data for the measurements: parameters, packets, streams and tables.
 #ifndef DATA_H
 #define DATA_H
 
@@ -25,6 +25,18 @@ void make_packets(struct packets *packets, uint64_t *seed, size_t length, uint32
 
 // Puts other flows in their stead that all stand at one place of array 1.
 void gather(struct packets *packets, uint64_t *seed, const struct params *params);
+
+// Which entries of a table have come to 0: none, half of them, those being anywhere, or all but the last.
+enum zeros { NONE, HALF, ALL_BUT_ONE };
+
+// Flows in the order of first takes, each with its count.
+struct entries {
+    uint32_t flows[MOST_BUCKETS];
+    int32_t counts[MOST_BUCKETS];
+};
+
+// Full tables of so many slots each, as many as there is room for. A count that is not 0 is 1 to most_number, lost or extra.
+void make_tables(struct entries *entries, uint64_t *seed, size_t slots, enum zeros zeros, uint32_t most_number);
 
 void make_stream(struct stream *stream, const struct params *params, const struct packets *packets);
 

@@ -8,7 +8,7 @@
 #include <string.h>
 #include <time.h>
 
-enum { MOST_CASES = 64, MOST_ROUNDS = 7, MOST_NUMBER = 64, SEED = 6 };
+enum { MOST_CASES = 80, MOST_ROUNDS = 7, MOST_NUMBER = 64, SEED = 6 };
 
 // Instructions are counted over fewer packets than are timed, since counting is slow and they are the same for every packet.
 enum { TIMED_PACKETS = MOST_PACKETS, COUNTED_PACKETS = 2048 };
@@ -27,14 +27,18 @@ static const struct shape {
     uint32_t m;
 } shapes[] = {{3, 341}, {3, 1365}, {3, 5461}, {3, 16384}, {4, 16384}};
 
+// The tables that are closed have as many slots as there are buckets.
+static const struct shape close_shapes[] = {{4, 256}, {4, 1024}, {4, 4096}, {4, 16384}};
+
 // What is measured: an operation under parameters of a shape. A walk has so many lost flows in a hundred buckets, each by up to
-// most_lost packets, which stand anywhere or all at one place of array 1.
+// most_lost packets, which stand anywhere or all at one place of array 1. A close has entries that have come to 0.
 struct plan {
     const struct operation *operation;
     struct shape shape;
     uint32_t load;
     uint32_t most_lost;
     uint32_t one_place;
+    enum zeros zeros;
 };
 
 struct plans {
@@ -53,13 +57,16 @@ static struct plans all_plans(void) {
     struct plans all = {0};
     for (size_t i = 0; i < sizeof plain / sizeof *plain; i++)
         for (size_t j = 0; j < shape_count; j++)
-            all.plans[all.length++] = (struct plan){plain[i], shapes[j], 0, 0, 0};
+            all.plans[all.length++] = (struct plan){.operation = plain[i], .shape = shapes[j]};
     for (size_t k = 0; k < 2; k++)
         for (size_t i = 0; i < sizeof loads / sizeof *loads; i++)
             for (size_t j = 0; j < shape_count; j++)
-                all.plans[all.length++] = (struct plan){&peel, shapes[j], loads[i], most_lost[k], 0};
+                all.plans[all.length++] = (struct plan){&peel, shapes[j], loads[i], most_lost[k], 0, NONE};
     for (size_t j = 0; j < shape_count; j++)
-        all.plans[all.length++] = (struct plan){&peel, shapes[j], loads[0], most_lost[1], 1};
+        all.plans[all.length++] = (struct plan){&peel, shapes[j], loads[0], most_lost[1], 1, NONE};
+    for (enum zeros zeros = NONE; zeros <= ALL_BUT_ONE; zeros++)
+        for (size_t j = 0; j < sizeof close_shapes / sizeof *close_shapes; j++)
+            all.plans[all.length++] = (struct plan){.operation = &close_tables, .shape = close_shapes[j], .zeros = zeros};
     return all;
 }
 
@@ -83,18 +90,14 @@ static void prepare(const struct plan *plan, size_t packets) {
     if (plan->one_place)
         gather(&given.packets, &seed, &given.params);
     make_stream(&given.stream, &given.params, &given.packets);
+    make_tables(&given.entries, &seed, size, plan->zeros, MOST_NUMBER);
     int begins_full = plan->operation == &subtract || plan->operation == &peel;
     put_in(given.start_counts, given.start_idsums, begins_full ? given.packets.length : 0);
     put_in(given.other_counts, given.other_idsums, given.packets.length / 2);
 }
 
-static void start_again(struct side *side) {
-    memcpy(side->counts, given.start_counts, sizeof *side->counts * size_of(&given.params));
-    memcpy(side->idsums, given.start_idsums, sizeof *side->idsums * size_of(&given.params));
-}
-
-static void run(call *call, struct side *side) {
-    start_again(side);
+static void run(const struct operation *operation, call *call, struct side *side) {
+    operation->start(&given, side);
     call(&given, side);
 }
 
@@ -124,9 +127,9 @@ struct round {
 // Each side once; the program ends where they differ, or where the answer is not the one that is due.
 static struct round check(const struct plan *plan, uint32_t due) {
     double start = now();
-    run(plan->operation->ours, &our_side);
+    run(plan->operation, plan->operation->ours, &our_side);
     double middle = now();
-    run(plan->operation->baseline, &baseline_side);
+    run(plan->operation, plan->operation->baseline, &baseline_side);
     double end = now();
     if (!have_equal_results() || our_side.answer != due) {
         printf("%s over %u buckets: the results differ\n", plan->operation->name, size_of(&given.params));
@@ -144,11 +147,11 @@ static void check_refused_stream(const struct plan *plan) {
 }
 
 // The seconds of one run.
-static double sample(call *call, struct side *side) {
+static double sample(const struct operation *operation, call *call, struct side *side) {
     double spent = 0;
     uint32_t runs = 0;
     while (spent < sample_seconds) {
-        start_again(side);
+        operation->start(&given, side);
         double before = now();
         call(&given, side);
         spent += now() - before;
@@ -168,14 +171,21 @@ static double median(double *numbers, size_t length) {
 }
 
 static void print_plan(size_t number, const struct plan *plan) {
-    printf("%zu\t%s\t%u\t%u\t%u\t%u\t%u", number, plan->operation->name, plan->shape.d * plan->shape.m, plan->shape.d,
-           plan->load, plan->most_lost, plan->one_place);
+    printf("%zu\t%s\t%u\t%u\t%u\t%u\t%u\t%d", number, plan->operation->name, plan->shape.d * plan->shape.m, plan->shape.d,
+           plan->load, plan->most_lost, plan->one_place, plan->zeros);
 }
 
-// Behind the plan: how the walk ended, the rounds, the nanoseconds a packet or a bucket of ours and of the baseline, the ratio.
+// How many packets, buckets or entries a run is over.
+static double units_of(const struct plan *plan) {
+    if (plan->operation == &subtract || plan->operation == &peel)
+        return size_of(&given.params);
+    return plan->operation == &close_tables ? MOST_BUCKETS : TIMED_PACKETS;
+}
+
+// Behind the plan: how the walk ended, the rounds, the nanoseconds a packet, bucket or entry of ours and of the baseline, the ratio.
 static void print_result(const struct plan *plan, size_t rounds, struct round medians, double ratio) {
-    double units = plan->operation == &subtract || plan->operation == &peel ? size_of(&given.params) : TIMED_PACKETS;
-    printf("\t%d\t%u\t%zu\t%.1f\t%.1f\t%.3f\n", our_side.figures.ending, our_side.figures.pops, rounds,
+    double units = units_of(plan);
+    printf("\t%d\t%u\t%zu\t%.2f\t%.2f\t%.3f\n", our_side.figures.ending, our_side.figures.pops, rounds,
            1e9 * medians.ours / units, 1e9 * medians.baseline / units, ratio);
     fflush(NULL);
 }
@@ -191,10 +201,10 @@ static void measure(const struct plan *plan, struct round checked) {
     double start = now();
     while (rounds < MOST_ROUNDS && (rounds == 0 || now() - start < case_seconds)) {
         if (rounds % 2 == 0)
-            ours[rounds] = sample(plan->operation->ours, &our_side);
-        baseline[rounds] = sample(plan->operation->baseline, &baseline_side);
+            ours[rounds] = sample(plan->operation, plan->operation->ours, &our_side);
+        baseline[rounds] = sample(plan->operation, plan->operation->baseline, &baseline_side);
         if (rounds % 2 != 0)
-            ours[rounds] = sample(plan->operation->ours, &our_side);
+            ours[rounds] = sample(plan->operation, plan->operation->ours, &our_side);
         ratios[rounds] = ours[rounds] / baseline[rounds];
         rounds++;
     }
@@ -225,9 +235,9 @@ static void repeat(const struct plan *plan, const char *side, int runs) {
     prepare(plan, COUNTED_PACKETS);
     for (int i = 0; i < runs; i++) {
         if (strcmp(side, "ours") == 0)
-            run(plan->operation->ours, &our_side);
+            run(plan->operation, plan->operation->ours, &our_side);
         else
-            run(plan->operation->baseline, &baseline_side);
+            run(plan->operation, plan->operation->baseline, &baseline_side);
     }
 }
 

@@ -1,7 +1,10 @@
 // Each operation as the library does it, through its C face, and as the baseline does it.
 #include "sides.h"
 
+#include "close_alone.h"
 #include "gabunlitik.h"
+
+#include <string.h>
 
 enum { CELLS_LOG2 = 17 };
 
@@ -27,6 +30,16 @@ static struct words words_of(const struct params *params) {
 
 static struct sketch sketch_of(const struct given *given, struct side *side) {
     return (struct sketch){given->params, side->counts, side->idsums};
+}
+
+static void start_sketch(const struct given *given, struct side *side) {
+    memcpy(side->counts, given->start_counts, sizeof *side->counts * size_of(&given->params));
+    memcpy(side->idsums, given->start_idsums, sizeof *side->idsums * size_of(&given->params));
+}
+
+static void start_tables(const struct given *given, struct side *side) {
+    memcpy(side->table_flows, given->entries.flows, sizeof side->table_flows);
+    memcpy(side->table_counts, given->entries.counts, sizeof side->table_counts);
 }
 
 static void our_insert(const struct given *given, struct side *side) {
@@ -113,8 +126,41 @@ static void baseline_peel_whole(const struct given *given, struct side *side) {
     side->figures = baseline_peel(&sketch, &table, &room, 8 * n);
 }
 
-const struct operation insert = {"insert", our_insert, baseline_insert_each};
-const struct operation insert_all = {"insert_all", our_insert_all, baseline_insert_all_at_once};
-const struct operation read_stream = {"read_stream", our_read_stream, baseline_read_whole_stream};
-const struct operation subtract = {"subtract", our_subtract, baseline_subtract_other};
-const struct operation peel = {"peel", our_peel, baseline_peel_whole};
+static void add_figures(struct figures *sums, const struct figures *figures) {
+    sums->entries += figures->entries;
+    sums->lost += figures->lost;
+    sums->extra += figures->extra;
+}
+
+// All memory for a table is taken, in tables of as many slots as the sketch has buckets.
+static void our_close_tables(const struct given *given, struct side *side) {
+    size_t slots = size_of(&given->params);
+    side->answer = DONE;
+    side->figures = (struct figures){0};
+    for (size_t first = 0; first + slots <= MOST_BUCKETS; first += slots) {
+        uint64_t told[CLOSE_FIGURES];
+        close_alone(side->table_flows + first, slots, side->table_counts + first, slots, slots, told);
+        struct figures figures = {
+            .entries = (uint32_t)told[CLOSE_ENTRIES], .lost = told[CLOSE_LOST], .extra = told[CLOSE_EXTRA]};
+        add_figures(&side->figures, &figures);
+    }
+}
+
+static void baseline_close_tables(const struct given *given, struct side *side) {
+    uint32_t slots = size_of(&given->params);
+    side->answer = DONE;
+    side->figures = (struct figures){0};
+    for (size_t first = 0; first + slots <= MOST_BUCKETS; first += slots) {
+        struct table table = {side->table_flows + first, side->table_counts + first, slots};
+        struct figures figures;
+        baseline_close(&table, slots, &figures);
+        add_figures(&side->figures, &figures);
+    }
+}
+
+const struct operation insert = {"insert", start_sketch, our_insert, baseline_insert_each};
+const struct operation insert_all = {"insert_all", start_sketch, our_insert_all, baseline_insert_all_at_once};
+const struct operation read_stream = {"read_stream", start_sketch, our_read_stream, baseline_read_whole_stream};
+const struct operation subtract = {"subtract", start_sketch, our_subtract, baseline_subtract_other};
+const struct operation peel = {"peel", start_sketch, our_peel, baseline_peel_whole};
+const struct operation close_tables = {"close", start_tables, our_close_tables, baseline_close_tables};

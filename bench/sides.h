@@ -13,6 +13,7 @@ struct given {
     uint32_t start_idsums[MOST_BUCKETS];
     int32_t other_counts[MOST_BUCKETS];
     uint32_t other_idsums[MOST_BUCKETS];
+    struct entries entries;
 };
 
 // A side's own memory, and what its last call answered.
@@ -28,13 +29,14 @@ struct side {
 
 typedef void call(const struct given *given, struct side *side);
 
-// The same work done by either side.
+// The same work done by either side, which is set up by `start` each time.
 struct operation {
     const char *name;
+    call *start;
     call *ours;
     call *baseline;
 };
 
-extern const struct operation insert, insert_all, read_stream, subtract, peel;
+extern const struct operation insert, insert_all, read_stream, subtract, peel, close_tables;
 
 #endif

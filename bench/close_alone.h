@@ -1,0 +1,13 @@
+// The close alone as a function for C (close_alone.rt). The library has no such call: bench/run has it proved in a copy of peel.
+#ifndef CLOSE_ALONE_H
+#define CLOSE_ALONE_H
+
+#include <stddef.h>
+#include <stdint.h>
+
+enum { CLOSE_ENTRIES, CLOSE_LOST, CLOSE_EXTRA, CLOSE_FIGURES };
+
+void close_alone(uint32_t *flows, size_t flows_length, int32_t *numbers, size_t numbers_length, size_t entries,
+                 uint64_t figures[CLOSE_FIGURES]);
+
+#endif

@@ -1,0 +1,19 @@
+// The close alone, for C. The library has no such call: bench/run has it proved in a copy of peel.
+use crate::table::close;
+
+// Closes a table that has n entries, and returns in `figures` how many are left, the packets lost and those extra, in this order. Lengths
+// that no table has change nothing.
+#[no_mangle]
+pub extern "C" fn close_alone(flows: &mut [u32], numbers: &mut [i32], n: usize, figures: &mut [u64; 3]) {
+    if flows.len() < n {
+        return;
+    }
+    if numbers.len() != flows.len() {
+        return;
+    }
+    if 65536 < flows.len() {
+        return;
+    }
+    let listed = close(flows, numbers, n);
+    *figures = [listed.entries as u64, listed.lost, listed.extra];
+}
