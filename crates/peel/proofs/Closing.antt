@@ -38,7 +38,7 @@ module _ {w i : ℕ} {fs : List ℕ} {ns : List ℤ} where
         long-numbers = length-set ns w (getD ns i (pos 0));
       }
 
--- of n entries the first i are gone over: the first w slots hold those that are kept, and add up to so much
+-- of n entries the first i are gone over: the first w slots hold those of them that are kept, whose figures are lost and extra
 pub record Closing (fs₀ : List ℕ) (ns₀ : List ℤ) (n i w lost extra : ℕ) (fs : List ℕ) (ns : List ℤ) : Type 0 where
   pub table : tableOf fs ns w ++ close (from i (n - i) (row fs ns)) ≡ close (tableOf fs₀ ns₀ n)
   pub lost-by : lost ≡ lostBy (tableOf fs ns w)

@@ -1,5 +1,5 @@
--- `peel::table::close` meets its contract: what is kept so far, with the close of the entries still to come, is the close of all, and the
--- figures are those of what is kept.
+-- `peel::table::close` meets its contract: what is kept so far, with the close of the entries still to come, is the close of all. The
+-- figures are those of what is kept, of which each adds at most 2147483648.
 use mathlib.Core.Path.{_≡_, refl, ap, _∙_}
 use mathlib.Core.Logic.{⊎-elim}
 use Prim.Native.Nat.{_+_, _*_, _-_, _≤_}
