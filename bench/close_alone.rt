@@ -1,8 +1,8 @@
 // The close alone, for C. The library has no such call: bench/run has it proved in a copy of peel.
 use crate::table::close;
 
-// Closes a table that has n entries, and returns in `figures` how many are left, the packets lost and those extra, in this order. Lengths
-// that no table has change nothing.
+// Closes a table that has n entries, and returns in `figures` how many are kept, the packets lost and those extra, in this order. Where the
+// lengths are not those of a table, nothing changes.
 #[no_mangle]
 pub extern "C" fn close_alone(flows: &mut [u32], numbers: &mut [i32], n: usize, figures: &mut [u64; 3]) {
     if flows.len() < n {

@@ -58,7 +58,6 @@ void gather(struct packets *packets, uint64_t *seed, const struct params *params
     }
 }
 
-// Where half have come to 0, one of each two neighbours has.
 void make_tables(struct entries *entries, uint64_t *seed, size_t slots, enum zeros zeros, uint32_t most_number) {
     size_t dropped = 0;
     for (size_t i = 0; i < MOST_BUCKETS; i++) {

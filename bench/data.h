@@ -26,7 +26,7 @@ void make_packets(struct packets *packets, uint64_t *seed, size_t length, uint32
 // Puts other flows in their stead that all stand at one place of array 1.
 void gather(struct packets *packets, uint64_t *seed, const struct params *params);
 
-// Which entries of a table have come to 0: none, half of them, those being anywhere, or all but the last.
+// Which entries of a table have come to 0: none, one of each two neighbours, or all but the last.
 enum zeros { NONE, HALF, ALL_BUT_ONE };
 
 // Flows in the order of first takes, each with its count.

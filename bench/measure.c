@@ -17,7 +17,7 @@ enum { TIMED_PACKETS = MOST_PACKETS, COUNTED_PACKETS = 2048 };
 static const double sample_seconds = 0.004;
 static const double case_seconds = 0.5;
 
-// Bytes in front of all other code, PADDING of them: where code lies in its pages decides what jumps cost under an emulator.
+// Bytes in front of all other code, PADDING of them: where code lies in its pages, and in its cache lines, decides what jumps cost.
 #define TEXT(number) #number
 #define SKIPPED(number) ".skip " TEXT(number)
 __asm__(".text\n" SKIPPED(PADDING) "\n");
@@ -27,11 +27,11 @@ static const struct shape {
     uint32_t m;
 } shapes[] = {{3, 341}, {3, 1365}, {3, 5461}, {3, 16384}, {4, 16384}};
 
-// The tables that are closed have as many slots as there are buckets.
+// A table that is closed has d * m slots, and there is no sketch.
 static const struct shape close_shapes[] = {{4, 256}, {4, 1024}, {4, 4096}, {4, 16384}};
 
 // What is measured: an operation under parameters of a shape. A walk has so many lost flows in a hundred buckets, each by up to
-// most_lost packets, which stand anywhere or all at one place of array 1. A close has entries that have come to 0.
+// most_lost packets, which stand anywhere or all at one place of array 1. Of the entries of a close some have come to 0.
 struct plan {
     const struct operation *operation;
     struct shape shape;
@@ -132,7 +132,7 @@ static struct round check(const struct plan *plan, uint32_t due) {
     run(plan->operation, plan->operation->baseline, &baseline_side);
     double end = now();
     if (!have_equal_results() || our_side.answer != due) {
-        printf("%s over %u buckets: the results differ\n", plan->operation->name, size_of(&given.params));
+        printf("%s, d * m = %u: the results differ\n", plan->operation->name, size_of(&given.params));
         exit(1);
     }
     return (struct round){middle - start, end - middle};

@@ -132,13 +132,13 @@ static void add_figures(struct figures *sums, const struct figures *figures) {
     sums->extra += figures->extra;
 }
 
-// All memory for a table is taken, in tables of as many slots as the sketch has buckets.
+// As many entries as there can be, in tables of d * m slots.
 static void our_close_tables(const struct given *given, struct side *side) {
     size_t slots = size_of(&given->params);
     side->answer = DONE;
     side->figures = (struct figures){0};
     for (size_t first = 0; first + slots <= MOST_BUCKETS; first += slots) {
-        uint64_t told[CLOSE_FIGURES];
+        uint64_t told[CLOSE_FIGURES] = {0};
         close_alone(side->table_flows + first, slots, side->table_counts + first, slots, slots, told);
         struct figures figures = {
             .entries = (uint32_t)told[CLOSE_ENTRIES], .lost = told[CLOSE_LOST], .extra = told[CLOSE_EXTRA]};

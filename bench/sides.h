@@ -29,7 +29,7 @@ struct side {
 
 typedef void call(const struct given *given, struct side *side);
 
-// The same work done by either side, which is set up by `start` each time.
+// The same work done by either side; `start` sets a side up before each run.
 struct operation {
     const char *name;
     call *start;
