@@ -31,7 +31,7 @@ static const struct shape {
 static const struct shape close_shapes[] = {{4, 256}, {4, 1024}, {4, 4096}, {4, 16384}};
 
 // What is measured: an operation under parameters of a shape. A walk has so many lost flows in a hundred buckets, each by up to
-// most_lost packets, which stand anywhere or all at one place of array 1. Of the entries of a close some have come to 0.
+// most_lost packets, which stand anywhere or all at one place of array 1. `zeros` says which entries of a close have come to 0.
 struct plan {
     const struct operation *operation;
     struct shape shape;

@@ -3,40 +3,19 @@ use mathlib.Core.Path.{_≡_, refl, sym, ap, ap₂, _∙_}
 use mathlib.Core.Bool.{true, false, cond}
 use mathlib.Core.List.{List, [], _∷_, _++_, append-assoc, append-nil}
 use Prim.Native.Nat.{ℕ, suc, _+_, _-_, _<_, _≤_}
-use native.Mathlib.Nat.{sub-zero, zero-add}
+use native.Mathlib.Nat.{sub-zero}
 use native.Mathlib.Numerals.{add-one}
 use native.Mathlib.Omega.{arith}
 use lib.IntN.{ℤ, pos}
-use lib.ListN.{length, getD, set, length-set}
-use lib.Seq.{getD-set-same, getD-set-other}
+use lib.ListN.{getD}
 use Rattle.field.specs.Parts.{up, down}
 use Rattle.params.specs.Lists.{from}
 use Rattle.buckets.specs.Buckets.{isZero}
-use Rattle.sketch.specs.Sketch.{Entry, by}
+use Rattle.sketch.specs.Sketch.{Entry}
 use Rattle.sketch.proofs.Tables.{from-same}
 use Rattle.walk.specs.Walk.{close, summed, lostBy, extraBy}
 use Rattle.peel.specs.Table.{row, tableOf}
-use Rattle.peel.proofs.Froms.{from-last}
-
--- entry i comes to stand in slot w, and the other slots keep theirs
-pub record Kept (w i : ℕ) (fs : List ℕ) (ns : List ℤ) (fs' : List ℕ) (ns' : List ℤ) : Type 0 where
-  pub there : row fs' ns' w ≡ row fs ns i
-  pub others : (j : ℕ) → (j ≡ w → ⊥) → row fs' ns' j ≡ row fs ns j
-  pub long : length fs' ≡ length fs
-  pub long-numbers : length ns' ≡ length ns
-
-module _ {w i : ℕ} {fs : List ℕ} {ns : List ℤ} where
-  pub kept-in-place : w ≡ i → Kept w i fs ns fs ns
-  kept-in-place e = record { there = ap (row fs ns) e; others = λ j d. refl; long = refl; long-numbers = refl }
-
-  pub kept-moved : w < length fs → w < length ns → Kept w i fs ns (set fs w (getD fs i 0)) (set ns w (getD ns i (pos 0)))
-  kept-moved a b =
-      record {
-        there = ap₂ by (getD-set-same fs w (getD fs i 0) 0 a) (getD-set-same ns w (getD ns i (pos 0)) (pos 0) b);
-        others = λ j d. ap₂ by (getD-set-other fs w j (getD fs i 0) 0 d) (getD-set-other ns w j (getD ns i (pos 0)) (pos 0) d);
-        long = length-set fs w (getD fs i 0);
-        long-numbers = length-set ns w (getD ns i (pos 0));
-      }
+use Rattle.peel.proofs.Slots.{Holds, table-more}
 
 -- of n entries the first i are gone over: the first w slots hold those of them that are kept, whose figures are lost and extra
 pub record Closing (fs₀ : List ℕ) (ns₀ : List ℤ) (n i w lost extra : ℕ) (fs : List ℕ) (ns : List ℤ) : Type 0 where
@@ -78,34 +57,22 @@ module _ {fs₀ : List ℕ} {ns₀ : List ℤ} {n i w lost extra : ℕ} {fs : Li
           extra-by = c .extra-by;
         }
 
-    module _ {fs' : List ℕ} {ns' : List ℤ} (k : Kept w i fs ns fs' ns') (u : w ≤ i) where
-      more : tableOf fs' ns' (w + 1) ≡ tableOf fs ns w ++ (row fs ns i ∷ [])
-      unfolding tableOf
-      more =
-          rw (add-one w)
-          (from-last 0 w (row fs' ns')
-          ∙ ap₂ (λ (t : List Entry) (x : Entry). t ++ (x ∷ [])) (from-same 0 w (row fs' ns') (row fs ns) (λ j p q. k .others j (λ z. omega arith))) (rw (zero-add w) (k .there)))
-
+    -- entry i is held by slot w
+    module _ {fs' : List ℕ} {ns' : List ℤ} (h : Holds w (row fs ns i) fs ns fs' ns') (u : w ≤ i) where
       same-rest : rest fs' ns' ≡ rest fs ns
-      same-rest = from-same (i + 1) (n - (i + 1)) (row fs' ns') (row fs ns) (λ j p q. k .others j (λ z. omega arith))
+      same-rest = from-same (i + 1) (n - (i + 1)) (row fs' ns') (row fs ns) (λ j p q. h .others j (λ z. omega arith))
 
       figure : (part : ℤ → ℕ) (sum : ℕ) → sum ≡ summed part (tableOf fs ns w) → sum + part (getD ns i (pos 0)) ≡ summed part (tableOf fs' ns' (w + 1))
-      figure part sum e = omega (arith, e, ap (summed part) more, summed-last part (tableOf fs ns w) (row fs ns i))
+      figure part sum e = omega (arith, e, ap (summed part) (table-more h), summed-last part (tableOf fs ns w) (row fs ns i))
 
       pub closing-keep : isZero (getD ns i (pos 0)) ≡ false → Closing fs₀ ns₀ n (i + 1) (w + 1) (lost + up (getD ns i (pos 0))) (extra + down (getD ns i (pos 0))) fs' ns'
       closing-keep e =
           record {
             table =
-                ap₂ (λ (s t : List Entry). s ++ close t) more same-rest
+                ap₂ (λ (s t : List Entry). s ++ close t) (table-more h) same-rest
                 ∙ append-assoc (tableOf fs ns w) (row fs ns i ∷ []) _
                 ∙ sym (ap (λ (t : List Entry). tableOf fs ns w ++ t) (step ∙ rw e))
                 ∙ c .table;
             lost-by = figure up lost (c .lost-by);
             extra-by = figure down extra (c .extra-by);
           }
-
--- the table below n, with what is past it changed
-pub table-kept : (fs fs' : List ℕ) (ns ns' : List ℤ) (n : ℕ) → ((k : ℕ) → k < n → getD fs' k 0 ≡ getD fs k 0) → ((k : ℕ) → k < n → getD ns' k (pos 0) ≡ getD ns k (pos 0)) → tableOf fs' ns' n ≡ tableOf fs ns n
-unfolding tableOf
-table-kept fs fs' ns ns' n f g =
-    from-same 0 n (row fs' ns') (row fs ns) (λ i a b. ap₂ by (f i (omega arith)) (g i (omega arith)))

@@ -4,19 +4,17 @@ use mathlib.Core.Logic.{⊎-elim}
 use mathlib.Core.Bool.{true, false}
 use mathlib.Core.List.{List, [], _∷_, _++_}
 use Prim.Native.Nat.{ℕ, zero, suc, _+_, _<_, _≤_}
-use native.Mathlib.Nat.{zero-add, eq-or-lt-of-le}
-use native.Mathlib.Numerals.{add-one}
+use native.Mathlib.Nat.{eq-or-lt-of-le}
 use native.Mathlib.Omega.{arith}
 use lib.IntN.{ℤ, pos, _+ℤ_}
 use lib.ListN.{length, getD, set}
-use lib.Seq.{getD-set-same, getD-set-other}
 use borrow.Author.Tests.{eq-eqb, ne-eqb, lt-ltb, le-ltb}
 use Rattle.params.specs.Lists.{from}
 use Rattle.sketch.specs.Sketch.{Entry, by}
 use Rattle.sketch.proofs.Tables.{length-from, from-same}
 use Rattle.walk.specs.Walk.{any, has, entryOf, credited, hasRoom}
 use Rattle.peel.specs.Table.{row, tableOf, Finds, Credited}
-use Rattle.peel.proofs.Froms.{from-last}
+use Rattle.peel.proofs.Slots.{Holds, holds-written, holds-number, table-more}
 
 module _ (E : ℕ → Entry) (f : ℕ) where
   -- f is in slot r, and in no slot from k on before it
@@ -111,30 +109,24 @@ module _ (fs : List ℕ) (ns : List ℤ) (n f r : ℕ) (h : Finds fs n f r) wher
   -- the credit, to an entry and to a new one
   pub credit-old : (c : ℤ) → r < n → n ≤ length ns → n ≤ length fs → Credited f c fs ns n fs (set ns r (getD ns r (pos 0) +ℤ c)) n
   unfolding tableOf
-  credit-old c l u v = record {
-    table =
-        credited-at _ f (row fs (set ns r (getD ns r (pos 0) +ℤ c))) c 0 n r (omega arith) (omega arith) (h .before) (h .found l)
-        (ap (λ (x : ℤ). by (getD fs r 0) x) (getD-set-same ns r (getD ns r (pos 0) +ℤ c) (pos 0) (omega arith)))
-        (λ j d. ap (λ (x : ℤ). by (getD fs j 0) x) (getD-set-other ns r j (getD ns r (pos 0) +ℤ c) (pos 0) d));
-    room = v;
-  }
-
-  kept : (i : ℕ) → i < r → (c : ℤ) → row (set fs r f) (set ns r c) i ≡ row fs ns i
-  kept i l c = ap₂ by (getD-set-other fs r i f 0 (λ e. omega arith)) (getD-set-other ns r i c (pos 0) (λ e. omega arith))
-
-  last : (c : ℤ) → r < length ns → r < length fs → row (set fs r f) (set ns r c) r ≡ by f c
-  last c u v = ap₂ by (getD-set-same fs r f 0 v) (getD-set-same ns r c (pos 0) u)
+  credit-old c l u v =
+      let x : ℤ = getD ns r (pos 0) +ℤ c in
+      let now : Holds r (by (getD fs r 0) x) fs ns fs (set ns r x) = holds-number (omega arith) in
+      record {
+        table = credited-at _ f (row fs (set ns r x)) c 0 n r (omega arith) (omega arith) (h .before) (h .found l) (now .there) (now .others);
+        room = v;
+      }
 
   pub credit-new : (c : ℤ) → n ≤ r → r < length ns → r < length fs → Credited f c fs ns n (set fs r f) (set ns r c) (n + 1)
   unfolding tableOf Nowhere
-  credit-new c l u v = record {
-    table =
-        let e : r ≡ n = omega (arith, h .within) in
-        rw add-one
-        (from-last 0 n (row (set fs r f) (set ns r c))
-        ∙ ap₂ (λ (t : List Entry) (x : Entry). t ++ (x ∷ []))
-        (from-same 0 n (row (set fs r f) (set ns r c)) (row fs ns) (λ i a b. kept i (omega arith) c))
-        (rw (zero-add, ← e) (last c u v))
-        ∙ sym (credited-nowhere (row fs ns) f c 0 n (nowhere l)));
-    room = omega (arith, h .within);
-  }
+  credit-new c l u v =
+      let now : Holds r (by f c) fs ns (set fs r f) (set ns r c) = holds-written v u in
+      let e : n ≡ r = omega (arith, h .within) in
+      record {
+        table =
+            ap (λ (k : ℕ). tableOf (set fs r f) (set ns r c) (k + 1)) e
+            ∙ table-more now
+            ∙ ap (λ (k : ℕ). tableOf fs ns k ++ (by f c ∷ [])) (sym e)
+            ∙ sym (credited-nowhere (row fs ns) f c 0 n (nowhere l));
+        room = omega (arith, h .within);
+      }

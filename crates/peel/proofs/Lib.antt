@@ -5,6 +5,7 @@ pub mod Occurrences
 pub mod Rings
 pub mod Chains
 pub mod Queues
+pub mod Slots
 pub mod Entries
 pub mod Closing
 pub mod Padding

@@ -15,7 +15,9 @@ use Rattle.field.proofs.Casts.{zero-of-bits, bits-of-zero}
 use Rattle.field.proofs.Parts.{abs-parts, abs-of-sfits}
 use Rattle.buckets.proofs.Zeros.{is-zero, not-zero}
 use Rattle.walk.specs.Walk.{lostBy, extraBy}
-use Rattle.peel.proofs.Closing.{Closing, Kept, kept-in-place, kept-moved, closing-none, closing-past, closing-keep, closing-all, table-kept}
+use Rattle.peel.specs.Table.{row}
+use Rattle.peel.proofs.Slots.{Holds, holds-in-place, holds-written, table-kept}
+use Rattle.peel.proofs.Closing.{Closing, closing-none, closing-past, closing-keep, closing-all}
 use Rattle.peel.proofs.table.close.Statement.{statement}
 use Rattle.peel.proofs.table.close.Tie as tie
 
@@ -63,15 +65,15 @@ small : (c : tie.After-c Inv-loop μ-loop) → up (number c) + down (number c) �
 small c = omega (arith, abs-parts (number c), abs-of-sfits (fits c))
 
 -- where it is not 0 it stands in the first slot that is free, moved or not
-kept : (c : tie.Joined2 Inv-loop μ-loop) → let l = c .before .before .before .before .loop in Kept (l .entries) (l .i) (l .flows) (l .numbers) (c .if2 .flows) (c .if2 .numbers)
+kept : (c : tie.Joined2 Inv-loop μ-loop) → let l = c .before .before .before .before .loop in Holds (l .entries) (row (l .flows) (l .numbers) (l .i)) (l .flows) (l .numbers) (c .if2 .flows) (c .if2 .numbers)
 kept c =
     let s = c .before .before .before .before in
     let v = s .loop .inv in
     ⊎-elim
     (λ w.
     rw (w .2, w .3, toZ-ofZ (fits (c .before .before)))
-    (kept-moved (omega (arith, v .2, s .before .before .pre .0)) (omega (arith, v .3, s .before .before .pre .0, s .before .before .pre .1))))
-    (λ w. rw (w .1, w .2) (kept-in-place (omega (arith, w .0 .left, v .0))))
+    (holds-written (omega (arith, v .2, s .before .before .pre .0)) (omega (arith, v .3, s .before .before .pre .0, s .before .before .pre .1))))
+    (λ w. rw (w .1, w .2) (holds-in-place (omega (arith, w .0 .left, v .0))))
     (c .if2 .came)
 
 add-entries : tie.Need-add-entries Inv-loop μ-loop
