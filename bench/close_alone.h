@@ -1,4 +1,4 @@
-// The close alone as a function for C (close_alone.rt). The library has no such call: bench/run has it proved in a copy of peel.
+// The close alone as a function for C. The library has no such call: bench/run adds it to a copy of peel and has it proved there.
 #ifndef CLOSE_ALONE_H
 #define CLOSE_ALONE_H
 
