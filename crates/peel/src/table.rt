@@ -146,8 +146,8 @@ fn down(z: i32) -> u64
     0
 }
 
-// The close: entries with number 0 go, the others keep their order, and all slots past them are 0. It goes over the table once. An entry
-// that is kept moves to the lowest slot that is free; where none before it was dropped it stands there already, and is not written.
+// The close: entries with number 0 are dropped, the others keep their order, and all slots past them are 0. It is one pass: an entry that
+// is kept moves to the lowest slot that is free; where none before it was dropped it stands there already, and is not written.
 pub(crate) fn close(flows: &mut [u32], numbers: &mut [i32], n: usize) -> Listed
     requires { ⌜ (n ≤ length (now flows)) × (length (now numbers) ≡ length (now flows)) × (length (now flows) ≤ 65536) ⌝ }
     ensures { λ r. ⌜ Lists (now (flows .entry)) (now (numbers .entry)) n r (now (flows .exit)) (now (numbers .exit)) ⌝ }
