@@ -6,15 +6,15 @@ use Prim.Native.Nat.{ℕ}
 use borrow.Author.Tests.{not-false}
 use types.Run.{miss}
 use Rattle.params.specs.declared.params.Params.{Params}
+use Rattle.params.specs.declared.params.Obtained.{Obtained}
 use Rattle.params.specs.declared.answers.Refusal.the-variants.{Param, Mismatch, Form}
 use Rattle.params.specs.declared.answers.Answer.{Answer}
 use Rattle.params.specs.declared.answers.Answer.the-variants.{Done, Refused}
 use Rattle.params.specs.Answers.{first, kept}
-use Rattle.params.specs.Params.{goodParams, sameParams}
+use Rattle.params.specs.Params.{goodParams, sameParams, noneObtained, obtained}
 use Rattle.params.proofs.Judging.{Refuses, first-refused, refuse-done}
-use Rattle.files.specs.declared.heads.Headed.{Headed}
 use Rattle.files.specs.Records.{recordAt}
-use Rattle.files.specs.Heads.{paramsIn, isHead, headAnswer, noParams, refusedHead, headOf}
+use Rattle.files.specs.Heads.{paramsIn, isHead, headAnswer, headOf}
 use Rattle.desk.specs.Desk.{fewEnough, beginAnswer, beginOf, downstreamHeadAnswer}
 
 module _ (bs : List ℕ) where
@@ -25,20 +25,20 @@ module _ (bs : List ℕ) where
       not-false _ (refuse-done (not (goodParams (paramsIn bs))) Param 0 Done (h .1) .0)
 
   -- what a reader of heads gives where it refuses nothing
-  pub head-says : (h : Headed) → h ≡ headOf bs → h .answer ≡ Done → (headAnswer bs ≡ Done) × (h .params ≡ paramsIn bs)
+  pub head-says : (h : Obtained) → h ≡ headOf bs → h .answer ≡ Done → (headAnswer bs ≡ Done) × (h .params ≡ paramsIn bs)
   unfolding kept
   head-says h e d =
       let done : headAnswer bs ≡ Done = sym (ap (λ h. h .answer) e) ∙ d in
       (done, ap (λ h. h .params) e ∙ rw done)
 
   -- the first head
-  pub first-refused-head : (h : Headed) → h ≡ headOf bs → Refuses (h .answer) → h ≡ beginOf bs
+  pub first-refused-head : (h : Obtained) → h ≡ headOf bs → Refuses (h .answer) → h ≡ beginOf bs
   unfolding beginAnswer
   first-refused-head h e q =
-      let refused : Refuses (headAnswer bs) = rw (ap (λ (h : Headed). h .answer) e) at q in
-      e ∙ ap (λ (a : Answer). record { answer = a; params = kept a noParams (paramsIn bs) }) (first-refused (headAnswer bs) (headAnswer bs) _ refl refused)
+      let refused : Refuses (headAnswer bs) = rw (ap (λ (h : Obtained). h .answer) e) at q in
+      e ∙ ap (λ (a : Answer). obtained a (paramsIn bs)) (first-refused (headAnswer bs) (headAnswer bs) _ refl refused)
 
-  pub first-too-large : headAnswer bs ≡ Done → fewEnough (paramsIn bs) ≡ false → refusedHead Param ≡ beginOf bs
+  pub first-too-large : headAnswer bs ≡ Done → fewEnough (paramsIn bs) ≡ false → noneObtained (Refused Param 0) ≡ beginOf bs
   unfolding beginAnswer first kept
   first-too-large e f = rw (e, f)
 

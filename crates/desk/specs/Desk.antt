@@ -6,19 +6,19 @@ use Prim.Native.Nat.{ℕ, _+_, _-_, _*_}
 use lib.Dec.{eqb, ltb, leb}
 use lib.ListN.{length, getD, take, drop}
 use Rattle.params.specs.declared.params.Params.{Params}
+use Rattle.params.specs.declared.params.Obtained.{Obtained}
 use Rattle.params.specs.declared.answers.Refusal.{Refusal}
 use Rattle.params.specs.declared.answers.Refusal.the-variants.{Param, Mismatch, Form}
 use Rattle.params.specs.declared.answers.Answer.{Answer}
 use Rattle.params.specs.declared.answers.Answer.the-variants.{Done, Refused}
 use Rattle.params.specs.Lists.{least}
 use Rattle.params.specs.Answers.{refuseIf, first, kept}
-use Rattle.params.specs.Params.{size, goodParams, sameParams, lentAnswer}
+use Rattle.params.specs.Params.{size, goodParams, sameParams, lentAnswer, obtained}
 use Rattle.sketch.specs.Sketch.{Sketch}
 use Rattle.sketch.specs.Packets.{stepAnswer, after}
-use Rattle.files.specs.declared.heads.Headed.{Headed}
 use Rattle.files.specs.Bytes.{word}
 use Rattle.files.specs.Records.{recordAt, isKind, headKind, packetsKind, endKind, headLength, packetsLength, endLength}
-use Rattle.files.specs.Heads.{paramsIn, headAnswer, noParams}
+use Rattle.files.specs.Heads.{paramsIn, headAnswer}
 use Rattle.files.specs.Fields.{recordsField}
 use Rattle.streamfile.specs.Streams.{packetsFrom, flowFrom, numberFrom, flowsFrom, numbersFrom}
 use Rattle.desk.specs.declared.states.Stage.{Stage}
@@ -39,8 +39,8 @@ fewEnough P = leb (size P) mostBuckets
 unfoldable pub beginAnswer : List ℕ → Answer
 beginAnswer bs = first (headAnswer bs) (refuseIf (not (fewEnough (paramsIn bs))) Param 0 Done)
 
-abbrev pub beginOf : List ℕ → Headed
-beginOf bs = record { answer = beginAnswer bs; params = kept (beginAnswer bs) noParams (paramsIn bs) }
+abbrev pub beginOf : List ℕ → Obtained
+beginOf bs = obtained (beginAnswer bs) (paramsIn bs)
 
 -- A state says what is due next, at which offset of the whole input, and how many records stood since the head.
 -- Below, bs are the bytes at hand: the first of them is the one at that offset.

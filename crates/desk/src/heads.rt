@@ -5,9 +5,9 @@ ghost use Rattle.params.specs.Params.{goodParams};
 ghost use Rattle.files.specs.Records.{recordAt, isKind, headKind};
 ghost use Rattle.files.specs.Heads.{paramsIn};
 ghost use Rattle.desk.specs.Desk.{fewEnough, beginOf, downstreamHeadAnswer};
-use files::heads::Headed;
 use files::heads::head;
 use params::Answer;
+use params::Obtained;
 use params::Params;
 use params::Refusal;
 
@@ -23,7 +23,7 @@ fn few_enough(p: Params) -> bool
 }
 
 // Judges the first head of the input, once as many bytes as a head has are at hand, or a first byte that none has, or the input has ended.
-pub fn begin(bytes: &[u8]) -> Headed
+pub fn begin(bytes: &[u8]) -> Obtained
     ensures { λ r. ⌜ r ≡ beginOf (now (bytes .entry)) ⌝ }
 {
     let h = head(bytes);
@@ -33,7 +33,7 @@ pub fn begin(bytes: &[u8]) -> Headed
     };
     let p = h.params;
     if !few_enough(p) {
-        return Headed::refused(Refusal::Param);
+        return Obtained::none(Answer::Refused(Refusal::Param, 0));
     }
     h
 }

@@ -1,25 +1,31 @@
 -- What a caller in C is returned of a call: the library's contract holds of the answer that came back, which is the one of the definition.
 use mathlib.Core.Path.{_≡_, refl, ap, subst, _∙_}
-use mathlib.Core.Bool.{Bool, true, false, not}
+use mathlib.Core.Bool.{not}
 use mathlib.Core.List.{List}
 use Prim.Native.Nat.{ℕ, _≤_}
 use native.Mathlib.Omega.{arith}
+use borrow.Author.Tests.{not-false}
 use Rattle.params.specs.declared.params.Params.{Params}
+use Rattle.params.specs.declared.params.Obtained.{Obtained}
 use Rattle.params.specs.declared.answers.Answer.{Answer}
-use Rattle.params.specs.declared.answers.Answer.the-variants.{Done}
+use Rattle.params.specs.declared.answers.Answer.the-variants.{Done, Refused}
 use Rattle.params.specs.declared.answers.Located.{Located}
 use Rattle.params.specs.declared.answers.Refusal.the-variants.{Param, Form}
-use Rattle.params.specs.Answers.{numberIn, indexIn, locatedNumber, locatedIndex, locatedAt, refuseIf, kept}
-use Rattle.params.specs.Params.{goodParams}
+use Rattle.params.specs.Answers.{numberIn, indexIn, locatedNumber, locatedIndex, locatedAt, kept}
+use Rattle.params.specs.Params.{goodParams, resized, obtained}
+use Rattle.params.proofs.Judging.{refuse-done}
 use Rattle.params.proofs.Rules.{good-dimensions}
+use Rattle.sketch.specs.Sketch.{Sketch}
+use Rattle.fold.specs.Fold.{foldAnswer, foldReturns, Folded}
+use Rattle.fold.proofs.Turns.{short-step}
+use Rattle.fold.proofs.Accepting.{accepted}
 use Rattle.files.specs.declared.writing.Written.{Written}
-use Rattle.files.specs.declared.heads.Headed.{Headed}
 use Rattle.files.specs.Records.{recordAt}
-use Rattle.files.specs.Heads.{paramsInBody, paramsIn, isHead, noParams, headAnswer, headOf}
+use Rattle.files.specs.Heads.{paramsInBody, paramsIn, isHead, headAnswer, headOf}
 use Rattle.files.specs.Writing.{writtenNumber, writtenIndex, writtenLength}
 use Rattle.peel.specs.declared.peeling.Peeled.{Peeled}
 use Rattle.peel.specs.Peel.{peeledNumber, peeledIndex}
-use Rattle.face.specs.Returned.{paramsOf, paramNumbers, figuresIn, AnswerReturned, WrittenReturned, PeeledReturned, LocatedReturned, HeadReturned}
+use Rattle.face.specs.Returned.{paramsOf, paramNumbers, figuresIn, AnswerReturned, WrittenReturned, PeeledReturned, LocatedReturned, ParamsReturned}
 
 pub returned : {answer : Answer} {Contract : Answer → Type 0} {number place : ℕ} (x : Answer)
     → x ≡ answer → Contract x → (number ≡ numberIn x) × (place ≡ indexIn x) → AnswerReturned answer Contract number place
@@ -61,37 +67,47 @@ located-returned x e t =
       found-returned = t .2 ∙ ap locatedAt e;
     }
 
-pub head-returned : {headed : Headed} {number place : ℕ} {numbers : List ℕ} (x : Headed)
-    → x ≡ headed → (number ≡ numberIn (x .answer)) × (place ≡ indexIn (x .answer)) → numbers ≡ paramNumbers (x .params)
-    → HeadReturned headed number place numbers
-head-returned x e t n =
+pub params-returned : {obtained : Obtained} {number place : ℕ} {numbers : List ℕ} (x : Obtained)
+    → x ≡ obtained → (number ≡ numberIn (x .answer)) × (place ≡ indexIn (x .answer)) × (numbers ≡ paramNumbers (x .params))
+    → ParamsReturned obtained number place numbers
+params-returned x e t =
     record {
-      number-returned = t .0 ∙ ap (λ (h : Headed). numberIn (h .answer)) e;
-      place-returned = t .1 ∙ ap (λ (h : Headed). indexIn (h .answer)) e;
-      numbers-returned = n ∙ ap (λ (h : Headed). paramNumbers (h .params)) e;
+      number-returned = t .0 ∙ ap (λ (h : Obtained). numberIn (h .answer)) e;
+      place-returned = t .1 ∙ ap (λ (h : Obtained). indexIn (h .answer)) e;
+      numbers-returned = t .2 ∙ ap (λ (h : Obtained). paramNumbers (h .params)) e;
     }
 
-module _ (bs : List ℕ) where
-  -- the parameters of a head, by its two tests
-  unfoldable judgedParams : Bool → Bool → Params
-  judgedParams h g = kept (refuseIf (not h) Form 0 (refuseIf (not g) Param 0 Done)) noParams (paramsIn bs)
+pub fold-returned : {P : Params} {m2 : ℕ} {S S' : Sketch} {x : Obtained} {number place : ℕ} {numbers : List ℕ}
+    → Folded P m2 S x S' → (number ≡ numberIn (x .answer)) × (place ≡ indexIn (x .answer)) × (numbers ≡ paramNumbers (x .params))
+    → ParamsReturned (foldReturns P m2 S) number place numbers × Folded P m2 S (foldReturns P m2 S) S'
+fold-returned {P} {m2} {S} {S'} {x} held t = (params-returned x (held .answer) t, subst (λ (o : Obtained). Folded P m2 S o S') (held .answer) held)
 
-  -- a head that keeps the rules has small dimensions, and one that is refused gives none
-  pub head-small : (headOf bs .params .d ≤ 4) × (headOf bs .params .m ≤ 16384)
-  unfolding headAnswer judgedParams kept
-  head-small = go (isHead (recordAt bs 0)) (goodParams (paramsIn bs)) refl
-    where
-      go : (h g : Bool) → goodParams (paramsIn bs) ≡ g → (judgedParams h g .d ≤ 4) × (judgedParams h g .m ≤ 16384)
-      go false g e = (omega arith, omega arith)
-      go true false e = (omega arith, omega arith)
-      go true true e = let s = good-dimensions (paramsIn bs) e in (s .d-high, s .m-high)
+-- parameters that are returned have small dimensions: those of parameters that keep the rules, or zeros
+obtained-small : (r : Answer) (P : Params) → (r ≡ Done → (P .d ≤ 4) × (P .m ≤ 16384)) → (obtained r P .params .d ≤ 4) × (obtained r P .params .m ≤ 16384)
+unfolding kept
+obtained-small Done P h = h refl
+obtained-small (Refused w k) P h = (omega arith, omega arith)
 
-  -- the ten numbers of a head give its parameters to every other call
-  pub head-back : paramsOf (paramNumbers (headOf bs .params)) ≡ headOf bs .params
-  unfolding headAnswer judgedParams kept paramsOf paramNumbers paramsInBody paramsIn
-  head-back = go (isHead (recordAt bs 0)) (goodParams (paramsIn bs))
-    where
-      go : (h g : Bool) → paramsOf (paramNumbers (judgedParams h g)) ≡ judgedParams h g
-      go false g = refl
-      go true false = refl
-      go true true = refl
+pub head-small : (bs : List ℕ) → (headOf bs .params .d ≤ 4) × (headOf bs .params .m ≤ 16384)
+unfolding headAnswer
+head-small bs =
+    obtained-small (headAnswer bs) (paramsIn bs)
+    (λ e. let s = good-dimensions (paramsIn bs) (not-false _ (refuse-done (not (goodParams (paramsIn bs))) Param 0 Done (refuse-done (not (isHead (recordAt bs 0))) Form 0 _ e .1) .0)) in (s .d-high, s .m-high))
+
+pub fold-small : (P : Params) (m2 : ℕ) (S : Sketch) → (foldReturns P m2 S .params .d ≤ 4) × (foldReturns P m2 S .params .m ≤ 16384)
+fold-small P m2 S =
+    obtained-small (foldAnswer P m2 S) (resized P m2) (λ e. let h = accepted P m2 S e .asked in (h .d-high, omega (arith, short-step h, h .m-high)))
+
+-- the ten numbers that are returned give the parameters to every other call
+back : (r : Answer) (P : Params) → paramsOf (paramNumbers P) ≡ P → paramsOf (paramNumbers (obtained r P .params)) ≡ obtained r P .params
+unfolding kept paramsOf paramNumbers
+back Done P e = e
+back (Refused w k) P e = refl
+
+pub head-back : (bs : List ℕ) → paramsOf (paramNumbers (headOf bs .params)) ≡ headOf bs .params
+unfolding paramsIn paramsInBody paramsOf paramNumbers
+head-back bs = back (headAnswer bs) (paramsIn bs) refl
+
+pub fold-back : (ns : List ℕ) (m2 : ℕ) (S : Sketch) → paramsOf (paramNumbers (foldReturns (paramsOf ns) m2 S .params)) ≡ foldReturns (paramsOf ns) m2 S .params
+unfolding paramsOf paramNumbers
+fold-back ns m2 S = back (foldAnswer (paramsOf ns) m2 S) (resized (paramsOf ns) m2) refl

@@ -10,6 +10,7 @@ use Rattle.params.specs.Params.{lentAnswer}
 use Rattle.params.specs.Positions.{positionAnswer, position, index}
 use Rattle.sketch.specs.Sketch.{Sketch, Freshened}
 use Rattle.sketch.specs.Packets.{moveAnswer, allAnswer, Inserted, Withdrawn, AllInserted}
+use Rattle.fold.specs.Fold.{foldReturns, Folded}
 use Rattle.sums.specs.Sums.{combineAnswer, Combined}
 use Rattle.peel.specs.Slices.{Slices}
 use Rattle.peel.specs.Peel.{peelReturns, Peels}
@@ -19,7 +20,7 @@ use Rattle.streamfile.specs.Streams.{streamAnswer, StreamRead}
 use Rattle.streamfile.specs.Writing as streams
 use Rattle.sketchfile.specs.Reading.{sketchAnswer, SketchRead}
 use Rattle.sketchfile.specs.Writing as sketches
-use Rattle.face.specs.Returned.{AnswerReturned, WrittenReturned, PeeledReturned, LocatedReturned, HeadReturned}
+use Rattle.face.specs.Returned.{AnswerReturned, WrittenReturned, PeeledReturned, LocatedReturned, ParamsReturned}
 
 abbrev pub FreshenedFor : Params → Sketch → ℕ → ℕ → Sketch → Type 0
 FreshenedFor P S r k S' = AnswerReturned (lentAnswer P (length (S .counts)) (length (S .idsums))) (λ x. Freshened P S x S') r k
@@ -37,6 +38,10 @@ AllInsertedFor P fs ns S r k S' = AnswerReturned (allAnswer P fs ns S) (λ x. Al
 abbrev pub CombinedFor : Bool → Params → Params → Sketch → Sketch → ℕ → ℕ → Sketch → Type 0
 CombinedFor minus P Q S T r k S' = AnswerReturned (combineAnswer minus P Q S T) (λ x. Combined minus P Q S T x S') r k
 
+-- ns are the ten numbers that the caller gets of the folded sketch's parameters
+abbrev pub FoldedFor : Params → ℕ → Sketch → ℕ → ℕ → List ℕ → Sketch → Type 0
+FoldedFor P m2 S r k ns S' = ParamsReturned (foldReturns P m2 S) r k ns × Folded P m2 S (foldReturns P m2 S) S'
+
 -- n is the position, or the index, that the caller gets of flow f in array i
 abbrev pub PositionFor : Params → ℕ → ℕ → ℕ → ℕ → ℕ → Type 0
 PositionFor P i f r k n = LocatedReturned (locatedOf (positionAnswer P i f) (position P i f)) r k n
@@ -46,7 +51,7 @@ IndexFor P i f r k n = LocatedReturned (locatedOf (positionAnswer P i f) (index 
 
 -- ns are the ten numbers that the caller gets of the head of the file bs
 abbrev pub HeadReadFor : List ℕ → ℕ → ℕ → List ℕ → Type 0
-HeadReadFor bs r k ns = HeadReturned (headOf bs) r k ns
+HeadReadFor bs r k ns = ParamsReturned (headOf bs) r k ns
 
 abbrev pub StreamReadFor : Params → List ℕ → Sketch → ℕ → ℕ → Sketch → Type 0
 StreamReadFor P bs S r k S' = AnswerReturned (streamAnswer P bs S) (λ x. StreamRead P bs S x S') r k

@@ -4,10 +4,10 @@ use mathlib.Core.List.{List, [], _∷_}
 use Prim.Native.Nat.{ℕ}
 use lib.ListN.{getD}
 use Rattle.params.specs.declared.params.Params.{Params}
+use Rattle.params.specs.declared.params.Obtained.{Obtained}
 use Rattle.params.specs.declared.answers.Answer.{Answer}
 use Rattle.params.specs.declared.answers.Located.{Located}
 use Rattle.params.specs.Answers.{numberIn, indexIn, locatedNumber, locatedIndex, locatedAt}
-use Rattle.files.specs.declared.heads.Headed.{Headed}
 use Rattle.files.specs.declared.writing.Written.{Written}
 use Rattle.files.specs.Writing.{writtenNumber, writtenIndex, writtenLength}
 use Rattle.peel.specs.declared.peeling.Peeled.{Peeled}
@@ -53,14 +53,14 @@ pub record PeeledReturned (peeled : Peeled) (Contract : Peeled → Type 0) (numb
   pub figures-returned : figures ≡ figuresIn peeled
   pub call : Contract peeled
 
--- What a call that alters no lent memory returns: the number and the place with the position or the index that was found, or with the
--- numbers of a head's parameters.
+-- What a caller is returned of a position or an index, and of parameters: the number and the place, with what was found or with their ten
+-- numbers.
 pub record LocatedReturned (located : Located) (number place found : ℕ) : Type 0 where
   pub number-returned : number ≡ locatedNumber located
   pub place-returned : place ≡ locatedIndex located
   pub found-returned : found ≡ locatedAt located
 
-pub record HeadReturned (headed : Headed) (number place : ℕ) (numbers : List ℕ) : Type 0 where
-  pub number-returned : number ≡ numberIn (headed .answer)
-  pub place-returned : place ≡ indexIn (headed .answer)
-  pub numbers-returned : numbers ≡ paramNumbers (headed .params)
+pub record ParamsReturned (obtained : Obtained) (number place : ℕ) (numbers : List ℕ) : Type 0 where
+  pub number-returned : number ≡ numberIn (obtained .answer)
+  pub place-returned : place ≡ indexIn (obtained .answer)
+  pub numbers-returned : numbers ≡ paramNumbers (obtained .params)

@@ -2,9 +2,9 @@
 ghost use Rattle.sketch.specs.Sketch.{sketch};
 ghost use Rattle.face.specs.Returned.{paramsOf};
 ghost use Rattle.face.specs.Calls.{HeadReadFor, StreamReadFor, StreamWrittenFor, SketchReadFor, SketchWrittenFor};
-use crate::returned::numbers_of;
 use crate::returned::params_of;
 use crate::returned::return_answer;
+use crate::returned::return_params;
 use crate::returned::return_written;
 use files::heads::head;
 use sketchfile::reading::read_sketch;
@@ -21,11 +21,7 @@ pub extern "C" fn gabunlitik_read_head(
 ) -> u32
     ensures { λ r. ⌜ HeadReadFor (now (bytes .entry)) r (now (place .exit)) (now (params .exit)) ⌝ }
 {
-    let headed = head(bytes);
-    let answer = headed.answer;
-    let p = headed.params;
-    numbers_of(p, params);
-    return_answer(answer, place)
+    return_params(head(bytes), params, place)
 }
 
 // Inserts the packets of a stream file.

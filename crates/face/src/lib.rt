@@ -3,5 +3,5 @@
 mod returned; // parameters from ten numbers, and answers as numbers
 pub mod filing; // stream files and sketch files, read and written, and the head of a file
 pub mod positions; // positions and indexes
-pub mod sketches; // fresh sketches, packets, sums and differences
+pub mod sketches; // fresh sketches, packets, sums, differences and folds
 pub mod walks; // peeling

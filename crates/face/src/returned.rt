@@ -9,6 +9,7 @@ ghost use Rattle.face.specs.Returned.{paramsOf, paramNumbers, figuresIn}
 use files::writing::Written;
 use params::Answer;
 use params::Located;
+use params::Obtained;
 use params::Params;
 use peel::peeling::Peeled;
 use walk::Ending;
@@ -35,7 +36,7 @@ pub(crate) fn params_of(params: &[u32; 10]) -> Params
 }
 
 // The same ten numbers of parameters whose dimensions are small.
-pub(crate) fn numbers_of(p: Params, numbers: &mut [u32; 10])
+fn numbers_of(p: Params, numbers: &mut [u32; 10])
     requires { ⌜ (p .d ≤ 4) × (p .m ≤ 16384) ⌝ }
     ensures { λ r. ⌜ now (numbers .exit) ≡ paramNumbers p ⌝ }
 {
@@ -69,6 +70,17 @@ pub(crate) fn return_answer(answer: Answer, place: &mut usize) -> u32
             refusal.number()
         }
     }
+}
+
+// The same for parameters that a call returns.
+pub(crate) fn return_params(obtained: Obtained, numbers: &mut [u32; 10], place: &mut usize) -> u32
+    requires { ⌜ (obtained .params .d ≤ 4) × (obtained .params .m ≤ 16384) ⌝ }
+    ensures { λ r. ⌜ (r ≡ numberIn (obtained .answer)) × (now (place .exit) ≡ indexIn (obtained .answer)) × (now (numbers .exit) ≡ paramNumbers (obtained .params)) ⌝ }
+{
+    let answer = obtained.answer;
+    let p = obtained.params;
+    numbers_of(p, numbers);
+    return_answer(answer, place)
 }
 
 // The same for a position or an index, which goes to `found`.

@@ -1,10 +1,13 @@
-// Fresh sketches, packets put in and taken out, and sums and differences of two sketches, for C.
+// Fresh sketches, packets put in and taken out, sums and differences of two sketches, and folds, for C.
 ghost use mathlib.Core.Bool.{true, false};
 ghost use Rattle.sketch.specs.Sketch.{sketch};
 ghost use Rattle.face.specs.Returned.{paramsOf};
-ghost use Rattle.face.specs.Calls.{FreshenedFor, InsertedFor, WithdrawnFor, AllInsertedFor, CombinedFor};
+ghost use Rattle.face.specs.Calls.{FreshenedFor, InsertedFor, WithdrawnFor, AllInsertedFor, CombinedFor, FoldedFor};
 use crate::returned::params_of;
 use crate::returned::return_answer;
+use crate::returned::return_params;
+use crate::returned::wide;
+use fold::fold;
 use sketch::packets::fresh;
 use sketch::packets::insert;
 use sketch::packets::insert_all;
@@ -110,4 +113,20 @@ pub extern "C" fn gabunlitik_subtract(
     let q = params_of(other_params);
     let subtracted = subtract(p, q, counts, idsums, other_counts, other_idsums);
     return_answer(subtracted, place)
+}
+
+// Folds a sketch to m2 buckets an array, and writes its parameters, all 0 where it is refused.
+#[no_mangle]
+pub extern "C" fn gabunlitik_fold(
+    params: &[u32; 10],
+    counts: &mut [i32],
+    idsums: &mut [u32],
+    m2: u32,
+    folded_params: &mut [u32; 10],
+    place: &mut usize,
+) -> u32
+    ensures { λ r. ⌜ FoldedFor (paramsOf (now (params .entry))) m2 (sketch (now (counts .entry)) (now (idsums .entry))) r (now (place .exit)) (now («folded_params» .exit)) (sketch (now (counts .exit)) (now (idsums .exit))) ⌝ }
+{
+    let folded = fold(params_of(params), counts, idsums, wide(m2));
+    return_params(folded, folded_params, place)
 }

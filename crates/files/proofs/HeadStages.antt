@@ -9,26 +9,26 @@ use lib.Dec.{eqb}
 use lib.ListN.{length}
 use Rattle.params.specs.declared.answers.Refusal.the-variants.{Param, Mismatch, Form}
 use Rattle.params.specs.declared.params.Params.{Params}
+use Rattle.params.specs.declared.params.Obtained.{Obtained}
 use Rattle.params.specs.declared.answers.Answer.{Answer}
 use Rattle.params.specs.declared.answers.Answer.the-variants.{Done, Refused}
 use Rattle.params.specs.Answers.{refuseIf, first, kept}
-use Rattle.params.specs.Params.{goodParams, sameParams, lengthsAnswer}
+use Rattle.params.specs.Params.{noneObtained, goodParams, sameParams, lengthsAnswer}
 use Rattle.params.proofs.Judging.{Refuses, first-refused, first-passed}
-use Rattle.files.specs.declared.heads.Headed.{Headed}
 use Rattle.files.specs.Records.{bodyLength, recordAt, bodyOfKind, headKind}
-use Rattle.files.specs.Heads.{paramsInBody, paramsIn, isHead, headAnswer, refusedHead, headOf, parametersAnswer}
+use Rattle.files.specs.Heads.{paramsInBody, paramsIn, isHead, headAnswer, headOf, parametersAnswer}
 use Rattle.files.proofs.Bodies.{kind-body, body-decides}
 
 module _ (bs : List ℕ) where
-  pub not-a-head : isHead (recordAt bs 0) ≡ false → refusedHead Form ≡ headOf bs
+  pub not-a-head : isHead (recordAt bs 0) ≡ false → noneObtained (Refused Form 0) ≡ headOf bs
   unfolding headAnswer kept
   not-a-head e = rw e
 
-  pub bad-params : isHead (recordAt bs 0) ≡ true → goodParams (paramsIn bs) ≡ false → refusedHead Param ≡ headOf bs
+  pub bad-params : isHead (recordAt bs 0) ≡ true → goodParams (paramsIn bs) ≡ false → noneObtained (Refused Param 0) ≡ headOf bs
   unfolding headAnswer kept
   bad-params e g = rw (e, g)
 
-  pub good-head : isHead (recordAt bs 0) ≡ true → goodParams (paramsIn bs) ≡ true → _≡_ {A = Headed} (record { answer = Done; params = paramsIn bs }) (headOf bs)
+  pub good-head : isHead (recordAt bs 0) ≡ true → goodParams (paramsIn bs) ≡ true → _≡_ {A = Obtained} (record { answer = Done; params = paramsIn bs }) (headOf bs)
   unfolding headAnswer kept
   good-head e g = rw (e, g)
 

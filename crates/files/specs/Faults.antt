@@ -5,7 +5,7 @@ use Prim.Native.Nat.{ℕ}
 use lib.Dec.{eqb}
 use Rattle.params.specs.declared.params.Params.{Params}
 use Rattle.params.specs.declared.answers.Refusal.{Refusal}
-use Rattle.params.specs.declared.answers.Refusal.the-variants.{Param, Length, Flow, Count, Damage, Range, Mismatch, Form}
+use Rattle.params.specs.declared.answers.Refusal.the-variants.{Param, Length, Flow, Count, Damage, Range, Mismatch, Form, Fold}
 use Rattle.params.specs.Params.{size, goodParams, sameParams}
 use Rattle.files.specs.Records.{recordAt}
 use Rattle.files.specs.Heads.{paramsIn, isHead}
@@ -23,3 +23,4 @@ openingFault P bs c s Flow = false
 openingFault P bs c s Count = false
 openingFault P bs c s Damage = false
 openingFault P bs c s Range = false
+openingFault P bs c s Fold = false

@@ -4,14 +4,13 @@ use mathlib.Core.List.{List, [], _∷_}
 use Prim.Native.Nat.{ℕ}
 use lib.ListN.{getD}
 use Rattle.params.specs.declared.params.Params.{Params}
-use Rattle.params.specs.declared.answers.Refusal.{Refusal}
+use Rattle.params.specs.declared.params.Obtained.{Obtained}
 use Rattle.params.specs.declared.answers.Refusal.the-variants.{Param, Mismatch, Form}
 use Rattle.params.specs.declared.answers.Answer.{Answer}
-use Rattle.params.specs.declared.answers.Answer.the-variants.{Done, Refused}
-use Rattle.params.specs.Answers.{refuseIf, kept}
-use Rattle.params.specs.Params.{goodParams, sameParams}
+use Rattle.params.specs.declared.answers.Answer.the-variants.{Done}
+use Rattle.params.specs.Answers.{refuseIf}
+use Rattle.params.specs.Params.{goodParams, sameParams, obtained}
 use Rattle.files.specs.declared.records.Record.{Record}
-use Rattle.files.specs.declared.heads.Headed.{Headed}
 use Rattle.files.specs.Bytes.{word}
 use Rattle.files.specs.Records.{recordAt, isKind, bodyFrom, headKind}
 use Rattle.files.specs.Fields.{arraysInBody, bucketsInBody, multiplierInBody, offsetInBody}
@@ -40,15 +39,8 @@ headAnswer bs =
     (refuseIf (not (goodParams (paramsIn bs))) Param 0
     Done)
 
--- what stands for the parameters where a head is refused
-abbrev pub noParams : Params
-noParams = record { d = 0; m = 0; a = 0 ∷ 0 ∷ 0 ∷ 0 ∷ []; b = 0 ∷ 0 ∷ 0 ∷ 0 ∷ [] }
-
-abbrev pub refusedHead : Refusal → Headed
-refusedHead w = record { answer = Refused w 0; params = noParams }
-
-abbrev pub headOf : List ℕ → Headed
-headOf bs = record { answer = headAnswer bs; params = kept (headAnswer bs) noParams (paramsIn bs) }
+abbrev pub headOf : List ℕ → Obtained
+headOf bs = obtained (headAnswer bs) (paramsIn bs)
 
 -- what is judged first of a file: the head, the parameters in it and those that are given, and whether they are the same. The
 -- lengths of the lent counts and idsums come after them.

@@ -1,7 +1,7 @@
 // The head of a file: its parameters, so that a caller can lend slices of the right lengths.
 ghost use mathlib.Core.Path.{_≡_};
 ghost use lib.ListN.{length};
-ghost use Rattle.files.specs.Heads.{paramsInBody, refusedHead, headOf, parametersAnswer};
+ghost use Rattle.files.specs.Heads.{paramsInBody, headOf, parametersAnswer};
 ghost use Rattle.files.specs.Records.{bodyLength, headKind};
 use crate::fields::ARRAYS_IN_BODY;
 use crate::fields::BUCKETS_IN_BODY;
@@ -18,14 +18,9 @@ use crate::records::HEAD_BODY;
 use crate::records::body_of;
 use crate::records::word;
 use params::Answer;
+use params::Obtained;
 use params::Params;
 use params::Refusal;
-
-// What a head says, or the refusal: the parameters are all 0 then.
-pub struct Headed {
-    pub answer: Answer,
-    pub params: Params,
-}
 
 // The parameters in a head's body.
 fn params_in(body: &[u8]) -> Params
@@ -53,37 +48,19 @@ fn params_in(body: &[u8]) -> Params
     }
 }
 
-impl Headed {
-    // A head that is refused, with no parameters.
-    pub fn refused(refusal: Refusal) -> Headed
-        ensures { λ r. ⌜ r ≡ refusedHead refusal ⌝ }
-    {
-        let none = [0u32; 4];
-        Headed {
-            answer: Answer::Refused(refusal, 0),
-            params: Params {
-                d: 0,
-                m: 0,
-                a: none,
-                b: none,
-            },
-        }
-    }
-}
-
 // Judges the head of a file and reads its parameters.
-pub fn head(bytes: &[u8]) -> Headed
+pub fn head(bytes: &[u8]) -> Obtained
     ensures { λ r. ⌜ r ≡ headOf (now (bytes .entry)) ⌝ }
 {
     let body = body_of(bytes, 0, HEAD);
     if body.len() != HEAD_BODY {
-        return Headed::refused(Refusal::Form);
+        return Obtained::none(Answer::Refused(Refusal::Form, 0));
     }
     let p = params_in(body);
     if !p.check() {
-        return Headed::refused(Refusal::Param);
+        return Obtained::none(Answer::Refused(Refusal::Param, 0));
     }
-    Headed {
+    Obtained {
         answer: Answer::Done,
         params: p,
     }

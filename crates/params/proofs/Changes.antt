@@ -1,16 +1,16 @@
--- Laws of lists that are changed place by place.
+-- Laws of lists that are changed place by place, and of lists that are filled up.
 use mathlib.Core.Path.{_≡_, refl, sym, ap, _∙_, fun-ext}
 use mathlib.Core.Bool.{Bool, true, false, cond}
-use mathlib.Core.List.{List, [], _∷_}
-use Prim.Native.Nat.{ℕ, zero, suc, _+_, _≤_, _<_}
+use mathlib.Core.List.{List, [], _∷_, _++_}
+use Prim.Native.Nat.{ℕ, zero, suc, _+_, _-_, _≤_, _<_}
 use native.Mathlib.Nat.{zero-add}
 use native.Mathlib.Decide.{ℕ-discrete, decLt}
 use native.Mathlib.Omega.{arith}
 use borrow.Author.Tests.{eq-eqb, ne-eqb, lt-ltb, le-ltb}
 use lib.Dec.{eqb, ltb}
-use lib.ListN.{length, getD, set, length-set}
-use lib.Seq.{ext-getD, getD-set-same, getD-set-other}
-use Rattle.params.specs.Lists.{mapFrom, touched}
+use lib.ListN.{length, getD, set, replicate, length-set, length-append, length-replicate, List·getD-append}
+use lib.Seq.{ext-getD, getD-set-same, getD-set-other, getD-append-add}
+use Rattle.params.specs.Lists.{mapFrom, touched, padded}
 
 module _ {A : Type 0} where
   pub length-mapFrom : (k : ℕ) (g : ℕ → A → A) (xs : List A) → length (mapFrom k g xs) ≡ length xs
@@ -119,3 +119,25 @@ store-next {A} d h xs ys i e q =
         ∙ getD-touched (upTo i) (λ j x. h j) xs j d l
         ∙ ap (λ (b : Bool). cond b (h j) (getD xs j d)) (rw (ne-eqb j i ne) at (upTo-next i j))
         ∙ sym (getD-touched (upTo (i + 1)) (λ j x. h j) xs j d l)
+
+-- a list that is filled up: its length, the list in front, and what is past it
+pub padded-long : {A : Type 0} (n : ℕ) (z : A) (xs : List A) → length xs ≤ n → length (padded n z xs) ≡ n
+unfolding padded
+padded-long n z xs h = length-append xs (replicate (n - length xs) z) ∙ omega (arith, length-replicate (n - length xs) z)
+
+pub padded-past : {A : Type 0} (n : ℕ) (z : A) (xs : List A) (k : ℕ) → length xs ≤ k → getD (padded n z xs) k z ≡ z
+unfolding padded
+padded-past n z xs k l =
+    let e : length xs + (k - length xs) ≡ k = omega arith in
+    ap (λ (i : ℕ). getD (xs ++ replicate (n - length xs) z) i z) (sym e)
+    ∙ getD-append-add xs (replicate (n - length xs) z) (k - length xs) z
+    ∙ zeros-at (n - length xs) (k - length xs)
+  where
+    zeros-at : (m i : ℕ) → getD (replicate m z) i z ≡ z
+    zeros-at zero i = refl
+    zeros-at (suc m) zero = refl
+    zeros-at (suc m) (suc i) = zeros-at m i
+
+pub padded-front : {A : Type 0} (n : ℕ) (z : A) (xs : List A) (k : ℕ) → k < length xs → getD (padded n z xs) k z ≡ getD xs k z
+unfolding padded
+padded-front n z xs k l = List·getD-append xs (replicate (n - length xs) z) z k l

@@ -8,14 +8,14 @@ use Prim.Native.Nat.{ℕ, _≤_}
 use native.Mathlib.Omega.{arith}
 use borrow.Author.Tests.{ltb-true, leb-true}
 use lib.Dec.{eqb, ltb, leb}
-use lib.ListN.{length, take, drop}
+use lib.ListN.{take, drop}
 use Rattle.params.specs.declared.params.Params.{Params}
 use Rattle.params.specs.declared.answers.Refusal.{Refusal}
-use Rattle.params.specs.declared.answers.Refusal.the-variants.{Param, Length, Flow, Count, Damage, Range, Mismatch, Form}
+use Rattle.params.specs.declared.answers.Refusal.the-variants.{Param, Length, Flow, Count, Damage, Range, Mismatch, Form, Fold}
 use Rattle.params.specs.declared.answers.Answer.{Answer}
 use Rattle.params.specs.declared.answers.Answer.the-variants.{Done, Refused}
 use Rattle.params.specs.declared.answers.Located.{Located}
-use Rattle.params.specs.Lists.{below, least}
+use Rattle.params.specs.Lists.{least}
 use Rattle.params.specs.Answers.{numberOf, numberIn, indexIn, refuseIf, refuseAt, first, locatedOf, locatedNumber, locatedIndex, locatedAt}
 use Rattle.params.specs.Params.{isFlow, size, goodParams, lengthsAnswer, lentAnswer}
 use Rattle.params.specs.Faults.{order, firstOf, somewhere, lentFault, positionFault}
@@ -23,9 +23,9 @@ use Rattle.params.specs.Positions.{positionAnswer}
 use Rattle.params.proofs.Searches.{and-true, all-below, below-fails, none-found}
 use Rattle.params.proofs.Lowest.{least-lowest}
 
--- where no parameters differ that is the lowest number: `rising` has them as the table does
+-- where neither Mismatch nor Fold applies that is the lowest number: `rising` has them as the table does
 abbrev rising : List Refusal
-rising = Param ∷ Length ∷ Flow ∷ Count ∷ Damage ∷ Range ∷ Mismatch ∷ Form ∷ []
+rising = Param ∷ Length ∷ Flow ∷ Count ∷ Damage ∷ Range ∷ Mismatch ∷ Form ∷ Fold ∷ []
 
 abbrev noneAbove : ℕ → List Refusal → Bool
 noneAbove n [] = true
@@ -50,9 +50,10 @@ rising-lowest applies Damage h = before (take 4 rising) (drop 4 rising) applies 
 rising-lowest applies Range h = before (take 5 rising) (drop 5 rising) applies 6 refl (rw h (omega arith))
 rising-lowest applies Mismatch h = before (take 6 rising) (drop 6 rising) applies 7 refl (rw h (omega arith))
 rising-lowest applies Form h = before (take 7 rising) (drop 7 rising) applies 8 refl (rw h (omega arith))
+rising-lowest applies Fold h = before (take 8 rising) (drop 8 rising) applies 9 refl (rw h (omega arith))
 
-pub lowest-first : (applies : Refusal → Bool) → applies Mismatch ≡ false → (w : Refusal) → applies w ≡ true → firstOf order applies ≤ numberOf w
-lowest-first applies e w h = rw e (rw e at (rising-lowest applies w h))
+pub lowest-first : (applies : Refusal → Bool) → applies Mismatch ≡ false → applies Fold ≡ false → (w : Refusal) → applies w ≡ true → firstOf order applies ≤ numberOf w
+lowest-first applies e q w h = rw (e, q) (rw (e, q) at (rising-lowest applies w h))
 
 found-somewhere : (n : ℕ) (t : ℕ → Bool) (b : Bool) → ltb (least 0 n t) n ≡ b → b ≡ somewhere n t
 found-somewhere n t true e =
@@ -124,10 +125,10 @@ bucket-index : (b : Bool) (w : Refusal) (k : ℕ) (next : Answer) → (numberOf 
 bucket-index true w k next e h = record { zero-else = λ d r. absurd (⊎-elim d r e) }
 bucket-index false w k next e h = h
 
-pub buckets-index : (n : ℕ) (t u : ℕ → Bool) → IndexZero (refuseAt n t Damage (refuseAt n u Range Done))
+pub buckets-index : (n m : ℕ) (t u : ℕ → Bool) → IndexZero (refuseAt n t Damage (refuseAt m u Range Done))
 unfolding refuseAt
-buckets-index n t u =
-    bucket-index (ltb (least 0 n t) n) Damage _ _ (inl refl) (bucket-index (ltb (least 0 n u) n) Range _ _ (inr refl) done-index)
+buckets-index n m t u =
+    bucket-index (ltb (least 0 n t) n) Damage _ _ (inl refl) (bucket-index (ltb (least 0 m u) m) Range _ _ (inr refl) done-index)
 
 pub lengths-index : (P : Params) (c s : ℕ) → IndexZero (lengthsAnswer P c s)
 unfolding lengthsAnswer

@@ -10,7 +10,7 @@ use types.Run.{OneOf, miss}
 use denote.Enum.Declared.{tagOf}
 use lib.Dec.{ltb}
 use Rattle.params.specs.declared.answers.Refusal.{Refusal}
-use Rattle.params.specs.declared.answers.Refusal.the-variants.{Param, Length, Flow, Count, Damage, Range, Mismatch, Form}
+use Rattle.params.specs.declared.answers.Refusal.the-variants.{Param, Length, Flow, Count, Damage, Range, Mismatch, Form, Fold}
 use Rattle.params.specs.declared.answers.Answer.{Answer}
 use Rattle.params.specs.declared.answers.Answer.the-variants.{Done, Refused}
 use Rattle.params.specs.Lists.{least}
@@ -35,6 +35,7 @@ number-some Damage e = omega arith
 number-some Range e = omega arith
 number-some Mismatch e = omega arith
 number-some Form e = omega arith
+number-some Fold e = omega arith
 
 -- the first of two answers: a refusal, or the second
 refused-first : (r next : Answer) → Refuses r → r ≡ first r next
@@ -116,6 +117,7 @@ number-done (Refused Damage k) e = absurd (omega arith)
 number-done (Refused Range k) e = absurd (omega arith)
 number-done (Refused Mismatch k) e = absurd (omega arith)
 number-done (Refused Form k) e = absurd (omega arith)
+number-done (Refused Fold k) e = absurd (omega arith)
 
 -- so answers with the same number keep the same
 pub kept-number : {A : Type 0} (r q : Answer) (old new : A) → numberIn r ≡ numberIn q → kept r old new ≡ kept q old new

@@ -8,6 +8,7 @@ use borrow.Author.Tests.{le-leb, leb-true, lt-ltb, ltb-true, eq-eqb, eqb-true, n
 use lib.Dec.{eqb, ltb, leb}
 use lib.ListN.{length}
 use Rattle.params.specs.declared.params.Params.{Params}
+use Rattle.params.specs.declared.params.Obtained.{Obtained}
 use Rattle.params.specs.declared.answers.Refusal.{Refusal}
 use Rattle.params.specs.declared.answers.Refusal.the-variants.{Param, Length}
 use Rattle.params.specs.declared.answers.Answer.{Answer}
@@ -15,11 +16,11 @@ use Rattle.params.specs.declared.answers.Answer.the-variants.{Done, Refu
 use Rattle.params.specs.declared.answers.Located.the-variants.{At, Refused as NotLocated}
 use Rattle.params.specs.Answers.{refuseIf, locatedOf}
 use Rattle.params.specs.Lists.{below, touched}
-use Rattle.params.specs.Params.{primeOf, isFlow, size, Dimensions, goodDimensions, goodParams, samePair, sameParams, lengthsAnswer, dimensionsAnswer, lentAnswer}
+use Rattle.params.specs.Params.{primeOf, isFlow, size, Dimensions, goodDimensions, goodParams, samePair, sameParams, lengthsAnswer, dimensionsAnswer, lentAnswer, resized, noneObtained, obtained}
 use Rattle.params.specs.Positions.{stand, positionAnswer, positionsIn, Positioned}
 use Rattle.params.proofs.Searches.{and-true, below-fails}
 use Rattle.params.proofs.Changes.{length-touched, getD-touched, touched-none, upTo}
-use Rattle.params.proofs.Judging.{refuse-done}
+use Rattle.params.proofs.Judging.{Refuses, refuse-done, kept-old, kept-new}
 use Rattle.params.proofs.BucketNumbers.{stretch-within, small}
 
 pub dimensions : (P : Params) → goodDimensions P ≡ true → Dimensions P
@@ -111,6 +112,29 @@ module _ (P : Params) where
   unfolding lentAnswer
   lent-done c s e = let h = rule-done (goodParams P) c s e in (good-dimensions P (h .0), h .1, h .2)
 
+  pub lent-good : (c s : ℕ) → lentAnswer P c s ≡ Done → goodParams P ≡ true
+  unfolding lentAnswer
+  lent-good c s e = rule-done (goodParams P) c s e .0
+
+  -- and the other way round
+  pub lengths-back : (c s : ℕ) → c ≡ size P → s ≡ size P → lengthsAnswer P c s ≡ Done
+  unfolding lengthsAnswer
+  lengths-back c s e h = rw (eq-eqb c (size P) e, eq-eqb s (size P) h)
+
+  pub lent-back : (c s : ℕ) → goodParams P ≡ true → c ≡ size P → s ≡ size P → lentAnswer P c s ≡ Done
+  unfolding lentAnswer
+  lent-back c s g e h = rw g (lengths-back c s e h)
+
+  -- other buckets in each array, from 1 to 16384, keep the rules too
+  pub resized-good : (n : ℕ) → goodParams P ≡ true → 1 ≤ n → n ≤ 16384 → goodParams (resized P n) ≡ true
+  unfolding goodParams
+  resized-good n g l h =
+      let k = and-true _ _ g in
+      let j = and-true _ _ (k .0) in
+      let s = dimensions P (j .0) in
+      let sized : goodDimensions (resized P n) ≡ true = dimensions-good (record { d-low = s .d-low; d-high = s .d-high; m-low = l; m-high = h }) in
+      rw (sized, j .1, k .1)
+
   pub asked : (i : ℕ) → not (goodParams P && (leb 1 i && leb i (P .d))) ≡ false → Asked P i
   asked i e =
       let k = and-true (goodParams P) _ (not-false _ e) in
@@ -158,3 +182,10 @@ module _ (P : Params) (f : ℕ) (ks : List ℕ) where
   pub all-positions : {ys : List ℕ} (n : ℕ) → goodDimensions P ≡ true → P .d ≡ n → ys ≡ touched (upTo n) (λ j k. stand P j f) ks → ys ≡ positionsIn P f ks
   unfolding positionsIn
   all-positions n e h q = q ∙ ap₂ (λ (b : Bool) (m : ℕ). touched (λ j. b && ltb j m) (λ j k. stand P j f) ks) (sym e) (sym h)
+
+-- the parameters that a call returns, by its answer
+pub obtained-none : {r judged : Answer} (P : Params) → r ≡ judged → Refuses r → noneObtained r ≡ obtained judged P
+obtained-none {r} {judged} P e q = ap (λ p. record { answer = r; params = p }) (kept-old r _ P q) ∙ ap (λ (a : Answer). obtained a P) e
+
+pub obtained-done : {r judged : Answer} (P : Params) → r ≡ judged → r ≡ Done → _≡_ {A = Obtained} (record { answer = r; params = P }) (obtained judged P)
+obtained-done {r} {judged} P e q = ap (λ p. record { answer = r; params = p }) (kept-new r _ P q) ∙ ap (λ (a : Answer). obtained a P) e

@@ -8,7 +8,7 @@ use lib.Dec.{eqb, ltb}
 use lib.ListN.{getD}
 use Rattle.params.specs.declared.params.Params.{Params}
 use Rattle.params.specs.Lists.{below}
-use Rattle.params.specs.Params.{size, goodParams, samePair, sameParams}
+use Rattle.params.specs.Params.{size, resized, goodParams, samePair, sameParams}
 use Rattle.params.specs.Positions.{stand, standsIn, stands}
 use Rattle.params.proofs.Searches.{and-true, below-at, all-below}
 use Rattle.params.proofs.Rules.{good-dimensions, pairs-decide}
@@ -37,6 +37,13 @@ module _ (P Q : Params) (same : sameParams P Q ≡ true) where
       let pairs = and-true (eqb (P .d) (Q .d) && eqb (P .m) (Q .m)) (below 4 (samePair P Q)) same .1 in
       let e = and-true (eqb (getD (P .a) i 0) (getD (Q .a) i 0)) (eqb (getD (P .b) i 0) (getD (Q .b) i 0)) (below-at 4 i (samePair P Q) pairs l) in
       (eqb-true _ _ (e .0), eqb-true _ _ (e .1))
+
+  -- and so are they with other buckets in each array
+  pub resized-same : (n : ℕ) → sameParams (resized P n) (resized Q n) ≡ true
+  unfolding sameParams samePair
+  resized-same n =
+      rw (eq-eqb (P .d) (Q .d) (dimensions-same .0), eq-eqb n n refl)
+      (and-true (eqb (P .d) (Q .d) && eqb (P .m) (Q .m)) (below 4 (samePair P Q)) same .1)
 
   pub stand-same : (i f : ℕ) → i < 4 → stand P i f ≡ stand Q i f
   unfolding stand

@@ -1,5 +1,5 @@
 -- Laws of the computed tests: that they hold or fail, what is chosen by them, `&&`, `below`, and `least`.
-use mathlib.Core.Path.{_≡_, refl, sym, ap, _∙_}
+use mathlib.Core.Path.{_≡_, refl, sym, ap, ap₂, _∙_}
 use mathlib.Core.Bool.{Bool, true, false, not, cond, _&&_}
 use Prim.Native.Nat.{ℕ, zero, suc, _+_, _-_, _≤_, _<_}
 use native.Mathlib.Numerals.{add-one}
@@ -75,6 +75,13 @@ least-past k n t e = rw e
 least-end : (k : ℕ) (t : ℕ → Bool) → least k 0 t ≡ k
 unfolding least
 least-end k t = refl
+
+-- tests that agree find the same
+pub least-same : (k n : ℕ) (t u : ℕ → Bool) → ((i : ℕ) → k ≤ i → i < k + n → t i ≡ u i) → least k n t ≡ least k n u
+unfolding least
+least-same k zero t u e = refl
+least-same k (suc n) t u e =
+    ap₂ (λ (b : Bool) (j : ℕ). cond b k j) (e k (omega arith) (omega arith)) (least-same (suc k) n t u (λ i l m. e i (omega arith) (omega arith)))
 
 -- the numbers before k + j fail the test: the search goes on from there
 pub least-skip : (j k n : ℕ) (t : ℕ → Bool) → ((x : ℕ) → k ≤ x → x < k + j → t x ≡ false) → least k (j + n) t ≡ least (k + j) n t

@@ -3,7 +3,7 @@ use mathlib.Core.Bool.{Bool, true, false}
 use Prim.Native.Nat.{ℕ}
 use lib.Dec.{ltb}
 use Rattle.params.specs.declared.answers.Refusal.{Refusal}
-use Rattle.params.specs.declared.answers.Refusal.the-variants.{Param, Length, Flow, Count, Damage, Range, Mismatch, Form}
+use Rattle.params.specs.declared.answers.Refusal.the-variants.{Param, Length, Flow, Count, Damage, Range, Mismatch, Form, Fold}
 use Rattle.params.specs.declared.answers.Answer.{Answer}
 use Rattle.params.specs.declared.answers.Answer.the-variants.{Done, Refused}
 use Rattle.params.specs.declared.answers.Located.{Located}
@@ -20,6 +20,7 @@ numberOf Damage = 5
 numberOf Range = 6
 numberOf Mismatch = 7
 numberOf Form = 8
+numberOf Fold = 9
 
 -- an answer's number and index, both 0 where nothing was refused
 abbrev pub numberIn : Answer → ℕ

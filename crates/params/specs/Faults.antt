@@ -6,14 +6,14 @@ use Prim.Native.Nat.{ℕ}
 use lib.Dec.{eqb, leb}
 use Rattle.params.specs.declared.params.Params.{Params}
 use Rattle.params.specs.declared.answers.Refusal.{Refusal}
-use Rattle.params.specs.declared.answers.Refusal.the-variants.{Param, Length, Flow, Count, Damage, Range, Mismatch, Form}
+use Rattle.params.specs.declared.answers.Refusal.the-variants.{Param, Length, Flow, Count, Damage, Range, Mismatch, Form, Fold}
 use Rattle.params.specs.Lists.{below}
 use Rattle.params.specs.Answers.{numberOf}
 use Rattle.params.specs.Params.{isFlow, size, goodParams}
 
--- the order in which faults are judged: that of their numbers, save that Mismatch comes after Param
+-- the order in which faults are judged: that of their numbers, save that Mismatch comes after Param and Fold after Length
 abbrev pub order : List Refusal
-order = Param ∷ Mismatch ∷ Length ∷ Flow ∷ Count ∷ Damage ∷ Range ∷ Form ∷ []
+order = Param ∷ Mismatch ∷ Length ∷ Fold ∷ Flow ∷ Count ∷ Damage ∷ Range ∷ Form ∷ []
 
 -- the number of the first that applies, 0 where none does
 abbrev pub firstOf : List Refusal → (Refusal → Bool) → ℕ
@@ -34,6 +34,7 @@ early p l f Damage = false
 early p l f Range = false
 early p l f Mismatch = false
 early p l f Form = false
+early p l f Fold = false
 
 -- the parameters, and the lengths of the counts and of the idsums
 abbrev pub lentFault : Params → ℕ → ℕ → Refusal → Bool

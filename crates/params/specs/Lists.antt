@@ -1,7 +1,8 @@
--- Lists and numbers by index: a test at every number, the least number that passes a test, and changes place by place.
+-- Lists and numbers by index: a test at every number, the least number that passes a test, changes place by place, and lists filled up.
 use mathlib.Core.Bool.{Bool, true, cond, _&&_}
-use mathlib.Core.List.{List, [], _∷_}
-use Prim.Native.Nat.{ℕ, zero, suc}
+use mathlib.Core.List.{List, [], _∷_, _++_}
+use Prim.Native.Nat.{ℕ, zero, suc, _-_}
+use lib.ListN.{length, replicate}
 
 -- the test holds at each number below n
 unfoldable pub below : ℕ → (ℕ → Bool) → Bool
@@ -26,3 +27,7 @@ touched t g xs = mapFrom 0 (λ k x. cond (t k) (g k x) x) xs
 unfoldable pub from : {A : Type 0} → ℕ → ℕ → (ℕ → A) → List A
 from k zero h = []
 from k (suc n) h = h k ∷ from (suc k) n h
+
+-- a list in n slots, those past its end filled up with z
+unfoldable pub padded : {A : Type 0} → ℕ → A → List A → List A
+padded n z xs = xs ++ replicate (n - length xs) z

@@ -1,15 +1,16 @@
--- The rules that parameters obey, and the lengths of what is lent.
+-- The rules that parameters obey, the lengths of what is lent, and parameters that a call returns.
 use mathlib.Core.Bool.{Bool, not, _&&_, cond}
-use mathlib.Core.List.{List}
+use mathlib.Core.List.{List, [], _∷_}
 use Prim.Native.Nat.{ℕ, _*_, _≤_}
 use lib.Dec.{eqb, ltb, leb}
 use lib.ListN.{getD}
 use Rattle.params.specs.declared.params.Params.{Params}
+use Rattle.params.specs.declared.params.Obtained.{Obtained}
 use Rattle.params.specs.declared.answers.Refusal.the-variants.{Param, Length}
 use Rattle.params.specs.declared.answers.Answer.{Answer}
 use Rattle.params.specs.declared.answers.Answer.the-variants.{Done}
 use Rattle.params.specs.Lists.{below}
-use Rattle.params.specs.Answers.{refuseIf}
+use Rattle.params.specs.Answers.{refuseIf, kept}
 
 -- 2 ^ 31 - 1, the prime of every sketch
 abbrev pub prime : ℕ
@@ -73,3 +74,18 @@ dimensionsAnswer P c s = refuseIf (not (goodDimensions P)) Param 0 (lengthsAnswe
 
 unfoldable pub lentAnswer : Params → ℕ → ℕ → Answer
 lentAnswer P c s = refuseIf (not (goodParams P)) Param 0 (lengthsAnswer P c s)
+
+-- the same arrays with n buckets in each
+abbrev pub resized : Params → ℕ → Params
+resized P n = record { d = P .d; m = n; a = P .a; b = P .b }
+
+-- what stands for parameters where there are none
+abbrev pub noParams : Params
+noParams = record { d = 0; m = 0; a = 0 ∷ 0 ∷ 0 ∷ 0 ∷ []; b = 0 ∷ 0 ∷ 0 ∷ 0 ∷ [] }
+
+-- an answer without parameters, and one with the parameters P unless it refuses
+abbrev pub noneObtained : Answer → Obtained
+noneObtained r = record { answer = r; params = noParams }
+
+abbrev pub obtained : Answer → Params → Obtained
+obtained r P = record { answer = r; params = kept r noParams P }

@@ -11,6 +11,7 @@ pub enum Refusal {
     Range,
     Mismatch,
     Form,
+    Fold,
 }
 
 impl Refusal {
@@ -27,11 +28,12 @@ impl Refusal {
             Refusal::Range => 6,
             Refusal::Mismatch => 7,
             Refusal::Form => 8,
+            Refusal::Fold => 9,
         }
     }
 }
 
-// The index is that of the lowest bucket at fault for Damage and Range of lent sketches, the offset of the record at fault for a
+// The index is that of the lowest bucket at fault for Damage and Range of lent sketches (for Range of a fold its index in the folded one), the offset of the record at fault for a
 // file that is read, and 0 for anything else.
 pub enum Answer {
     Done,

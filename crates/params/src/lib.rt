@@ -7,5 +7,6 @@ pub mod params; // the parameters, and where a flow stands
 pub use answers::Answer;
 pub use answers::Located;
 pub use answers::Refusal;
+pub use params::Obtained;
 pub use params::PRIME;
 pub use params::Params;

@@ -4,7 +4,7 @@ ghost use mathlib.Core.Bool.{_&&_, not, cond};
 ghost use Prim.Native.Nat.{_+_, _-_, _*_, _%_, _<_, _≤_};
 ghost use lib.Dec.{eqb, leb};
 ghost use Rattle.params.specs.Lists.{below};
-ghost use Rattle.params.specs.Params.{prime, isFlow, size as «size-of», Dimensions, pairOk, pairAt, twins, goodDimensions, goodParams, sameParams};
+ghost use Rattle.params.specs.Params.{prime, isFlow, size as «size-of», noParams, resized as «resized-of», noneObtained, Dimensions, pairOk, pairAt, twins, goodDimensions, goodParams, sameParams};
 ghost use Rattle.params.specs.Positions.{stand as «stand-of», stands as «stands-of», position as «position-of», index as «index-of», positionsIn};
 ghost use Rattle.params.specs.Answers.{locatedOf};
 ghost use Rattle.params.specs.Params.{lengthsAnswer, dimensionsAnswer, lentAnswer};
@@ -22,6 +22,13 @@ pub struct Params {
     pub m: usize,
     pub a: [u32; 4],
     pub b: [u32; 4],
+}
+
+// The parameters that a call returns, or why there are none: they are all 0 then. An enum cannot hold an array, so that both come in one
+// struct.
+pub struct Obtained {
+    pub answer: Answer,
+    pub params: Params,
 }
 
 // Whether a pair keeps the rule of its place: in use, or zero.
@@ -107,6 +114,27 @@ fn position_by(a: u32, b: u32, m: usize, f: u32) -> usize
 }
 
 impl Params {
+    // What stands for parameters where there are none.
+    fn none() -> Params
+        ensures { λ r. ⌜ r ≡ noParams ⌝ }
+    {
+        Params {
+            d: 0,
+            m: 0,
+            a: [0; 4],
+            b: [0; 4],
+        }
+    }
+
+    // The same arrays with m buckets in each.
+    pub fn resized(self, m: usize) -> Params
+        ensures { λ r. ⌜ r ≡ «resized-of» self m ⌝ }
+    {
+        let a = self.a;
+        let b = self.b;
+        Params { d: self.d, m, a, b }
+    }
+
     // Whether the dimensions keep the rules: what the code needs so that every index is one.
     fn good_dimensions(self) -> bool
         ensures { λ r. ⌜ r ≡ goodDimensions self ⌝ }
@@ -323,6 +351,18 @@ impl Params {
         }
         if 3 < d {
             ks[3] = position_by(a[3], b[3], m, f);
+        }
+    }
+}
+
+impl Obtained {
+    // An answer without parameters.
+    pub fn none(answer: Answer) -> Obtained
+        ensures { λ r. ⌜ r ≡ noneObtained answer ⌝ }
+    {
+        Obtained {
+            answer,
+            params: Params::none(),
         }
     }
 }

@@ -7,7 +7,7 @@ use lib.IntN.{ℤ, pos, negsuc}
 use lib.ListN.{replicate}
 use Rattle.field.specs.Residue.{residue}
 use Rattle.field.specs.Flow.{inverseIn, inverse, flow}
-use Rattle.params.specs.Lists.{below, least, mapFrom, touched, from}
+use Rattle.params.specs.Lists.{below, least, mapFrom, touched, from, padded}
 use Rattle.params.specs.Answers.{refuseAt, first, kept}
 use Rattle.params.specs.Params.{pairAt, twins, goodDimensions, goodParams, lengthsAnswer, lentAnswer}
 use Rattle.params.specs.Positions.{stand, standsIn}
@@ -18,7 +18,7 @@ use Rattle.walk.specs.Purity.{testIn}
 use Rattle.walk.proofs.Examples.{K, S0, S1, S3, remainder3, S5, S6, SL, SC, SZ}
 use Rattle.peel.specs.declared.peeling.Peeled.{Peeled}
 use Rattle.peel.specs.Slices.{Slices, slices}
-use Rattle.peel.specs.Peel.{walkLentAnswer, peelAnswer, flowsOf, numbersOf, padded, peeledNumber, peeledEnding, peeledPops, peeledLost, peeledExtra, peeledEntries, peelReturns, peelLeaves}
+use Rattle.peel.specs.Peel.{walkLentAnswer, peelAnswer, flowsOf, numbersOf, peeledNumber, peeledEnding, peeledPops, peeledLost, peeledExtra, peeledEntries, peelReturns, peelLeaves}
 
 -- a sketch peeled into a table of that many slots, with an allowance of pops
 pub record Call : Type 0 where

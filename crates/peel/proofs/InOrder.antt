@@ -1,6 +1,6 @@
 -- Peeling refuses in the order of the table: of the faults that apply the first decides the number, and the index is that of the lowest damaged bucket, or 0.
 use mathlib.Core.Path.{_≡_, refl, sym, _∙_}
-use mathlib.Core.Bool.{Bool, true, false, not, _&&_, _||_}
+use mathlib.Core.Bool.{Bool, true, false, not, _&&_}
 use Prim.Native.Nat.{ℕ, _≤_}
 use native.Mathlib.Omega.{arith}
 use borrow.Author.Tests.{ltb-true}
@@ -8,7 +8,7 @@ use lib.Dec.{eqb, ltb, leb}
 use lib.ListN.{length}
 use Rattle.params.specs.declared.params.Params.{Params}
 use Rattle.params.specs.declared.answers.Refusal.{Refusal}
-use Rattle.params.specs.declared.answers.Refusal.the-variants.{Param, Length, Flow, Count, Damage, Range, Mismatch, Form}
+use Rattle.params.specs.declared.answers.Refusal.the-variants.{Param, Length, Damage}
 use Rattle.params.specs.declared.answers.Answer.{Answer}
 use Rattle.params.specs.declared.answers.Answer.the-variants.{Done, Refused}
 use Rattle.params.specs.Lists.{least}
@@ -75,7 +75,7 @@ module _ {P : Params} {a : ℕ} {L : Slices} {r : Peeled} {L' : Slices} (h : Pee
 
   -- so no fault that applies has a lower number
   pub peel-least-number : (w : Refusal) → fault w ≡ true → peeledNumber r ≤ numberOf w
-  peel-least-number w e = rw peel-number (lowest-first fault refl w e)
+  peel-least-number w e = rw peel-number (lowest-first fault refl refl w e)
 
   -- with the number of Damage the index is that of the lowest damaged bucket
   pub peel-lowest : peeledNumber r ≡ 5 → Lowest (size P) (damagedAt (lentSketch L)) (peeledIndex r)

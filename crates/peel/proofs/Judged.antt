@@ -20,7 +20,7 @@ use Rattle.sketch.specs.Sketch.{Sketch, sketch, damagedAt}
 use Rattle.params.proofs.Judging.{Refuses, first-refused, first-passed, first-done, refuse-done, refuse-at-done, refuse-found, refuse-past}
 use Rattle.params.proofs.Rules.{lent-done}
 use Rattle.params.proofs.Searches.{cannot-hold, and-true}
-use Rattle.walk.proofs.Promises.{Whole}
+use Rattle.sketch.proofs.Whole.{Whole}
 use Rattle.peel.specs.Slices.{Slices, lentSketch}
 use Rattle.peel.specs.Rep.{Peelable}
 use Rattle.peel.specs.Peel.{walkLentAnswer, peelAnswer, judged}

@@ -5,12 +5,12 @@ use Prim.Native.Nat.{ℕ, zero, suc, _+_, _-_, _<_, _≤_}
 use native.Mathlib.Omega.{arith}
 use lib.IntN.{ℤ, pos}
 use lib.ListN.{length, getD, take, drop, replicate, length-drop, take-append-drop}
-use lib.Seq.{length-take-le, getD-take, getD-drop, getD-append-add, ext-getD}
-use Rattle.params.specs.Lists.{from}
+use lib.Seq.{length-take-le, getD-take, getD-drop, ext-getD}
+use Rattle.params.specs.Lists.{from, padded}
 use Rattle.sketch.specs.Sketch.{Entry}
 use Rattle.sketch.proofs.Tables.{length-from, from-at}
 use Rattle.peel.specs.Table.{row, tableOf}
-use Rattle.peel.specs.Peel.{flowsOf, numbersOf, padded}
+use Rattle.peel.specs.Peel.{flowsOf, numbersOf}
 use Rattle.peel.proofs.Froms.{from-first}
 
 module _ {A : Type 0} (z : A) where
@@ -60,20 +60,6 @@ module _ (fs : List ℕ) (ns : List ℤ) (n : ℕ) (T : List Entry) (t : tableOf
   padded-numbers L e u h =
       zeros-padded (pos 0) ns n (omega arith) h
       ∙ ap₂ (λ (m : ℕ) (l : List ℤ). padded m (pos 0) l) e (sym (numbers-from 0 n (row fs ns)) ∙ ap numbersOf t)
-
--- what is past a list that is filled up
-pub padded-past : {A : Type 0} (n : ℕ) (z : A) (xs : List A) (k : ℕ) → length xs ≤ k → getD (padded n z xs) k z ≡ z
-unfolding padded
-padded-past n z xs k l =
-    let e : length xs + (k - length xs) ≡ k = omega arith in
-    ap (λ (i : ℕ). getD (xs ++ replicate (n - length xs) z) i z) (sym e)
-    ∙ getD-append-add xs (replicate (n - length xs) z) (k - length xs) z
-    ∙ zeros-at (n - length xs) (k - length xs)
-  where
-    zeros-at : (m i : ℕ) → getD (replicate m z) i z ≡ z
-    zeros-at zero i = refl
-    zeros-at (suc m) zero = refl
-    zeros-at (suc m) (suc i) = zeros-at m i
 
 pub flows-many : (T : List Entry) → length (flowsOf T) ≡ length T
 unfolding flowsOf

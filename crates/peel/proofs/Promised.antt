@@ -6,6 +6,8 @@ use Prim.Native.Nat.{ℕ, _+_, _*_, _<_, _≤_}
 use native.Mathlib.Omega.{arith}
 use lib.IntN.{ℤ, pos, _+ℤ_, _-ℤ_}
 use lib.ListN.{length, getD, replicate}
+use Rattle.params.proofs.Changes.{padded-past}
+use Rattle.params.specs.Lists.{padded}
 use Rattle.field.specs.Parts.{up, down}
 use Rattle.field.specs.Flow.{flow}
 use Rattle.params.specs.declared.params.Params.{Params}
@@ -25,14 +27,15 @@ use Rattle.walk.proofs.Numbers.{pure-by-number, never-four as no-ending-four}
 use Rattle.walk.proofs.Figures.{allCounts, figures-differ as of-table}
 use Rattle.walk.proofs.ArrayTotals.{arrayTotal}
 use Rattle.walk.proofs.Promises as walks
-use Rattle.walk.proofs.Promises.{Whole, Nothing, scopeRule}
+use Rattle.sketch.proofs.Whole.{Whole}
+use Rattle.walk.proofs.Promises.{Nothing, scopeRule}
 use Rattle.params.proofs.Judging.{number-some}
 use Rattle.peel.specs.declared.peeling.Peeled.{Peeled}
 use Rattle.peel.specs.declared.peeling.Peeled.the-variants.{Ended, Refused as NotPeeled}
 use Rattle.peel.specs.Slices.{Slices, lentSketch}
 use Rattle.peel.specs.Table.{row, tableOf}
-use Rattle.peel.specs.Peel.{peeledOf, peeledNumber, peeledIndex, peeledEnding, peeledPops, peeledLost, peeledExtra, peeledEntries, flowsOf, numbersOf, padded, closedSlices, judged, walked, Peels}
-use Rattle.peel.proofs.Padding.{padded-past, flows-many, numbers-many, table-padded}
+use Rattle.peel.specs.Peel.{peeledOf, peeledNumber, peeledIndex, peeledEnding, peeledPops, peeledLost, peeledExtra, peeledEntries, flowsOf, numbersOf, closedSlices, judged, walked, Peels}
+use Rattle.peel.proofs.Padding.{flows-many, numbers-many, table-padded}
 use Rattle.peel.proofs.Judged.{judged-whole, judged-peelable}
 
 answer-done : (x : Answer) → numberIn x ≡ 0 → x ≡ Done

@@ -4,7 +4,7 @@ use Prim.Native.Nat.{ℕ}
 use lib.Dec.{eqb, leb}
 use Rattle.params.specs.declared.params.Params.{Params}
 use Rattle.params.specs.declared.answers.Refusal.{Refusal}
-use Rattle.params.specs.declared.answers.Refusal.the-variants.{Param, Length, Flow, Count, Damage, Range, Mismatch, Form}
+use Rattle.params.specs.declared.answers.Refusal.the-variants.{Param, Length, Flow, Count, Damage, Range, Mismatch, Form, Fold}
 use Rattle.params.specs.Params.{size, goodParams}
 use Rattle.params.specs.Faults.{somewhere}
 use Rattle.sketch.specs.Sketch.{Sketch, damagedAt}
@@ -21,3 +21,4 @@ peelFault P S flows numbers queue marks Count = false
 peelFault P S flows numbers queue marks Range = false
 peelFault P S flows numbers queue marks Mismatch = false
 peelFault P S flows numbers queue marks Form = false
+peelFault P S flows numbers queue marks Fold = false

@@ -1,8 +1,8 @@
 -- What peeling answers, and what it leaves in every slice that it is lent.
 use mathlib.Core.Bool.{not, _&&_}
 use mathlib.Core.Path.{_≡_}
-use mathlib.Core.List.{List, [], _∷_, _++_}
-use Prim.Native.Nat.{ℕ, _-_}
+use mathlib.Core.List.{List, [], _∷_}
+use Prim.Native.Nat.{ℕ}
 use lib.IntN.{ℤ, pos}
 use lib.Dec.{eqb, leb}
 use lib.ListN.{length, replicate}
@@ -10,6 +10,7 @@ use Rattle.params.specs.declared.params.Params.{Params}
 use Rattle.params.specs.declared.answers.Refusal.the-variants.{Length, Damage}
 use Rattle.params.specs.declared.answers.Answer.{Answer}
 use Rattle.params.specs.declared.answers.Answer.the-variants.{Done, Refused}
+use Rattle.params.specs.Lists.{padded}
 use Rattle.params.specs.Answers.{numberOf, refuseIf, refuseAt, first, kept}
 use Rattle.params.specs.Params.{size, lentAnswer}
 use Rattle.sketch.specs.Sketch.{Sketch, Entry, damagedAt}
@@ -86,10 +87,6 @@ flowsOf (e ∷ es) = e .flow ∷ flowsOf es
 unfoldable pub numbersOf : List Entry → List ℤ
 numbersOf [] = []
 numbersOf (e ∷ es) = e .number ∷ numbersOf es
-
--- a list in n slots, those past its end filled up with z
-unfoldable pub padded : {A : Type 0} → ℕ → A → List A → List A
-padded n z xs = xs ++ replicate (n - length xs) z
 
 -- what the slices L hold after, where nothing is refused: the remainder, the closed table with 0 in the slots past it, and zeros for the
 -- queue and the marks

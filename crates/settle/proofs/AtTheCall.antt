@@ -9,7 +9,7 @@ use lib.IntN.{_-ℤ_}
 use lib.ListN.{length}
 use Rattle.params.specs.declared.params.Params.{Params}
 use Rattle.params.specs.declared.answers.Refusal.{Refusal}
-use Rattle.params.specs.declared.answers.Refusal.the-variants.{Param, Length, Flow, Count, Damage, Range, Mismatch, Form}
+use Rattle.params.specs.declared.answers.Refusal.the-variants.{Param, Length, Flow, Count, Damage, Range, Mismatch, Form, Fold}
 use Rattle.params.specs.declared.answers.Answer.{Answer}
 use Rattle.params.specs.declared.answers.Answer.the-variants.{Done, Refused}
 use Rattle.params.specs.Answers.{numberOf, numberIn, indexIn, first, kept}
@@ -22,7 +22,7 @@ use Rattle.params.proofs.SameParams.{same-itself}
 use Rattle.buckets.specs.Buckets.{inLimits, damaged}
 use Rattle.sketch.specs.Sketch.{Sketch, countIn, idsumIn}
 use Rattle.sketch.specs.Faults.{wrongLength}
-use Rattle.sketch.proofs.Lowest.{ofBucket, refusesBucket, refuse-early, first-early, first-late, lengths-early}
+use Rattle.sketch.proofs.Lowest.{ofBucket, refusesBucket, refuse-early, first-early, first-late, lent-early}
 use Rattle.sums.specs.Sums.{eitherDamaged, leaves, combineAnswer}
 use Rattle.sums.proofs.InOrder.{combine-number, combine-index}
 use Rattle.sums.proofs.Lowest.{combine-lowest-damage, combine-lowest-range}
@@ -45,6 +45,7 @@ first-number (Refused Damage k) next = refl
 first-number (Refused Range k) next = refl
 first-number (Refused Mismatch k) next = refl
 first-number (Refused Form k) next = refl
+first-number (Refused Fold k) next = refl
 
 -- what is judged twice counts once: g of the parameters, s of their likeness, u of the upstream's lengths, v of the walk's and w of the downstream's
 once : (g s u v w damage range : Bool) → s ≡ true
@@ -67,6 +68,7 @@ damage-by-number (Refused Damage k) e = refl
 damage-by-number (Refused Range k) e = absurd (omega arith)
 damage-by-number (Refused Mismatch k) e = absurd (omega arith)
 damage-by-number (Refused Form k) e = absurd (omega arith)
+damage-by-number (Refused Fold k) e = absurd (omega arith)
 
 range-by-number : (x : Answer) → numberIn x ≡ 6 → x ≡ Refused Range (indexIn x)
 range-by-number Done e = absurd (omega arith)
@@ -78,6 +80,7 @@ range-by-number (Refused Damage k) e = absurd (omega arith)
 range-by-number (Refused Range k) e = refl
 range-by-number (Refused Mismatch k) e = absurd (omega arith)
 range-by-number (Refused Form k) e = absurd (omega arith)
+range-by-number (Refused Fold k) e = absurd (omega arith)
 
 module _ (P : Params) (S T : Sketch) (flows numbers queue marks : ℕ) where
   abbrev lengths : Answer
@@ -101,9 +104,8 @@ module _ (P : Params) (S T : Sketch) (flows numbers queue marks : ℕ) where
   lengths-index-zero = first-index _ _ (lent-index P _ _) (refuse-index wrongWalk Length Done done-index)
 
   lengths-of-none : refusesBucket lengths ≡ false
-  unfolding walkLentAnswer lentAnswer
-  lengths-of-none =
-      first-early _ _ (refuse-early (not (goodParams P)) Param 0 _ refl (lengths-early P _ _)) (refuse-early wrongWalk Length 0 Done refl refl)
+  unfolding walkLentAnswer
+  lengths-of-none = first-early _ _ (lent-early P _ _) (refuse-early wrongWalk Length 0 Done refl refl)
 
   judged-number : numberIn (settleAnswer P S T flows numbers queue marks)
       ≡ cond (not (goodParams P)) 1 (cond (wrongLength P S || wrongWalk || wrongLength P T) 2 (cond someDamaged 5 (cond someLeaves 6 0)))
@@ -149,7 +151,7 @@ module _ {P : Params} {T : Sketch} {L : Slices} {r : Peeled} {L' : Slices} (h : 
 
   -- so no fault that applies has a lower number
   pub settle-least-number : (w : Refusal) → settleFault P T L w ≡ true → peeledNumber r ≤ numberOf w
-  settle-least-number w e = rw settle-number (lowest-first (settleFault P T L) refl w e)
+  settle-least-number w e = rw settle-number (lowest-first (settleFault P T L) refl refl w e)
 
   -- with the number of Damage the index is that of the lowest bucket that is damaged in either sketch
   pub settle-lowest-damage : peeledNumber r ≡ 5 → Lowest (size P) (λ j. damaged (countIn S j) (idsumIn S j) || damaged (countIn T j) (idsumIn T j)) (peeledIndex r)

@@ -2,11 +2,12 @@
 use mathlib.Core.Path.{_≡_, refl, sym, ap, ap₂, _∙_}
 use mathlib.Core.Bool.{true}
 use mathlib.Core.List.{List, [], _∷_, _++_}
-use Prim.Native.Nat.{ℕ, _+_, _-_, _*_, _≤_}
+use Prim.Native.Nat.{ℕ, _+_, _*_, _≤_}
 use native.Mathlib.Omega.{arith}
 use borrow.Author.Tests.{leb-true, le-leb, eq-eqb}
 use lib.IntN.{ℤ, pos, _-ℤ_}
-use lib.ListN.{length, drop, replicate, length-append, length-replicate}
+use lib.ListN.{length, drop}
+use Rattle.params.specs.Lists.{padded}
 use Rattle.params.specs.declared.params.Params.{Params}
 use Rattle.params.specs.declared.answers.Answer.the-variants.{Done}
 use Rattle.params.specs.Params.{size}
@@ -21,12 +22,13 @@ use Rattle.peel.specs.declared.peeling.Figures.{Figures}
 use Rattle.peel.specs.declared.peeling.Peeled.{Peeled}
 use Rattle.peel.specs.declared.peeling.Peeled.the-variants.{Ended, Refused as NotPeeled}
 use Rattle.peel.specs.Slices.{Slices, lentSketch}
-use Rattle.peel.specs.Peel.{figuresOf, peeledOf, flowsOf, numbersOf, padded, closedSlices, judged, walked, Peels}
+use Rattle.peel.specs.Peel.{figuresOf, peeledOf, flowsOf, numbersOf, closedSlices, judged, walked, Peels}
 use Rattle.peel.proofs.Padding.{flows-many, numbers-many}
 use Rattle.peel.proofs.Promised.{remainder-whole, listed-few, clean-total}
 use Rattle.lines.specs.Lines.{lossLine, endLine, lineRoom}
 use Rattle.lines.specs.Reports.{lossLines, leftLines, entryLines, reportText, walkText, reportFits}
 use Rattle.lines.proofs.Reporting.{losses-first, losses-none}
+use Rattle.params.proofs.Changes.{padded-long}
 use Rattle.params.proofs.Judging.{kept-new}
 use Rattle.params.proofs.Rules.{good-dimensions, dimensions-small}
 use Rattle.streamfile.specs.Streams.{StreamRead}
@@ -54,11 +56,6 @@ unfolding reportText walkText padded
 walk-text o n m =
     ap (λ ys. ys ++ (leftLines (o .remainder .counts) (o .remainder .idsums) (length (o .remainder .counts)) ++ endLine (o .ending) (o .pops) (lostOf o) (extraOf o)))
     (table-lines (closedTable o) _ _)
-
--- a list in as many slots as are there
-padded-long : {A : Type 0} (n : ℕ) (z : A) (xs : List A) → length xs ≤ n → length (padded n z xs) ≡ n
-unfolding padded
-padded-long n z xs h = length-append xs (replicate (n - length xs) z) ∙ omega (arith, length-replicate (n - length xs) z)
 
 abbrev figuresOr : Peeled → Figures → Figures
 figuresOr (Ended g) h = g

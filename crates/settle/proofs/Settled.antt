@@ -14,6 +14,7 @@ use Rattle.params.specs.Params.{size}
 use Rattle.params.proofs.Judging.{Refuses, first-refused, first-passed, first-done, kept-new, refuse-none}
 use Rattle.params.proofs.Rules.{dimensions-small}
 use Rattle.sketch.specs.Sketch.{Sketch, damagedAt}
+use Rattle.sums.proofs.TwoSketches.{combined-long, combined-undamaged}
 use Rattle.sums.specs.Sums.{combineAnswer, combined}
 use Rattle.peel.specs.declared.peeling.Peeled.{Peeled}
 use Rattle.peel.specs.declared.peeling.Peeled.the-variants.{Refused as NotPeeled}
@@ -21,7 +22,6 @@ use Rattle.peel.specs.Slices.{Slices, lentSketch, withSketch}
 use Rattle.peel.specs.Peel.{walkLentAnswer, peelAnswer, unlessRefused, judged, peelReturns, Peels}
 use Rattle.peel.proofs.Judged.{lent-passed}
 use Rattle.settle.specs.Settling.{settleAnswer, settleJudged, lessDownstream, Settles}
-use Rattle.settle.proofs.Differences.{combined-long, combined-undamaged}
 
 module _ (P : Params) (S T : Sketch) (flows numbers queue marks : ℕ) where
   abbrev lengths : Answer

@@ -15,7 +15,7 @@ use Rattle.sketch.specs.Packets.{entriesOf}
 use Rattle.sums.specs.Sums.{combineAnswer, combined}
 use Rattle.sums.specs.History.{History, freshly, negated, netCount}
 use Rattle.sums.proofs.Histories.{difference-of, combined-by-nets}
-use Rattle.walk.proofs.Promises.{Whole}
+use Rattle.sketch.proofs.Whole.{Whole}
 use Rattle.streamfile.specs.Streams.{flowsIn, numbersIn, StreamRead}
 use Rattle.streamfile.proofs.AsInserted.{reading-on}
 use Rattle.streamfile.proofs.FreshStreams.{Grown, fresh-grown}

@@ -4,7 +4,7 @@ use lib.Dec.{eqb, leb}
 use lib.ListN.{length}
 use Rattle.params.specs.declared.params.Params.{Params}
 use Rattle.params.specs.declared.answers.Refusal.{Refusal}
-use Rattle.params.specs.declared.answers.Refusal.the-variants.{Param, Length, Flow, Count, Damage, Range, Mismatch, Form}
+use Rattle.params.specs.declared.answers.Refusal.the-variants.{Param, Length, Flow, Count, Damage, Range, Mismatch, Form, Fold}
 use Rattle.params.specs.Params.{size, goodParams}
 use Rattle.params.specs.Faults.{somewhere}
 use Rattle.sketch.specs.Sketch.{Sketch}
@@ -26,3 +26,4 @@ settleFault P T L Flow = false
 settleFault P T L Count = false
 settleFault P T L Mismatch = false
 settleFault P T L Form = false
+settleFault P T L Fold = false

@@ -4,18 +4,16 @@ use mathlib.Core.Bool.{Bool, true, false, not, _&&_}
 use mathlib.Core.List.{List, [], _∷_}
 use Prim.Native.Nat.{ℕ, _≤_}
 use lib.Dec.{eqb, leb}
-use lib.IntN.{pos}
 use lib.ListN.{length}
 use Rattle.params.specs.declared.params.Params.{Params}
 use Rattle.params.specs.declared.answers.Refusal.{Refusal}
-use Rattle.params.specs.declared.answers.Refusal.the-variants.{Param, Length, Flow, Count, Damage, Range, Mismatch, Form}
+use Rattle.params.specs.declared.answers.Refusal.the-variants.{Param, Length, Flow, Count}
 use Rattle.params.specs.declared.answers.Answer.the-variants.{Done}
 use Rattle.params.specs.Answers.{numberOf, numberIn, first}
 use Rattle.params.specs.Params.{isFlow, size, goodDimensions, goodParams, lengthsAnswer, dimensionsAnswer}
-use Rattle.params.specs.Positions.{stands}
 use Rattle.buckets.specs.Buckets.{isNumber}
 use Rattle.sketch.specs.Arrays.{arrayAnswer}
-use Rattle.sketch.specs.Sketch.{Sketch, damagedIn, leavesIn, flowBucketsAnswer}
+use Rattle.sketch.specs.Sketch.{Sketch, flowBucketsAnswer}
 use Rattle.sketch.specs.Faults.{moveFault, arrayFault}
 use Rattle.sketch.specs.Packets.{packetAnswer, entryAnswer, stepAnswer, moveAnswer, packetsAnswer, allAnswer, changed}
 use Rattle.params.specs.Faults.{order, firstOf}
@@ -29,7 +27,7 @@ move-number P minus f n S =
 
 -- so no fault that applies has a lower number
 pub move-lowest : (P : Params) (minus : Bool) (f n : ℕ) (S : Sketch) (w : Refusal) → moveFault P minus f n S w ≡ true → numberIn (moveAnswer P minus f n S) ≤ numberOf w
-move-lowest P minus f n S w h = rw (move-number P minus f n S) (lowest-first (moveFault P minus f n S) refl w h)
+move-lowest P minus f n S w h = rw (move-number P minus f n S) (lowest-first (moveFault P minus f n S) refl refl w h)
 
 -- an array's own stretch
 pub array-number : (P : Params) (i n : ℕ) → numberIn (arrayAnswer P i n) ≡ firstOf order (arrayFault P i n)
@@ -47,7 +45,7 @@ step-index P minus f n S =
     first-index _ _
     (first-index _ _ (refuse-index (not (goodDimensions P)) Param _ (lengths-index P _ _))
     (refuse-index (not (isFlow P f)) Flow _ (refuse-index (not (isNumber n)) Count Done done-index)))
-    (buckets-index _ _ _)
+    (buckets-index _ _ _ _)
 
 pub move-index : (P : Params) (minus : Bool) (f n : ℕ) (S : Sketch) → IndexZero (moveAnswer P minus f n S)
 unfolding moveAnswer

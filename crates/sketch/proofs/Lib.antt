@@ -10,5 +10,6 @@ pub mod AtIndexes
 pub mod TakenBack
 pub mod ManyPackets
 pub mod Lowest
+pub mod Whole
 pub mod InOrder
 pub mod AtTheCall

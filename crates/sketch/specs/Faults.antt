@@ -7,7 +7,7 @@ use lib.IntN.{pos}
 use lib.ListN.{length}
 use Rattle.params.specs.declared.params.Params.{Params}
 use Rattle.params.specs.declared.answers.Refusal.{Refusal}
-use Rattle.params.specs.declared.answers.Refusal.the-variants.{Param, Length, Flow, Count, Damage, Range, Mismatch, Form}
+use Rattle.params.specs.declared.answers.Refusal.the-variants.{Param, Length, Flow, Count, Damage, Range, Mismatch, Form, Fold}
 use Rattle.params.specs.Params.{isFlow, size, goodParams}
 use Rattle.params.specs.Positions.{stands}
 use Rattle.params.specs.Faults.{somewhere, early}
@@ -28,6 +28,7 @@ moveFault P minus f n S Damage = somewhere (size P) (damagedIn (stands P f) S)
 moveFault P minus f n S Range = somewhere (size P) (leavesIn (stands P f) minus (pos n) (S .counts))
 moveFault P minus f n S Mismatch = false
 moveFault P minus f n S Form = false
+moveFault P minus f n S Fold = false
 
 -- many packets at once: what is judged before the first of them
 abbrev pub allFault : Params → List ℕ → List ℕ → Sketch → Refusal → Bool

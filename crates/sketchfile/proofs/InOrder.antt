@@ -1,6 +1,6 @@
 -- What goes with each refusal of a sketch file: the head and the lengths come first, then the buckets in turn, then the end. And what a sketch's writer returns.
 use mathlib.Core.Path.{_≡_, refl, sym, ap, _∙_}
-use mathlib.Core.Bool.{Bool, true, false, not, _||_}
+use mathlib.Core.Bool.{Bool, true, false, not}
 use mathlib.Core.Logic.{⊎-elim}
 use mathlib.Core.List.{List}
 use Prim.Native.Nat.{ℕ, _≤_, _<_}
@@ -10,7 +10,7 @@ use lib.Dec.{ltb}
 use lib.ListN.{length}
 use Rattle.params.specs.declared.params.Params.{Params}
 use Rattle.params.specs.declared.answers.Refusal.{Refusal}
-use Rattle.params.specs.declared.answers.Refusal.the-variants.{Param, Length, Flow, Count, Damage, Range, Mismatch, Form}
+use Rattle.params.specs.declared.answers.Refusal.the-variants.{Param, Length, Damage, Form}
 use Rattle.params.specs.declared.answers.Answer.{Answer}
 use Rattle.params.specs.declared.answers.Answer.the-variants.{Done, Refused}
 use Rattle.params.specs.Lists.{least}
@@ -134,7 +134,7 @@ module _ {P : Params} {S : Sketch} {out : List ℕ} {r : Written} {out' : List �
 
   -- so no fault that applies has a lower number
   pub write-sketch-least-number : (w : Refusal) → writeFault P S (length out) w ≡ true → writtenNumber r ≤ numberOf w
-  write-sketch-least-number w e = rw write-sketch-number (lowest-first (writeFault P S (length out)) refl w e)
+  write-sketch-least-number w e = rw write-sketch-number (lowest-first (writeFault P S (length out)) refl refl w e)
 
   -- with the number of Damage the index is that of the lowest damaged bucket
   pub write-sketch-lowest : writtenNumber r ≡ 5 → Lowest (size P) (damagedAt S) (writtenIndex r)

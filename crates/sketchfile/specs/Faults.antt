@@ -6,7 +6,7 @@ use lib.Dec.{ltb}
 use lib.ListN.{length}
 use Rattle.params.specs.declared.params.Params.{Params}
 use Rattle.params.specs.declared.answers.Refusal.{Refusal}
-use Rattle.params.specs.declared.answers.Refusal.the-variants.{Param, Length, Flow, Count, Damage, Range, Mismatch, Form}
+use Rattle.params.specs.declared.answers.Refusal.the-variants.{Param, Length, Flow, Count, Damage, Range, Mismatch, Form, Fold}
 use Rattle.params.specs.Params.{size, goodParams}
 use Rattle.params.specs.Faults.{somewhere}
 use Rattle.buckets.specs.Buckets.{allZero, damaged}
@@ -25,6 +25,7 @@ bucketFault N bs j Flow = false
 bucketFault N bs j Count = false
 bucketFault N bs j Range = false
 bucketFault N bs j Mismatch = false
+bucketFault N bs j Fold = false
 
 -- which faults apply where a sketch is written into an output of o bytes
 abbrev pub writeFault : Params → Sketch → ℕ → Refusal → Bool
@@ -36,3 +37,4 @@ writeFault P S o Count = false
 writeFault P S o Range = false
 writeFault P S o Mismatch = false
 writeFault P S o Form = false
+writeFault P S o Fold = false

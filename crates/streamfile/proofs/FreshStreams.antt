@@ -1,5 +1,5 @@
 -- What a stream that is read into a fresh sketch leaves: a sketch of the right size, undamaged, in which no count is below 0.
-use mathlib.Core.Path.{_≡_, refl, sym, ap, ap₂, subst, _∙_}
+use mathlib.Core.Path.{_≡_, refl, sym, ap, subst, _∙_}
 use mathlib.Core.Bool.{Bool, true, false}
 use mathlib.Core.List.{List}
 use Prim.Native.Nat.{ℕ, zero, suc, _≤_, _<_}
@@ -10,22 +10,17 @@ use lib.IntN.{ℤ, pos, _+ℤ_}
 use lib.Signed.{_≤ℤ_}
 use lib.ListN.{length, getD, take, replicate, length-replicate, getD-replicate, List·getD-eq-default}
 use Rattle.field.proofs.Parts.{int, up-down-add, le-of-parts}
-use Rattle.field.proofs.Residues.{residue-below}
 use Rattle.params.specs.declared.params.Params.{Params}
 use Rattle.params.specs.declared.answers.Answer.the-variants.{Done}
 use Rattle.params.specs.Answers.{kept}
-use Rattle.params.specs.Params.{prime, size, goodParams}
+use Rattle.params.specs.Params.{size, goodParams}
 use Rattle.params.specs.Positions.{stands}
-use Rattle.params.proofs.Changes.{untouched}
 use Rattle.params.proofs.Rules.{lengths-done}
-use Rattle.buckets.specs.Buckets.{inLimits, damaged}
-use Rattle.sketch.specs.Sketch.{Sketch, countIn, idsumIn, damagedAt, zeros, changedIn}
+use Rattle.sketch.specs.Sketch.{Sketch, countIn, damagedAt, zeros}
 use Rattle.sketch.specs.Packets.{stepAnswer, changed, after, Accepted}
-use Rattle.buckets.proofs.Idsums.{prime-pos}
-use Rattle.buckets.proofs.Limits.{whole-back}
-use Rattle.sketch.proofs.Steps.{step-done}
-use Rattle.sketch.proofs.TakenBack.{count-changed, idsum-changed}
-use Rattle.sketch.proofs.ManyPackets.{Long, stepped-long, after-more, after-end}
+use Rattle.sketch.proofs.TakenBack.{count-changed}
+use Rattle.sketch.proofs.ManyPackets.{after-more, after-end}
+use Rattle.sketch.proofs.Whole.{count-stays, step-long, step-whole}
 use Rattle.streamfile.specs.Streams.{packetsIn, flowsIn, numbersIn, StreamRead}
 use Rattle.streamfile.proofs.Found.{length-flows, length-numbers}
 use Rattle.streamfile.proofs.Accepting.{stream-done}
@@ -52,44 +47,23 @@ past-not-below S k l = zero-not-below (countIn S k) (List·getD-eq-default (S .c
 
 -- one packet, n times
 module _ (P : Params) (f n : ℕ) (S : Sketch) where
-  -- where its flow does not stand, a bucket stays
-  count-stays : (k : ℕ) → k < length (S .counts) → stands P f k ≡ false → countIn (changed P false f n S) k ≡ countIn S k
-  unfolding changed changedIn
-  count-stays k l s = untouched (stands P f) _ (S .counts) k (pos 0) l s
-
-  idsum-stays : (k : ℕ) → k < length (S .idsums) → stands P f k ≡ false → idsumIn (changed P false f n S) k ≡ idsumIn S k
-  unfolding changed changedIn
-  idsum-stays k l s = untouched (stands P f) _ (S .idsums) k 0 l s
-
   module _ (done : stepAnswer P false f n S ≡ Done) where
-    step-long : Long S (changed P false f n S)
-    unfolding kept
-    step-long = stepped-long {minus = false} {P = P} {f = f} {n = n} {S = S} {S' = changed P false f n S} {r = Done} (record { answer = sym done; after = refl })
-
     module _ (g : Grown P S) (k : ℕ) where
-      step-undamaged : k < size P → (b : Bool) → stands P f k ≡ b → damagedAt (changed P false f n S) k ≡ false
-      step-undamaged l true s =
-          whole-back (countIn (changed P false f n S) k) (idsumIn (changed P false f n S) k)
-          (ap inLimits (count-changed P false f n S k (omega (arith, g .counts-long)) s) ∙ step-done P false f n S done .stays k l s)
-          (subst (λ (x : ℕ). x < prime) (sym (idsum-changed P false f n S k (omega (arith, g .idsums-long)) s)) (residue-below prime prime-pos _))
-      step-undamaged l false s =
-          ap₂ (λ (c : ℤ) (x : ℕ). damaged c x) (count-stays k (omega (arith, g .counts-long)) s) (idsum-stays k (omega (arith, g .idsums-long)) s)
-          ∙ g .undamaged k l
-
       step-not-below : Dec (k < length (S .counts)) → (b : Bool) → stands P f k ≡ b → pos 0 ≤ℤ countIn (changed P false f n S) k
       step-not-below (yes l) true s =
           subst (λ (x : ℤ). pos 0 ≤ℤ x) (sym (count-changed P false f n S k l s)) (more-not-below (countIn S k) n (g .none-below k))
-      step-not-below (yes l) false s = subst (λ (x : ℤ). pos 0 ≤ℤ x) (sym (count-stays k l s)) (g .none-below k)
-      step-not-below (no l) b s = past-not-below (changed P false f n S) k (omega (arith, step-long .counts))
+      step-not-below (yes l) false s = subst (λ (x : ℤ). pos 0 ≤ℤ x) (sym (count-stays P f n S k l s)) (g .none-below k)
+      step-not-below (no l) b s = past-not-below (changed P false f n S) k (omega (arith, step-long P f n S done .counts))
 
     -- so packets that are accepted keep all of it
     step-grown : Grown P S → Grown P (changed P false f n S)
     step-grown g =
+        let w = step-whole P f n S done (record { counts-long = g .counts-long; idsums-long = g .idsums-long; undamaged = g .undamaged }) in
         record {
           good = g .good;
-          counts-long = step-long .counts ∙ g .counts-long;
-          idsums-long = step-long .idsums ∙ g .idsums-long;
-          undamaged = λ k l. step-undamaged g k l (stands P f k) refl;
+          counts-long = w .counts-long;
+          idsums-long = w .idsums-long;
+          undamaged = w .undamaged;
           none-below = λ k. step-not-below g k (decLt k (length (S .counts))) (stands P f k) refl;
         }
 

@@ -1,6 +1,6 @@
 -- What goes with each refusal of a stream: the head and the lengths come first, then the sketch's damage, then the packets in turn, then the end. And what a stream's writer returns.
 use mathlib.Core.Path.{_≡_, refl, sym, ap, _∙_}
-use mathlib.Core.Bool.{Bool, true, false, not, _&&_, _||_}
+use mathlib.Core.Bool.{true, false, not, _&&_}
 use mathlib.Core.Logic.{⊎-elim}
 use mathlib.Core.List.{List}
 use Prim.Native.Nat.{ℕ, _≤_, _<_}
@@ -9,7 +9,7 @@ use lib.Dec.{eqb, leb, ltb}
 use lib.ListN.{length}
 use Rattle.params.specs.declared.params.Params.{Params}
 use Rattle.params.specs.declared.answers.Refusal.{Refusal}
-use Rattle.params.specs.declared.answers.Refusal.the-variants.{Param, Length, Flow, Count, Damage, Range, Mismatch, Form}
+use Rattle.params.specs.declared.answers.Refusal.the-variants.{Param, Length, Flow, Count, Damage, Form}
 use Rattle.params.specs.declared.answers.Answer.{Answer}
 use Rattle.params.specs.declared.answers.Answer.the-variants.{Done, Refused}
 use Rattle.params.specs.Lists.{below}
@@ -128,7 +128,7 @@ module _ {P : Params} {fs ns out : List ℕ} {r : Written} {out' : List ℕ} (h 
 
   -- so no fault that applies has a lower number
   pub write-stream-least-number : (w : Refusal) → writeFault P fs ns (length out) w ≡ true → writtenNumber r ≤ numberOf w
-  write-stream-least-number w e = rw write-stream-number (lowest-first (writeFault P fs ns (length out)) refl w e)
+  write-stream-least-number w e = rw write-stream-number (lowest-first (writeFault P fs ns (length out)) refl refl w e)
 
   -- 0 goes with it
   pub write-stream-index : writtenIndex r ≡ 0

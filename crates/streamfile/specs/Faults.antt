@@ -6,7 +6,7 @@ use lib.Dec.{eqb, leb, ltb}
 use lib.ListN.{length}
 use Rattle.params.specs.declared.params.Params.{Params}
 use Rattle.params.specs.declared.answers.Refusal.{Refusal}
-use Rattle.params.specs.declared.answers.Refusal.the-variants.{Param, Length, Flow, Count, Damage, Range, Mismatch, Form}
+use Rattle.params.specs.declared.answers.Refusal.the-variants.{Param, Length, Flow, Count, Damage, Range, Mismatch, Form, Fold}
 use Rattle.params.specs.Lists.{below}
 use Rattle.params.specs.Params.{goodParams}
 use Rattle.streamfile.specs.Writing.{streamBytes, isFlowAt, isNumberAt}
@@ -21,3 +21,4 @@ writeFault P fs ns o Damage = false
 writeFault P fs ns o Range = false
 writeFault P fs ns o Mismatch = false
 writeFault P fs ns o Form = false
+writeFault P fs ns o Fold = false

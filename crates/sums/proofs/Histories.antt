@@ -15,8 +15,10 @@ use Rattle.params.specs.Positions.{stands}
 use Rattle.buckets.specs.Buckets.{plusMinus, weight}
 use Rattle.sketch.specs.Sketch.{Sketch, sketch, Entry, by, countAt, weightAt, sketchOf, zeros, changedIn}
 use Rattle.sketch.specs.Packets.{changed, after, entriesOf}
+use Rattle.fold.specs.Fold.{front, Folded, foldedTo}
+use Rattle.fold.proofs.AtTheCall.{fold-of-list}
 use Rattle.sums.specs.Sums.{combineAnswer, combined, Combined}
-use Rattle.sums.specs.History.{History, freshly, inserting, stepping, of-flow-zero, inserting-all, withdrawing, adding, subtracting, negated, signed, netCount}
+use Rattle.sums.specs.History.{History, freshly, inserting, stepping, of-flow-zero, inserting-all, withdrawing, adding, subtracting, folding, negated, signed, netCount}
 use Rattle.params.proofs.Judging.{first-done}
 use Rattle.sums.proofs.TwoSketches.{both-lent-done}
 use Rattle.sketch.proofs.Tables.{replicate-from, touched-from}
@@ -108,7 +110,17 @@ history (of-flow-zero minus n h e) = e ∙ ap (changed _ _ _ _) (history h) ∙ 
 history (inserting-all h i) = i .after-all ∙ ap (after _ _ _) (history h) ∙ after-entries _ _ _ _
 history (withdrawing h i) = i .after ∙ ap (changed _ true _ _) (history h) ∙ changed-entry _ true _ _ _
 history (adding h g i) = combined-shared false _ _ (history h) (history g) i ∙ sym (joined _ _ _)
+history (folding h i) = fold-of-list i _ (history h)
 history (subtracting h g i) = combined-shared true _ _ (history h) (history g) i ∙ sym (joined-less _ _ _)
+
+-- a desk may fold the larger of two sketches to subtract a smaller one from it, or it from the smaller one: the difference is that of the packets
+pub fold-and-subtract : {P Q R : Params} {m2 : ℕ} {es gs : List Entry} {S S' T D : Sketch} → History P es S → Folded P m2 S (foldedTo Q) S' → History R gs T
+    → Combined true Q R (front (size Q) S') T Done D → D ≡ sketchOf Q (es ++ negated gs)
+fold-and-subtract h f g c = history (subtracting (folding h f) g c)
+
+pub subtract-folded : {P Q R : Params} {m2 : ℕ} {es gs : List Entry} {S T T' D : Sketch} → History R es S → History P gs T → Folded P m2 T (foldedTo Q) T'
+    → Combined true R Q S (front (size Q) T') Done D → D ≡ sketchOf R (es ++ negated gs)
+subtract-folded h g f c = history (subtracting h (folding g f) c)
 
 -- how packets are split over calls and sketches does not matter, nor does their order
 pub split-free : {P : Params} {es gs : List Entry} {S T : Sketch} → History P es S → History P gs T → ((f : ℕ) → netCount es f ≡ netCount gs f) → S ≡ T

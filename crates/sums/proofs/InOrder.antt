@@ -1,14 +1,12 @@
 -- Refusals come in the order of the table: the sum and the difference of two sketches.
 use mathlib.Core.Path.{_≡_}
-use mathlib.Core.Bool.{Bool, false, not, _&&_, _||_}
-use lib.ListN.{length}
+use mathlib.Core.Bool.{Bool, not, _&&_}
 use Rattle.params.specs.declared.params.Params.{Params}
-use Rattle.params.specs.declared.answers.Refusal.{Refusal}
-use Rattle.params.specs.declared.answers.Refusal.the-variants.{Param, Length, Flow, Count, Damage, Range, Mismatch, Form}
+use Rattle.params.specs.declared.answers.Refusal.the-variants.{Param, Mismatch}
 use Rattle.params.specs.Answers.{numberIn, first}
 use Rattle.params.specs.Params.{goodParams, sameParams, lengthsAnswer}
 use Rattle.sketch.specs.Sketch.{Sketch}
-use Rattle.sums.specs.Sums.{bothLentAnswer, eitherDamaged, leaves, bucketsAnswer, combineAnswer}
+use Rattle.sums.specs.Sums.{bothLentAnswer, bucketsAnswer, combineAnswer}
 use Rattle.sums.specs.Faults.{combineFault}
 use Rattle.params.specs.Faults.{order, firstOf}
 use Rattle.params.proofs.InOrder.{refuse-number, refuse-at-number, first-refuse, cond-either, IndexZero, refuse-index, first-index, buckets-index, lengths-index}
@@ -24,4 +22,4 @@ combine-index minus P Q S T =
     (refuse-index (not (goodParams P && goodParams Q)) Param _
     (refuse-index (not (sameParams P Q)) Mismatch _
     (first-index _ _ (lengths-index P _ _) (lengths-index P _ _))))
-    (buckets-index _ _ _)
+    (buckets-index _ _ _ _)

@@ -1,6 +1,5 @@
 -- The laws of sums and differences of sketches, which the proofs of this crate and of those above it cite.
 pub mod TwoSketches
-pub mod Totals
 pub mod Weighted
 pub mod Linear
 pub mod NetCounts
@@ -8,4 +7,5 @@ pub mod Histories
 pub mod Lowest
 pub mod InOrder
 pub mod AtTheCall
+pub mod FoldedSums
 pub mod Examples

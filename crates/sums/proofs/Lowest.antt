@@ -37,7 +37,7 @@ module _ (minus : Bool) (P Q : Params) (S T : Sketch) (k : ℕ) where
   pub combine-lowest-damage : combineAnswer minus P Q S T ≡ Refused Damage k
       → Lowest (size P) (λ j. damaged (countIn S j) (idsumIn S j) || damaged (countIn T j) (idsumIn T j)) k
   unfolding bucketsAnswer eitherDamaged
-  combine-lowest-damage e = let r = combine-late Damage refl e in damage-lowest (size P) _ _ k (rw (r .0) at (r .1))
+  combine-lowest-damage e = let r = combine-late Damage refl e in damage-lowest (size P) (size P) _ _ k (rw (r .0) at (r .1))
 
   pub combine-lowest-range : combineAnswer minus P Q S T ≡ Refused Range k
       → Lowest (size P) (λ j. not (inLimits (plusMinus minus (countIn S j) (countIn T j)))) k
@@ -45,5 +45,5 @@ module _ (minus : Bool) (P Q : Params) (S T : Sketch) (k : ℕ) where
   unfolding bucketsAnswer eitherDamaged leaves
   combine-lowest-range e =
       let r = combine-late Range refl e in
-      let q = range-lowest (size P) _ _ k (rw (r .0) at (r .1)) in
+      let q = range-lowest (size P) (size P) _ _ k (rw (r .0) at (r .1)) in
       (q .0, λ j l. or-neither (damaged (countIn S j) (idsumIn S j)) _ (q .1 j l))

@@ -12,7 +12,8 @@ use Rattle.field.proofs.Parts.{int, up-down-add, up-mul, down-mul}
 use Rattle.params.specs.declared.params.Params.{Params}
 use Rattle.sketch.specs.Sketch.{Entry, sketchOf}
 use Rattle.sums.specs.History.{negated, netCount, Rearranged, none, keeping, swapping, twice}
-use Rattle.sums.proofs.Totals.{total, total-add, total-none, total-one}
+use Rattle.fold.specs.Fold.{total}
+use Rattle.fold.proofs.Totals.{total-add, total-none, total-one}
 use Rattle.sums.proofs.Weighted.{weighted, count-weighted, weight-weighted, net-weighted, weighted-append, weighted-negated, sketch-same}
 
 -- a number above every flow

@@ -1,22 +1,28 @@
--- Laws of the answer of two sketches: what holds where nothing is refused, and that nothing is where all buckets are small.
-use mathlib.Core.Path.{_≡_, refl, sym, ap, _∙_}
+-- Laws of the answer of two sketches: what holds where nothing is refused, and that nothing is where all buckets are small; and of what is left of them then.
+use mathlib.Core.Path.{_≡_, refl, sym, ap, subst, _∙_}
 use mathlib.Core.Bool.{Bool, true, false, not, _&&_, _||_}
 use Prim.Native.Nat.{ℕ, _≤_, _<_}
+use native.Mathlib.Nat.{zero-add}
 use native.Mathlib.Omega.{arith}
 use borrow.Author.Tests.{not-false}
+use lib.IntN.{pos}
 use lib.ListN.{length}
+use Rattle.field.specs.Residue.{residue}
+use Rattle.field.proofs.Residues.{residue-below}
 use Rattle.params.specs.declared.params.Params.{Params}
 use Rattle.params.specs.declared.answers.Refusal.the-variants.{Param, Damage, Range, Mismatch}
 use Rattle.params.specs.declared.answers.Answer.the-variants.{Done}
 use Rattle.params.specs.Lists.{below}
 use Rattle.params.specs.Params.{prime, size, goodParams, sameParams, lengthsAnswer, dimensionsAnswer}
 use Rattle.buckets.specs.Buckets.{inLimits, plusMinus}
-use Rattle.sketch.specs.Sketch.{Sketch, countIn, idsumIn, smallAt}
-use Rattle.sums.specs.Sums.{bothLentAnswer, eitherDamaged, leaves, bucketsAnswer, combineAnswer}
+use Rattle.sketch.specs.Sketch.{Sketch, countIn, idsumIn, damagedAt, smallAt}
+use Rattle.sums.specs.Sums.{bothLentAnswer, eitherDamaged, leaves, bucketsAnswer, combineAnswer, combined}
 use Rattle.params.proofs.Searches.{and-true, below-at}
+use Rattle.params.proofs.Changes.{length-mapFrom, getD-mapFrom}
 use Rattle.params.proofs.Judging.{first-done, refuse-done, refuse-at-done, refuse-none}
 use Rattle.params.proofs.Rules.{dimensions-small, good-has-dimensions, good-dimensions, lengths-done}
-use Rattle.buckets.proofs.Limits.{whole, small-whole, small-size, small-stays}
+use Rattle.buckets.proofs.Idsums.{prime-pos}
+use Rattle.buckets.proofs.Limits.{whole, whole-back, small-whole, small-size, small-stays}
 
 -- where the parameters keep the rules, of the dimensions and the lengths the lengths are left to judge
 pub lengths-left : (P : Params) (c s : ℕ) → goodParams P ≡ true → dimensionsAnswer P c s ≡ lengthsAnswer P c s
@@ -84,3 +90,26 @@ small-done minus S T e =
     refuse-none (length (S .counts)) (eitherDamaged S T) Damage _ (λ k l. rw (small-whole _ _ (both k l .0), small-whole _ _ (both k l .1)))
     ∙ refuse-none (length (S .counts)) (leaves minus (S .counts) (T .counts)) Range Done
     (λ k l. ap not (small-stays minus _ _ (small-size _ _ (both k l .0)) (small-size _ _ (both k l .1))))
+
+-- the sum or the difference of two sketches: its buckets, its lengths, which are those of the first, and that it is undamaged where it is not refused
+module _ (minus : Bool) (S T : Sketch) where
+  pub combined-count : (k : ℕ) → k < length (S .counts) → countIn (combined minus S T) k ≡ plusMinus minus (countIn S k) (countIn T k)
+  unfolding combined
+  combined-count k l = getD-mapFrom 0 (λ j x. plusMinus minus x (countIn T j)) (S .counts) k (pos 0) l ∙ ap (λ (j : ℕ). plusMinus minus (countIn S k) (countIn T j)) (zero-add k)
+
+  pub combined-idsum : (k : ℕ) → k < length (S .idsums) → idsumIn (combined minus S T) k ≡ residue prime (plusMinus minus (pos (idsumIn S k)) (pos (idsumIn T k)))
+  unfolding combined
+  combined-idsum k l =
+      getD-mapFrom 0 (λ j x. residue prime (plusMinus minus (pos x) (pos (idsumIn T j)))) (S .idsums) k 0 l
+      ∙ ap (λ (j : ℕ). residue prime (plusMinus minus (pos (idsumIn S k)) (pos (idsumIn T j)))) (zero-add k)
+
+  pub combined-long : (length (combined minus S T .counts) ≡ length (S .counts)) × (length (combined minus S T .idsums) ≡ length (S .idsums))
+  unfolding combined
+  combined-long = (length-mapFrom 0 _ (S .counts), length-mapFrom 0 _ (S .idsums))
+
+  pub combined-undamaged : (P Q : Params) → combineAnswer minus P Q S T ≡ Done → (k : ℕ) → k < length (S .counts) → damagedAt (combined minus S T) k ≡ false
+  combined-undamaged P Q done k l =
+      let h = combine-done minus P Q S T done in
+      whole-back (countIn (combined minus S T) k) (idsumIn (combined minus S T) k)
+      (ap inLimits (combined-count k l) ∙ h .1 k l)
+      (subst (λ (n : ℕ). n < prime) (sym (combined-idsum k (omega (arith, h .0 .0)))) (residue-below prime prime-pos _))

@@ -3,7 +3,7 @@ use mathlib.Core.Bool.{Bool, false, not, _&&_, _||_}
 use lib.ListN.{length}
 use Rattle.params.specs.declared.params.Params.{Params}
 use Rattle.params.specs.declared.answers.Refusal.{Refusal}
-use Rattle.params.specs.declared.answers.Refusal.the-variants.{Param, Length, Flow, Count, Damage, Range, Mismatch, Form}
+use Rattle.params.specs.declared.answers.Refusal.the-variants.{Param, Length, Flow, Count, Damage, Range, Mismatch, Form, Fold}
 use Rattle.params.specs.Params.{goodParams, sameParams}
 use Rattle.params.specs.Faults.{somewhere}
 use Rattle.sketch.specs.Sketch.{Sketch}
@@ -20,3 +20,4 @@ combineFault minus P Q S T Range = somewhere (length (S .counts)) (leaves minus 
 combineFault minus P Q S T Flow = false
 combineFault minus P Q S T Count = false
 combineFault minus P Q S T Form = false
+combineFault minus P Q S T Fold = false

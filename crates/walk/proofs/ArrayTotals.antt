@@ -15,7 +15,8 @@ use Rattle.params.proofs.Indexes.{position-below}
 use Rattle.params.proofs.Standing.{standing-in}
 use Rattle.sketch.specs.Sketch.{Sketch, countIn, Entry, countAt, sketchOf}
 use Rattle.sketch.proofs.Tables.{from-at}
-use Rattle.sums.proofs.Totals.{total, total-add, total-same, total-none, total-one}
+use Rattle.fold.specs.Fold.{total}
+use Rattle.fold.proofs.Totals.{total-add, total-same, total-none, total-one}
 use Rattle.walk.proofs.Figures.{allCounts}
 
 -- the sum of the counts of array i; arrays count from 1

@@ -15,7 +15,8 @@ use Rattle.params.specs.declared.params.Params.{Params}
 use Rattle.params.specs.Params.{primeOf, size, isFlow, Dimensions}
 use Rattle.params.specs.Positions.{stands}
 use Rattle.buckets.specs.Buckets.{inLimits}
-use Rattle.sketch.specs.Sketch.{Sketch, countIn, idsumIn, damagedAt, Entry, by, sketchOf}
+use Rattle.sketch.specs.Sketch.{Sketch, countIn, idsumIn, Entry, by, sketchOf}
+use Rattle.sketch.proofs.Whole.{Whole}
 use Rattle.sums.specs.Sums.{combined}
 use Rattle.params.proofs.Searches.{cannot-hold}
 use Rattle.params.proofs.Rules.{flow-above}
@@ -45,12 +46,6 @@ use Rattle.walk.proofs.Figures as figures
 use Rattle.walk.proofs.Figures.{allCounts}
 use Rattle.walk.proofs.ArrayTotals.{arrayTotal, total-balance, same-counts}
 use Rattle.walk.proofs.TableFacts.{Listed, listed as table-facts}
-
--- S has the size of P, and no bucket of it is outside its limits
-pub record Whole (P : Params) (S : Sketch) : Type 0 where
-  pub counts-long : length (S .counts) ≡ size P
-  pub idsums-long : length (S .idsums) ≡ size P
-  pub undamaged : (k : ℕ) → k < size P → damagedAt S k ≡ false
 
 -- every count and every idsum is 0
 abbrev pub Nothing : Sketch → Type 0

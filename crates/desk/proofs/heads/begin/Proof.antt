@@ -30,11 +30,11 @@ said c = head-says _ _ (c .before .before .head .ensures) (c .enum-told .given .
 few-enough-requires : tie.Need-few-enough-requires
 few-enough-requires c κs = ap goodParams (said (c .before) .1) ∙ head-good _ (said (c .before) .0)
 
-refused-requires : tie.Need-refused-requires
-refused-requires c κs = search needs
+none-requires : tie.Need-none-requires
+none-requires c κs = search needs
 
 returns-2 : tie.Need-returns-2
-returns-2 c = c .refused .ensures
+returns-2 c = c .none .ensures
     ∙ first-too-large _ (said (c .before .before .before .before) .0)
     (ap fewEnough (sym (said (c .before .before .before .before) .1)) ∙ test-failed (c .before .before .few-enough .ensures) (c .before .if1 .taken))
 
@@ -52,6 +52,6 @@ begin-spec =
     enum-told-2
     returns
     few-enough-requires
-    refused-requires
+    none-requires
     returns-2
     returns-3)

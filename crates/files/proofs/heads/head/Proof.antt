@@ -14,11 +14,11 @@ use Rattle.files.proofs.heads.head.Tie as tie
 body-of-requires : tie.Need-body-of-requires
 body-of-requires c κs = search needs
 
-refused-requires : tie.Need-refused-requires
-refused-requires c κs = search needs
+none-requires : tie.Need-none-requires
+none-requires c κs = search needs
 
 returns : tie.Need-returns
-returns c = c .refused .ensures ∙ not-a-head _ (no-body _ (c .before .before .body-of .ensures .content) (c .before .if1 .taken))
+returns c = c .none .ensures ∙ not-a-head _ (no-body _ (c .before .before .body-of .ensures .content) (c .before .if1 .taken))
 
 -- a whole head stands at the start
 headed : (c : tie.Else1) → isHead (recordAt (now (c .before .before .before .args .bytes)) 0) ≡ true
@@ -34,11 +34,11 @@ said c = c .params-in .ensures ∙ body-params _ (c .before .before .body-of .en
 check-requires : tie.Need-check-requires
 check-requires c κs = search needs
 
-refused-requires-2 : tie.Need-refused-requires-2
-refused-requires-2 c κs = search needs
+none-requires-2 : tie.Need-none-requires-2
+none-requires-2 c κs = search needs
 
 returns-2 : tie.Need-returns-2
-returns-2 c = c .refused2 .ensures ∙ bad-params _ (headed (c .before .before .before .before)) (ap goodParams (sym (said (c .before .before .before))) ∙ test-failed (c .before .before .check .ensures) (c .before .if2 .taken))
+returns-2 c = c .none2 .ensures ∙ bad-params _ (headed (c .before .before .before .before)) (ap goodParams (sym (said (c .before .before .before))) ∙ test-failed (c .before .before .check .ensures) (c .before .if2 .taken))
 
 returns-3 : tie.Need-returns-3
 returns-3 c = ap (λ p. record { answer = _; params = p }) (said (c .before .before)) ∙ good-head _ (headed (c .before .before .before)) (ap goodParams (sym (said (c .before .before))) ∙ test-held (c .before .check .ensures) (c .if2 .left))
@@ -48,10 +48,10 @@ head-spec =
     tie.close
     (tie.spec
     body-of-requires
-    refused-requires
+    none-requires
     returns
     params-in-requires
     check-requires
-    refused-requires-2
+    none-requires-2
     returns-2
     returns-3)
