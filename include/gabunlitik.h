@@ -5,21 +5,23 @@
  * What every call promises
  *
  * It ends, and it takes every input: what cannot be done is refused by number. It returns 0 where it is done and else one of the
- * refusals below. *place is then the lowest bucket at fault for DAMAGE and RANGE of the sketches that are lent; for every fault of a
- * record in a file that is read, the offset of its kind byte, or the file's length where a record is missing; and 0 for anything
- * else, as it is where nothing was refused. A refusal alters no lent memory. What a call returns through `place`, `length`, `figures`,
- * `position`, `index` and the parameters of a head is written at every call, and is 0 where the call is refused, save for `place`.
- * Where several things are wrong the lowest number is returned, save that MISMATCH comes after PARAM and before LENGTH, that of a list
- * of packets that are inserted the first that is refused decides, and that a file is judged in its own order (docs/FORMAT.md).
+ * refusals below. *place is then the lowest bucket at fault for DAMAGE and RANGE of the sketches that are lent, or, for RANGE of a fold,
+ * of the folded sketch; for every fault of a record in a file that is read, the offset of its kind byte, or the file's length where a
+ * record is missing; and 0 for anything else, as it is where nothing was refused. A refusal alters no lent memory. What a call returns
+ * through `place`, `length`, `figures`, `position`, `index` and the parameters of a head or of a folded sketch is written at every call,
+ * and is 0 where the call is refused, save for `place`. Where several things are wrong the lowest number is returned, save that MISMATCH
+ * comes after PARAM and before LENGTH, that FOLD comes after LENGTH and before DAMAGE, that of a list of packets that are inserted the
+ * first that is refused decides, and that a file is judged in its own order (docs/FORMAT.md).
  *
  * What the memory must be, which no call can check
  *
  * A slice goes as a pointer and the number of its elements. Every pointer is aligned for its type and not NULL, even where the
  * length is 0, and points to at least so many elements that may be read, and written where it is not const, until the call returns.
  * Memory that is lent holds numbers, of whatever value: it is initialised, save what `place`, `length`, `figures`, `position`,
- * `index` and the parameters of a head point to. Nothing that a call may write, these among it, overlaps anything else that is
- * handed to that call. Nothing that is handed to a call changes until it returns, except by the call: a capture buffer or a mapped file
- * that another thread, process or device still writes to is copied first. What a call writes is not read by another thread meanwhile.
+ * `index` and the parameters of a head or of a folded sketch point to. Nothing that a call may write, these among it, overlaps anything
+ * else that is handed to that call. Nothing that is handed to a call changes until it returns, except by the call: a capture buffer or
+ * a mapped file that another thread, process or device still writes to is copied first. What a call writes is not read by another thread
+ * meanwhile.
  *
  * A sketch is lent as two slices, counts and idsums, each d * m long; a slice of another length is LENGTH. The lengths are
  * parameters of their own, so that a slice which is too short is refused and not read past its end.
@@ -44,7 +46,8 @@ enum {
     GABUNLITIK_DAMAGE = 5,   /* a bucket that was looked at is outside its limits */
     GABUNLITIK_RANGE = 6,    /* a new count would leave its limits */
     GABUNLITIK_MISMATCH = 7, /* two sketches, or a sketch and a file, with different parameters */
-    GABUNLITIK_FORM = 8      /* a file breaks the layout */
+    GABUNLITIK_FORM = 8,     /* a file breaks the layout */
+    GABUNLITIK_FOLD = 9      /* a sketch is to be folded to 0 buckets an array, or to a number that does not divide m */
 };
 
 /* The ten numbers of `params`: d arrays, 2 to 4, of m buckets each, 1 to 16384, then four multipliers and four offsets. Of the first
@@ -124,6 +127,20 @@ uint32_t gabunlitik_subtract(const uint32_t params[GABUNLITIK_PARAMS],
                              const int32_t *other_counts, size_t other_counts_len,
                              const uint32_t *other_idsums, size_t other_idsums_len,
                              size_t *place);
+
+/* Folds the sketch to `m2` buckets an array, within its slices: bucket j of each array is added into bucket j mod m2. m2 divides m, and
+ * m itself changes nothing. The folded sketch is the first d * m2 of each slice, bucket j of array i at (i - 1) * m2 + j, and what is
+ * freed behind it is 0. It is the sketch that the same packets make with m2 from the start. `folded_params` returns its parameters, d, m2
+ * and the same pairs: every other call is handed these, with d * m2 as the length of each slice. They are written to an array other
+ * than `params`. Every bucket is looked at: DAMAGE has its index in the sketch that is lent, RANGE the index in the folded sketch of a
+ * bucket whose whole sum would leave the limits; a sum may leave them on the way. A refusal writes `folded_params`, ten zeros, and
+ * `place`, and nothing else. */
+uint32_t gabunlitik_fold(const uint32_t params[GABUNLITIK_PARAMS],
+                         int32_t *counts, size_t counts_len,
+                         uint32_t *idsums, size_t idsums_len,
+                         uint32_t m2,
+                         uint32_t folded_params[GABUNLITIK_PARAMS],
+                         size_t *place);
 
 /* Peels the sketch into a table of flows and their counts with at most `allowance` pops, and returns the figures of the walk, all 0
  * where it is refused. The sketch then holds what remains: the table's own sketch added to it is the sketch that was lent, at every ending.

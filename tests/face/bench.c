@@ -153,6 +153,8 @@ void put(uint8_t *bytes, uint32_t number) {
 int main(void) {
     test_sketches();
     test_sums();
+    test_folds();
+    test_fold_limits();
     test_arrays();
     test_walks();
     test_places();

@@ -79,6 +79,8 @@ void put(uint8_t *bytes, uint32_t number);
 
 void test_sketches(void);
 void test_sums(void);
+void test_folds(void);
+void test_fold_limits(void);
 void test_arrays(void);
 void test_walks(void);
 void test_places(void);

@@ -11,7 +11,7 @@ COMMANDS = {
     8: ("add", ()), 9: ("subtract", ()), 10: ("peel", ("allowance",)), 11: ("read stream", ("bytes",)),
     12: ("read sketch", ("bytes",)), 13: ("read stream back", ()), 14: ("read sketch back", ()), 15: ("write stream", ()),
     16: ("write sketch", ()), 17: ("position", ("array", "flow")), 18: ("index", ("array", "flow")), 19: ("show", ()),
-    20: ("withdraw", ("flow", "number")), 21: ("head", ("bytes",)), 22: ("head back", ()),
+    20: ("withdraw", ("flow", "number")), 21: ("head", ("bytes",)), 22: ("head back", ()), 23: ("fold", ("m2",)),
 }
 WITH_BYTES = ("read stream", "read sketch", "head")
 NUMBERS = {name: number for number, (name, _) in COMMANDS.items()}

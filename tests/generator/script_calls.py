@@ -4,7 +4,7 @@ from generator import sound
 from generator.commands import OUTPUT_ROOM, ROOM, SLICES, Script
 from generator.files import MOST, P, WORD, Params
 from generator.values import (
-    any_flow, any_params, any_pair, broken, four_pairs, no_flow, place, position, small_entries, uniform_flow)
+    any_divisor, any_flow, any_params, any_pair, broken, four_pairs, no_divisor, no_flow, place, position, small_entries, uniform_flow)
 
 # Sound differences whose walks are short enough to be tried with one allowance after the other.
 DIFFERENCES = (
@@ -33,12 +33,16 @@ def any_idsum(rng):
     return rng.choice(IDSUMS + (rng.randint(0, 9), rng.randint(0, P - 1)))
 
 
-def damage(rng, script, sketch, index):
-    """Damages the count, the idsum or both of a bucket."""
-    count, idsum = rng.choice((
+def damaged(rng):
+    """A count and an idsum, one of them or both outside their limits."""
+    return rng.choice((
         (rng.choice(DAMAGED_COUNTS), any_idsum(rng)), (any_count(rng), rng.choice(DAMAGED_IDSUMS)),
         (rng.choice(DAMAGED_COUNTS), rng.choice(DAMAGED_IDSUMS))))
-    script.bucket(index, count, idsum, sketch)
+
+
+def damage(rng, script, sketch, index):
+    """Damages the count, the idsum or both of a bucket."""
+    script.bucket(index, *damaged(rng), sketch)
 
 
 def any_content(rng, script, sketch, params):
@@ -320,15 +324,17 @@ def calls(rng, params):
         ("insert", (flow, rng.choice((1, 1, 0, MOST)))), ("withdraw", (flow, rng.choice((1, 1, 0, MOST)))), ("insert all", ()), ("add", ()), ("subtract", ()),
         ("peel", (rng.randint(0, 30),)), ("write stream", ()), ("write sketch", ()), ("read stream back", ()),
         ("read sketch back", ()), ("position", (rng.randint(0, params.d + 1), flow)),
-        ("index", (rng.randint(0, params.d + 1), flow)), ("fresh", ())]
+        ("index", (rng.randint(0, params.d + 1), flow)), ("fresh", ()),
+        ("fold", (rng.choice((params.m, any_divisor(rng, params.m), no_divisor(rng, params))),))]
     rng.shuffle(made)
     return made
 
 
 def call_all(rng, script, params):
-    """All these calls; a show comes before each that may write over what a refused one altered, and at the end."""
-    for name, operands in calls(rng, params):
-        if name in ("fresh", "peel", "read sketch back", "write stream", "write sketch"):
+    """All these calls; a show comes before each that may write over what a refused one altered, and at the end. The fold comes last, since
+    it alters the parameters."""
+    for name, operands in sorted(calls(rng, params), key=lambda call: call[0] == "fold"):
+        if name in ("fresh", "peel", "read sketch back", "write stream", "write sketch", "fold"):
             script.show()
         script.add(name, 1, operands)
     script.show()

@@ -1,6 +1,6 @@
 """Scripts: which kinds there are, how often each is made, and those that break off or mean nothing."""
 
-from generator import script_calls, script_files
+from generator import script_calls, script_files, script_folds
 from generator.commands import COMMANDS, MOST_BYTES, WITH_BYTES, Script
 from generator.files import MOST, P, WORD
 from generator.values import any_flow, any_params, small_entries
@@ -50,7 +50,7 @@ def broken_off(rng):
     whole = rng.choice((any_calls, any_operands, script_files.streams_written))(rng)
     if rng.random() < 0.5:
         return whole[:rng.randrange(len(whole) + 1)]
-    unknown = rng.choice((0, 23, 24, 127, 128, 151, 255, rng.randint(0, 255)))
+    unknown = rng.choice((0, 24, 25, 127, 128, 152, 255, rng.randint(0, 255)))
     return whole + bytes([unknown]) + rng.randbytes(rng.randint(0, 20))
 
 
@@ -67,6 +67,9 @@ KINDS = (
     (script_calls.long_lists, 0.5), (script_calls.largest, 0.3),
     (script_files.streams_read, 14), (script_files.sketches_read, 16), (script_files.old_sketches, 8), (script_files.every_cut, 3), (script_files.heads, 6),
     (script_files.streams_written, 8), (script_files.sketches_written, 8),
+    (script_folds.folds, 8), (script_folds.fold_limits, 10), (script_folds.fold_orders, 12), (script_folds.folds_of_folds, 5),
+    (script_folds.folded_lists, 5), (script_folds.folded_differences, 8), (script_folds.folded_files, 6),
+    (script_folds.largest_folds, 1.5),
     (any_calls, 10), (any_operands, 6), (broken_off, 4), (empty, 0.1),
 )
 

@@ -1,4 +1,5 @@
-"""Values that inputs are made of: parameters, sound or not, flows and numbers that are none, entries and records of any kind."""
+"""Values that inputs are made of: parameters, sound or not, sizes to fold to, flows and numbers that are none, entries and records of any
+kind."""
 
 from generator.files import P, WORD, Params, bucket, end, head, packets
 
@@ -24,6 +25,23 @@ def four_pairs(rng, d):
 def any_params(rng, least=1, most=MOST_BUCKETS):
     d = rng.randint(2, 4)
     return Params(d, rng.randint(least, min(most, MOST_BUCKETS // d)), four_pairs(rng, d))
+
+
+def divisors(m):
+    return [each for each in range(1, m + 1) if m % each == 0]
+
+
+def any_divisor(rng, m):
+    """1, the number itself, a prime that divides it, the number without one such prime, or any divisor."""
+    prime = rng.choice([each for each in divisors(m) if len(divisors(each)) == 2] or [1])
+    return rng.choice((1, m, prime, m // prime, rng.choice(divisors(m)), rng.choice(divisors(m))))
+
+
+def no_divisor(rng, params):
+    """A number that a sketch cannot be folded to: 0, or one that does not divide m, below it or above, also where it divides d * m."""
+    d, m = params.d, params.m
+    tried = (0, 0, d, m - 1, m + 1, 2 * m, d * m, P, 2**31, WORD) + tuple(rng.randint(1, m) for _ in range(6))
+    return rng.choice([each for each in tried if each == 0 or m % each != 0])
 
 
 def position(params, i, flow):

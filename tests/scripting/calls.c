@@ -136,17 +136,38 @@ static void find(finding *call, struct given given) {
         printf("%zu\n", found);
 }
 
-static void head(const uint8_t *bytes, size_t length) {
-    static const uint32_t none[GABUNLITIK_PARAMS];
-    uint32_t params[GABUNLITIK_PARAMS];
-    memset(params, 0xa5, sizeof params);
-    uint32_t number = gabunlitik_read_head(bytes, length, params, &place);
-    if (refused(number, memcmp(params, none, sizeof none) == 0))
-        return;
+static const uint32_t no_params[GABUNLITIK_PARAMS];
+
+/* The answer of a call that gives parameters. */
+static void show_params(const uint32_t *params) {
     printf("done d %u m %u pairs", params[GABUNLITIK_D], params[GABUNLITIK_M]);
     for (size_t i = 0; i < 4; i++)
         printf(" %u %u", params[GABUNLITIK_MULTIPLIERS + i], params[GABUNLITIK_OFFSETS + i]);
     printf("\n");
+}
+
+static void head(const uint8_t *bytes, size_t length) {
+    uint32_t params[GABUNLITIK_PARAMS];
+    memset(params, 0xa5, sizeof params);
+    uint32_t number = gabunlitik_read_head(bytes, length, params, &place);
+    if (!refused(number, memcmp(params, no_params, sizeof params) == 0))
+        show_params(params);
+}
+
+/* The room that a fold frees is to be zero. Later commands are lent the folded sketch alone, so that it is looked at here. */
+static void fold(struct given given) {
+    struct sketch *s = chosen(given);
+    uint32_t params[GABUNLITIK_PARAMS];
+    memset(params, 0xa5, sizeof params);
+    uint32_t number = gabunlitik_fold(s->params, counts_of(&s->counts), s->counts.length, s->idsums.room, s->idsums.length,
+                                      operand(given, 0), params, &place);
+    if (refused(number, memcmp(params, no_params, sizeof params) == 0))
+        return;
+    size_t size = (size_t)params[GABUNLITIK_D] * params[GABUNLITIK_M];
+    if (!zeros_from(&s->counts, size) || !zeros_from(&s->idsums, size))
+        printf("not zero ");
+    show_params(params);
+    resize(s, params);
 }
 
 void call(struct given given) {
@@ -203,6 +224,9 @@ void call(struct given given) {
         break;
     case HEAD_BACK:
         head(memory.output, written_length());
+        break;
+    case FOLD:
+        fold(given);
         break;
     default:
         break;

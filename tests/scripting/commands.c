@@ -28,10 +28,11 @@ static const struct {
     [WITHDRAW] = {"withdraw", 2, 0, 0},
     [HEAD] = {"head", 1, 0, 1},
     [HEAD_BACK] = {"head back", 0, 0, 0},
+    [FOLD] = {"fold", 1, 0, 0},
 };
 
 int is_command(int number) {
-    return number >= PARAMS && number <= HEAD_BACK;
+    return number >= PARAMS && number <= FOLD;
 }
 
 const char *name_of(enum command command) {

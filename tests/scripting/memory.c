@@ -60,6 +60,21 @@ void set_length(struct given given) {
         memory.output_length = least(length, MOST_OUTPUT);
 }
 
+int zeros_from(const struct numbers *numbers, size_t from) {
+    for (size_t i = from; i < numbers->length; i++)
+        if (numbers->room[i] != 0)
+            return 0;
+    return 1;
+}
+
+void resize(struct sketch *sketch, const uint32_t *params) {
+    for (size_t i = 0; i < GABUNLITIK_PARAMS; i++)
+        sketch->params[i] = params[i];
+    size_t size = least((size_t)params[GABUNLITIK_D] * params[GABUNLITIK_M], MOST);
+    sketch->counts.length = size;
+    sketch->idsums.length = size;
+}
+
 /* Puts numbers into a slice from a place on: those after the operands, or one many times. What would lie past the end of what is
  * lent is left out. */
 void store(struct given given) {

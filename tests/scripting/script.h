@@ -29,7 +29,8 @@ enum command {
     SHOW,
     WITHDRAW,
     HEAD,
-    HEAD_BACK
+    HEAD_BACK,
+    FOLD
 };
 
 /* A command as it stands in a script: its number, the sketch it works on (0 or 1), and what follows its byte. */
@@ -73,6 +74,12 @@ extern struct memory memory;
 
 /* Counts stand as what their bits are without a sign. */
 int32_t *counts_of(struct numbers *numbers);
+
+/* Whether the places of a slice from one on are all zero. */
+int zeros_from(const struct numbers *numbers, size_t from);
+
+/* Gives a sketch these parameters, and lends its slices as long as they say. */
+void resize(struct sketch *sketch, const uint32_t *params);
 
 /* The commands that set what calls are lent, the calls, and what is lent as lines. */
 void set_params(struct given given);

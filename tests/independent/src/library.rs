@@ -86,6 +86,16 @@ impl Lent<'_> {
         Ok(())
     }
 
+    /// Folds the sketch to m2 buckets an array; its new parameters. It then stands at the front of the lent slices, and the
+    /// freed room behind it is zero.
+    pub fn fold(&mut self, m2: i64) -> Result<Params, Refusal> {
+        let folded = self.sketch()?.fold(m2)?;
+        self.counts.fill(0);
+        self.idsums.fill(0);
+        self.put_back(&folded);
+        Ok(folded.params)
+    }
+
     pub fn peel(&mut self, table: Table, queue: &mut [i64], marks: &mut [i64], allowance: usize) -> Result<Walked, Refusal> {
         let mut sketch = self.sketch()?;
         let size = sketch.buckets.len();

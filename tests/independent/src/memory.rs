@@ -130,6 +130,14 @@ impl Memory {
         }
     }
 
+    /// Gives the chosen sketch these parameters, and lends its slices as long as they say.
+    pub fn resize(&mut self, params: Params) {
+        self.params[self.chosen] = params;
+        for slice in [COUNTS, IDSUMS] {
+            self.set_length(slice, (params.d * params.m) as usize);
+        }
+    }
+
     /// What is lent of a slice; nothing of one that there is not.
     pub fn lent_mut(&mut self, slice: i64) -> &mut [i64] {
         self.slice(slice).map_or(&mut [], Slice::lent_mut)

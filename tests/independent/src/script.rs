@@ -33,6 +33,7 @@ const SHOW: u8 = 19;
 const WITHDRAW: u8 = 20;
 const HEAD: u8 = 21;
 const HEAD_BACK: u8 = 22;
+const FOLD: u8 = 23;
 
 /// What a whole script prints.
 pub fn run(bytes: &[u8]) -> String {
@@ -64,7 +65,7 @@ fn length(name: u8, rest: &[u8]) -> Option<usize> {
         LENGTH | INSERT | WITHDRAW | POSITION | INDEX => Some(8),
         STORE => Some(12 + 4 * told(8)),
         FILL => Some(16),
-        PEEL => Some(4),
+        PEEL | FOLD => Some(4),
         READ_STREAM | READ_SKETCH | HEAD => Some(4 + told(0)),
         FRESH | INSERT_ALL | ADD | SUBTRACT | REREAD_STREAM | REREAD_SKETCH | WRITE_STREAM | WRITE_SKETCH | SHOW | HEAD_BACK => {
             Some(0)
@@ -97,6 +98,7 @@ fn command(memory: &mut Memory, name: u8, given: &[u8]) -> String {
         POSITION | INDEX => place(&memory.params[memory.chosen], name, given),
         HEAD => answer("head", head(&given[4..])),
         HEAD_BACK => answer("head back", head(&memory.file())),
+        FOLD => fold(memory, number(given, 0)),
         _ => on_the_sketch(memory, name, given),
     }
 }
@@ -137,8 +139,22 @@ fn place(params: &Params, name: u8, given: &[u8]) -> String {
 /// What the head of a file says.
 fn head(bytes: &[u8]) -> Result<String, Refusal> {
     let (params, _) = library::read_head(bytes)?;
+    Ok(told_params(&params))
+}
+
+/// The answer of a call that gives parameters.
+fn told_params(params: &Params) -> String {
     let pairs: String = params.pairs.iter().map(|(a, b)| format!(" {a} {b}")).collect();
-    Ok(format!("done d {} m {} pairs{pairs}", params.d, params.m))
+    format!("done d {} m {} pairs{pairs}", params.d, params.m)
+}
+
+/// Folds the chosen sketch. Where that is done, later commands are lent the folded one alone.
+fn fold(memory: &mut Memory, m2: i64) -> String {
+    let folded = memory.sketch().fold(m2);
+    if let Ok(params) = folded {
+        memory.resize(params);
+    }
+    answer("fold", folded.map(|params| told_params(&params)))
 }
 
 /// Commands that work on the chosen sketch alone.

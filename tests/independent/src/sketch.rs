@@ -1,4 +1,4 @@
-//! The sketch: its parameters and their rules, where a flow stands, insertion, addition and subtraction with their refusals.
+//! The sketch: its parameters and their rules, where a flow stands, insertion, addition, subtraction and the fold with their refusals.
 
 /// The prime 2^31 - 1.
 pub const P: i64 = 2147483647;
@@ -17,6 +17,7 @@ pub enum Fault {
     Range = 6,
     Mismatch = 7,
     Form = 8,
+    Fold = 9,
 }
 
 /// Why a call or an input is refused, and the index or the offset that goes with it.
@@ -155,6 +156,29 @@ impl Sketch {
             bucket.idsum = (bucket.idsum + sign * added.idsum).rem_euclid(P);
         }
         Ok(())
+    }
+
+    /// The sketch with m2 buckets an array: bucket j of each array is added into bucket j mod m2 of the same array.
+    pub fn fold(&self, m2: i64) -> Result<Sketch, Refusal> {
+        let Params { d, m, .. } = self.params;
+        if m2 == 0 || m % m2 != 0 {
+            return Err(Fault::Fold.refused());
+        }
+        self.judge_damage()?;
+        let mut folded = Sketch::fresh(Params { m: m2, ..self.params });
+        for array in 1..=d {
+            for j in 0..m {
+                let bucket = self.buckets[((array - 1) * m + j) as usize];
+                let target = &mut folded.buckets[((array - 1) * m2 + j % m2) as usize];
+                target.count += bucket.count;
+                target.idsum = (target.idsum + bucket.idsum) % P;
+            }
+        }
+        // Only whole sums count: one may leave the limits on the way and come back.
+        match folded.buckets.iter().position(|target| leaves_the_limits(target.count)) {
+            Some(index) => Err(Fault::Range.at(index)),
+            None => Ok(folded),
+        }
     }
 }
 
