@@ -1,4 +1,4 @@
-// Packets put into a sketch one by one, many at once or from a stream, and the difference of two sketches.
+// Packets put into a sketch one by one, many at once or from a stream, the difference of two sketches, and a sketch folded.
 #include "baseline.h"
 
 #include <string.h>
@@ -67,6 +67,76 @@ static int keep_the_rules(const struct params *params) {
                 return 0;
     }
     return 1;
+}
+
+// The lowest damaged bucket, or the size of the sketch where there is none.
+static uint32_t find_damage(const struct sketch *sketch) {
+    uint32_t size = size_of(&sketch->params);
+    uint32_t k = 0;
+    while (k < size && is_within(sketch->counts[k]) && sketch->idsums[k] < PRIME)
+        k++;
+    return k;
+}
+
+// The sum of the counts that meet in bucket j: those of buckets j, j + m2, and so on.
+static int64_t sum_counts(const int32_t *counts, uint32_t m, uint32_t m2, uint32_t j) {
+    int64_t sum = 0;
+    for (uint32_t k = j; k < m; k += m2)
+        sum += counts[k];
+    return sum;
+}
+
+static uint32_t sum_idsums(const uint32_t *idsums, uint32_t m, uint32_t m2, uint32_t j) {
+    uint64_t sum = 0;
+    for (uint32_t k = j; k < m; k += m2)
+        sum += idsums[k];
+    return (uint32_t)(sum % PRIME);
+}
+
+// The lowest bucket of the folded sketch that would leave the limits, or the size of that sketch where there is none.
+static uint32_t find_leaving(const struct sketch *sketch, uint32_t m2) {
+    uint32_t m = sketch->params.m;
+    for (uint32_t array = 0; array < sketch->params.d; array++)
+        for (uint32_t j = 0; j < m2; j++)
+            if (!is_within(sum_counts(sketch->counts + array * m, m, m2, j)))
+                return array * m2 + j;
+    return sketch->params.d * m2;
+}
+
+// In rising order: what a bucket holds goes into that bucket or into one before it, so that it is read before it is written over.
+static void fold_buckets(struct sketch *sketch, uint32_t m2) {
+    uint32_t m = sketch->params.m;
+    for (uint32_t array = 0; array < sketch->params.d; array++) {
+        for (uint32_t j = 0; j < m2; j++) {
+            sketch->counts[array * m2 + j] = (int32_t)sum_counts(sketch->counts + array * m, m, m2, j);
+            sketch->idsums[array * m2 + j] = sum_idsums(sketch->idsums + array * m, m, m2, j);
+        }
+    }
+}
+
+enum refusal baseline_fold(struct sketch *sketch, size_t counts_length, size_t idsums_length, uint32_t m2, size_t *place) {
+    struct params *params = &sketch->params;
+    *place = 0;
+    if (!keep_the_rules(params))
+        return PARAM;
+    uint32_t size = size_of(params);
+    if (counts_length != size || idsums_length != size)
+        return LENGTH;
+    if (m2 == 0 || params->m % m2 != 0)
+        return FOLD;
+    uint32_t folded_size = params->d * m2;
+    *place = find_damage(sketch);
+    if (*place < size)
+        return DAMAGE;
+    *place = find_leaving(sketch, m2);
+    if (*place < folded_size)
+        return RANGE;
+    *place = 0;
+    fold_buckets(sketch, m2);
+    memset(sketch->counts + folded_size, 0, sizeof *sketch->counts * (size - folded_size));
+    memset(sketch->idsums + folded_size, 0, sizeof *sketch->idsums * (size - folded_size));
+    params->m = m2;
+    return DONE;
 }
 
 enum refusal baseline_read_head(const uint8_t *bytes, struct params *params) {

@@ -9,7 +9,7 @@
 #define MOST_COUNT 2147483646
 
 // What a call answers, with the library's numbers.
-enum refusal { DONE, PARAM, LENGTH, FLOW, COUNT, DAMAGE, RANGE, MISMATCH, FORM };
+enum refusal { DONE, PARAM, LENGTH, FLOW, COUNT, DAMAGE, RANGE, MISMATCH, FORM, FOLD };
 
 // How a walk ends, with the library's numbers.
 enum ending { CLEAN = 1, STUCK = 2, SPENT = 3, OUT_OF_RANGE = 5, FULL = 6 };
@@ -26,7 +26,7 @@ struct params {
     uint32_t b[4];
 };
 
-// Whoever makes a sketch has checked its parameters and gives it d * m counts and idsums: no call judges them again.
+// Whoever makes a sketch has checked its parameters and gives it d * m counts and idsums: no call judges them again, save the fold.
 struct sketch {
     struct params params;
     int32_t *counts;
@@ -130,6 +130,10 @@ enum refusal baseline_insert(struct sketch *sketch, uint32_t flow, uint32_t numb
 enum refusal baseline_insert_all(struct sketch *sketch, const uint32_t *flows, const uint32_t *numbers, size_t packets,
                                  size_t *place);
 enum refusal baseline_subtract(struct sketch *sketch, const struct sketch *other, size_t *place);
+
+// Adds bucket j of each array into bucket j mod m2, within the sketch's own memory, and zeros what is freed behind. A sketch that is folded
+// was stored, maybe by others: here all is judged that the library judges, parameters, lengths and damage too.
+enum refusal baseline_fold(struct sketch *sketch, size_t counts_length, size_t idsums_length, uint32_t m2, size_t *place);
 
 // Reads the parameters of a head that is whole, and says whether they keep the rules.
 enum refusal baseline_read_head(const uint8_t *bytes, struct params *params);

@@ -8,7 +8,7 @@
 #include <string.h>
 #include <time.h>
 
-enum { MOST_CASES = 80, MOST_ROUNDS = 7, MOST_NUMBER = 64, SEED = 6 };
+enum { MOST_CASES = 96, MOST_ROUNDS = 7, MOST_NUMBER = 64, SEED = 6 };
 
 // Instructions are counted over fewer packets than are timed, since counting is slow and they are the same for every packet.
 enum { TIMED_PACKETS = MOST_PACKETS, COUNTED_PACKETS = 2048 };
@@ -27,11 +27,14 @@ static const struct shape {
     uint32_t m;
 } shapes[] = {{3, 341}, {3, 1365}, {3, 5461}, {3, 16384}, {4, 16384}};
 
-// A table that is closed has d * m slots, and there is no sketch.
-static const struct shape close_shapes[] = {{4, 256}, {4, 1024}, {4, 4096}, {4, 16384}};
+// An m that can be folded to its half and to a sixteenth. A table that is closed has d * m slots, and there is no sketch.
+static const struct shape even_shapes[] = {{4, 256}, {4, 1024}, {4, 4096}, {4, 16384}};
+
+enum { SHAPES = sizeof shapes / sizeof *shapes, EVEN_SHAPES = sizeof even_shapes / sizeof *even_shapes };
 
 // What is measured: an operation under parameters of a shape. A walk has so many lost flows in a hundred buckets, each by up to
-// most_lost packets, which stand anywhere or all at one place of array 1. `zeros` says which entries of a close have come to 0.
+// most_lost packets, which stand anywhere or all at one place of array 1. `zeros` says which entries of a close have come to 0. A fold
+// is to m2 buckets an array, and `large` says whether the sketch has a flow of large_number packets besides.
 struct plan {
     const struct operation *operation;
     struct shape shape;
@@ -39,7 +42,12 @@ struct plan {
     uint32_t most_lost;
     uint32_t one_place;
     enum zeros zeros;
+    uint32_t m2;
+    uint32_t large;
 };
+
+// More than half of what a count may be: where two buckets meet, only their sum can tell that it is within the limits.
+static const uint32_t large_number = 2000000000;
 
 struct plans {
     size_t length;
@@ -49,24 +57,37 @@ struct plans {
 static struct given given;
 static struct side our_side, baseline_side;
 
+// A fold to m / parts buckets an array, or to 1 where there is no such number, at every size.
+static void add_folds(struct plans *all, uint32_t parts, uint32_t large) {
+    for (size_t j = 0; j < EVEN_SHAPES; j++) {
+        uint32_t m2 = parts > 0 ? even_shapes[j].m / parts : 1;
+        all->plans[all->length++] = (struct plan){.operation = &fold, .shape = even_shapes[j], .m2 = m2, .large = large};
+    }
+}
+
 static struct plans all_plans(void) {
     static const struct operation *const plain[] = {&insert, &insert_all, &read_stream, &subtract};
     static const uint32_t loads[] = {40, 60, 80};
     static const uint32_t most_lost[] = {1, 64};
-    const size_t shape_count = sizeof shapes / sizeof *shapes;
     struct plans all = {0};
     for (size_t i = 0; i < sizeof plain / sizeof *plain; i++)
-        for (size_t j = 0; j < shape_count; j++)
+        for (size_t j = 0; j < SHAPES; j++)
             all.plans[all.length++] = (struct plan){.operation = plain[i], .shape = shapes[j]};
     for (size_t k = 0; k < 2; k++)
         for (size_t i = 0; i < sizeof loads / sizeof *loads; i++)
-            for (size_t j = 0; j < shape_count; j++)
-                all.plans[all.length++] = (struct plan){&peel, shapes[j], loads[i], most_lost[k], 0, NONE};
-    for (size_t j = 0; j < shape_count; j++)
-        all.plans[all.length++] = (struct plan){&peel, shapes[j], loads[0], most_lost[1], 1, NONE};
+            for (size_t j = 0; j < SHAPES; j++)
+                all.plans[all.length++] = (struct plan){
+                    .operation = &peel, .shape = shapes[j], .load = loads[i], .most_lost = most_lost[k]};
+    for (size_t j = 0; j < SHAPES; j++)
+        all.plans[all.length++] = (struct plan){
+            .operation = &peel, .shape = shapes[j], .load = loads[0], .most_lost = most_lost[1], .one_place = 1};
     for (enum zeros zeros = NONE; zeros <= ALL_BUT_ONE; zeros++)
-        for (size_t j = 0; j < sizeof close_shapes / sizeof *close_shapes; j++)
-            all.plans[all.length++] = (struct plan){.operation = &close_tables, .shape = close_shapes[j], .zeros = zeros};
+        for (size_t j = 0; j < EVEN_SHAPES; j++)
+            all.plans[all.length++] = (struct plan){.operation = &close_tables, .shape = even_shapes[j], .zeros = zeros};
+    add_folds(&all, 2, 0);
+    add_folds(&all, 16, 0);
+    add_folds(&all, 0, 0);
+    add_folds(&all, 2, 1);
     return all;
 }
 
@@ -78,7 +99,13 @@ static void put_in(int32_t *counts, uint32_t *idsums, size_t packets) {
     baseline_insert_all(&sketch, given.packets.flows, given.packets.numbers, packets, &place);
 }
 
-// The data of a plan. Packets go into an empty sketch; a difference and a walk begin with all of them in it.
+static void put_in_large(int32_t *counts, uint32_t *idsums) {
+    struct sketch sketch = {given.params, counts, idsums};
+    size_t place;
+    baseline_insert(&sketch, given.packets.flows[0], large_number, &place);
+}
+
+// The data of a plan. Packets go into an empty sketch; a difference, a walk and a fold begin with all of them in it.
 static void prepare(const struct plan *plan, size_t packets) {
     uint64_t seed = SEED;
     given.params = make_params(&seed, plan->shape.d, plan->shape.m);
@@ -91,8 +118,11 @@ static void prepare(const struct plan *plan, size_t packets) {
         gather(&given.packets, &seed, &given.params);
     make_stream(&given.stream, &given.params, &given.packets);
     make_tables(&given.entries, &seed, size, plan->zeros, MOST_NUMBER);
-    int begins_full = plan->operation == &subtract || plan->operation == &peel;
+    given.m2 = plan->m2;
+    int begins_full = plan->operation == &subtract || plan->operation == &peel || plan->operation == &fold;
     put_in(given.start_counts, given.start_idsums, begins_full ? given.packets.length : 0);
+    if (plan->large)
+        put_in_large(given.start_counts, given.start_idsums);
     put_in(given.other_counts, given.other_idsums, given.packets.length / 2);
 }
 
@@ -109,7 +139,7 @@ static int have_equal_results(void) {
            memcmp(x->table_counts, y->table_counts, sizeof x->table_counts) == 0 &&
            x->figures.ending == y->figures.ending && x->figures.entries == y->figures.entries &&
            x->figures.lost == y->figures.lost && x->figures.extra == y->figures.extra &&
-           x->figures.pops == y->figures.pops;
+           x->figures.pops == y->figures.pops && memcmp(&x->folded, &y->folded, sizeof x->folded) == 0;
 }
 
 static double now(void) {
@@ -146,6 +176,21 @@ static void check_refused_stream(const struct plan *plan) {
     *last ^= 1;
 }
 
+// A fold is refused for its m2, for damage in the last bucket, and where that and one that it meets come to more than the limit.
+static void check_refused_folds(const struct plan *plan) {
+    int32_t *last = &given.start_counts[size_of(&given.params) - 1], *met = last - plan->m2;
+    int32_t last_kept = *last, met_kept = *met;
+    given.m2 = 0;
+    check(plan, FOLD);
+    given.m2 = plan->m2;
+    *last = MOST_COUNT + 1;
+    check(plan, DAMAGE);
+    *last = *met = MOST_COUNT;
+    check(plan, RANGE);
+    *last = last_kept;
+    *met = met_kept;
+}
+
 // The seconds of one run.
 static double sample(const struct operation *operation, call *call, struct side *side) {
     double spent = 0;
@@ -171,13 +216,13 @@ static double median(double *numbers, size_t length) {
 }
 
 static void print_plan(size_t number, const struct plan *plan) {
-    printf("%zu\t%s\t%u\t%u\t%u\t%u\t%u\t%d", number, plan->operation->name, plan->shape.d * plan->shape.m, plan->shape.d,
-           plan->load, plan->most_lost, plan->one_place, plan->zeros);
+    printf("%zu\t%s\t%u\t%u\t%u\t%u\t%u\t%d\t%u\t%u", number, plan->operation->name, plan->shape.d * plan->shape.m,
+           plan->shape.d, plan->load, plan->most_lost, plan->one_place, plan->zeros, plan->m2, plan->large);
 }
 
 // How many packets, buckets or entries a run is over.
 static double units_of(const struct plan *plan) {
-    if (plan->operation == &subtract || plan->operation == &peel)
+    if (plan->operation == &subtract || plan->operation == &peel || plan->operation == &fold)
         return size_of(&given.params);
     return plan->operation == &close_tables ? MOST_BUCKETS : TIMED_PACKETS;
 }
@@ -218,6 +263,8 @@ static void check_and_measure_all(const struct plans *all) {
         prepare(plan, TIMED_PACKETS);
         if (plan->operation == &read_stream)
             check_refused_stream(plan);
+        if (plan->operation == &fold)
+            check_refused_folds(plan);
         struct round checked = check(plan, DONE);
         print_plan(i, plan);
         measure(plan, checked);

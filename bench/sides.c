@@ -28,6 +28,15 @@ static struct words words_of(const struct params *params) {
     return w;
 }
 
+static struct params params_of(const struct words *w) {
+    struct params params = {.d = w->words[GABUNLITIK_D], .m = w->words[GABUNLITIK_M]};
+    for (int i = 0; i < 4; i++) {
+        params.a[i] = w->words[GABUNLITIK_MULTIPLIERS + i];
+        params.b[i] = w->words[GABUNLITIK_OFFSETS + i];
+    }
+    return params;
+}
+
 static struct sketch sketch_of(const struct given *given, struct side *side) {
     return (struct sketch){given->params, side->counts, side->idsums};
 }
@@ -98,6 +107,20 @@ static void baseline_subtract_other(const struct given *given, struct side *side
     side->answer = baseline_subtract(&sketch, &other, &side->place);
 }
 
+static void our_fold(const struct given *given, struct side *side) {
+    struct words w = words_of(&given->params), folded;
+    size_t n = size_of(&given->params);
+    side->answer = gabunlitik_fold(w.words, side->counts, n, side->idsums, n, given->m2, folded.words, &side->place);
+    side->folded = params_of(&folded);
+}
+
+static void baseline_fold_sketch(const struct given *given, struct side *side) {
+    struct sketch sketch = sketch_of(given, side);
+    size_t n = size_of(&given->params);
+    side->answer = baseline_fold(&sketch, n, n, given->m2, &side->place);
+    side->folded = side->answer == DONE ? sketch.params : (struct params){0};
+}
+
 // As many pops and slots as the report program allows.
 static void our_peel(const struct given *given, struct side *side) {
     struct words w = words_of(&given->params);
@@ -163,4 +186,5 @@ const struct operation insert_all = {"insert_all", start_sketch, our_insert_all,
 const struct operation read_stream = {"read_stream", start_sketch, our_read_stream, baseline_read_whole_stream};
 const struct operation subtract = {"subtract", start_sketch, our_subtract, baseline_subtract_other};
 const struct operation peel = {"peel", start_sketch, our_peel, baseline_peel_whole};
+const struct operation fold = {"fold", start_sketch, our_fold, baseline_fold_sketch};
 const struct operation close_tables = {"close", start_tables, our_close_tables, baseline_close_tables};

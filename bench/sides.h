@@ -7,6 +7,7 @@
 // What both sides are given. No call changes it.
 struct given {
     struct params params;
+    uint32_t m2;
     struct packets packets;
     struct stream stream;
     int32_t start_counts[MOST_BUCKETS];
@@ -25,6 +26,7 @@ struct side {
     uint32_t answer;
     size_t place;
     struct figures figures;
+    struct params folded;
 };
 
 typedef void call(const struct given *given, struct side *side);
@@ -37,6 +39,6 @@ struct operation {
     call *baseline;
 };
 
-extern const struct operation insert, insert_all, read_stream, subtract, peel, close_tables;
+extern const struct operation insert, insert_all, read_stream, subtract, peel, fold, close_tables;
 
 #endif
