@@ -57,7 +57,7 @@ struct plans {
 static struct given given;
 static struct side our_side, baseline_side;
 
-// A fold to m / parts buckets an array, or to 1 where there is no such number, at every size.
+// A fold to m / parts buckets an array, or to 1 where `parts` is 0, at every size.
 static void add_folds(struct plans *all, uint32_t parts, uint32_t large) {
     for (size_t j = 0; j < EVEN_SHAPES; j++) {
         uint32_t m2 = parts > 0 ? even_shapes[j].m / parts : 1;

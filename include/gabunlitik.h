@@ -132,8 +132,8 @@ uint32_t gabunlitik_subtract(const uint32_t params[GABUNLITIK_PARAMS],
  * m itself changes nothing. The folded sketch is the first d * m2 of each slice, bucket j of array i at (i - 1) * m2 + j, and what is
  * freed behind it is 0. It is the sketch that the same packets make with m2 from the start. `folded_params` returns its parameters, d, m2
  * and the same pairs: every other call is handed these, with d * m2 as the length of each slice. They are written to an array other
- * than `params`. Every bucket is looked at: DAMAGE has its index in the sketch that is lent, RANGE the index in the folded sketch of a
- * bucket whose whole sum would leave the limits; a sum may leave them on the way. A refusal writes `folded_params`, ten zeros, and
+ * than `params`. Every bucket is looked at: DAMAGE has its index in the sketch that is lent, RANGE the index in the folded sketch of the
+ * lowest bucket whose whole sum would leave the limits; a sum may leave them on the way. A refusal writes `folded_params`, ten zeros, and
  * `place`, and nothing else. */
 uint32_t gabunlitik_fold(const uint32_t params[GABUNLITIK_PARAMS],
                          int32_t *counts, size_t counts_len,

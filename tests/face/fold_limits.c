@@ -4,7 +4,7 @@
 /* A third of m: three buckets meet in one. */
 enum { FEWER = WIDTH / 3, FOLDED_SIZE = ARRAYS * FEWER };
 
-/* Three counts, and their sum where it is within the limits. One more than the limit and two more are numbers that 32 bits still hold; a
+/* Three counts, and their sum where it is within the limits. One more than the limit still fits 32 bits, and below zero so do two more; a
  * third of it, 715827882, is the greatest count of which three surely fit; the last two sums are 0 and 1 in 32 bits. */
 static const struct meeting {
     int32_t counts[3], sum;
@@ -25,7 +25,7 @@ static const struct meeting {
     {{2147483646, 2147483646, 5}, 0, GABUNLITIK_RANGE},
 };
 
-/* The counts, or with the sign -1 their opposites, meet in a bucket of the folded sketch, `first` of them first. */
+/* The counts, or with the sign -1 their opposites, meet in a bucket of the folded sketch, beginning with that of index `first`. */
 static void check_meeting(const struct meeting *meeting, int32_t sign, size_t first, size_t target) {
     struct slices s = nothing(), kept, wanted = nothing();
     for (size_t i = 0; i < 3; i++)
@@ -97,6 +97,7 @@ static void lowest_damage(void) {
     s.idsums[5] = kept.idsums[5] = 2147483647;
     CHECK_UNFOLDED(fold(WIDE, &s, FEWER), GABUNLITIK_DAMAGE, 5, &s, &kept);
     s.counts[3] = kept.counts[3] = -2147483647;
+    s.counts[7] = kept.counts[7] = 1;
     CHECK_UNFOLDED(fold(WIDE, &s, FEWER), GABUNLITIK_DAMAGE, 3, &s, &kept);
 }
 

@@ -253,7 +253,8 @@ static void files(void) {
         read_sketch(WIDE, &s, &stored);
         CHECK_FOLDED(fold(WIDE, &s, divisors[i]), WIDE, divisors[i]);
         stored = write_sketch(narrow.numbers, &s);
-        CHECK(memcmp(&stored, &wanted_file, sizeof stored) == 0);
+        CHECK(stored.length == wanted_file.length);
+        CHECK(memcmp(stored.bytes, wanted_file.bytes, sizeof stored.bytes) == 0);
         t.number = gabunlitik_read_head(stored.bytes, stored.length, head.numbers, &t.place);
         CHECK_DONE(t);
         CHECK(memcmp(&head, &narrow, sizeof head) == 0);

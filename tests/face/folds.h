@@ -19,7 +19,7 @@ struct params with_width(const uint32_t *params, uint32_t m);
 /* d * m. */
 size_t size_of(const uint32_t *params);
 
-/* Slices, each with one place behind that is never lent to be changed, and is damage. */
+/* Slices, each with one place behind that is never lent to be changed, and holds damage. */
 struct slices {
     int32_t counts[SIZE + 1];
     uint32_t idsums[SIZE + 1];
@@ -27,7 +27,7 @@ struct slices {
 
 struct slices nothing(void);
 
-/* Every bucket is another one, with counts of both signs, of which any sum is within the limits. */
+/* No two buckets are alike, with counts of both signs, of which any sum is within the limits. */
 struct slices full(void);
 
 int alike(const struct slices *s, const struct slices *t);

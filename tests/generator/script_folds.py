@@ -337,7 +337,7 @@ def folded_files(rng):
 
 
 def largest_folds(rng):
-    """The largest sketch, or nearly, full of one count on either side or of a few packets, folded to any divisor."""
+    """The largest sketch, or nearly: all of one count, half at either limit, or empty; folded to any divisor, filled further and folded again."""
     d = rng.randint(2, 4)
     params = Params(d, rng.choice((16384, 16384, 16383, 16380)), four_pairs(rng, d))
     size = params.d * params.m

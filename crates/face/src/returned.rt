@@ -72,7 +72,7 @@ pub(crate) fn return_answer(answer: Answer, place: &mut usize) -> u32
     }
 }
 
-// The same for parameters that a call returns.
+// The same for parameters that a call returns, whose ten numbers go to `numbers`.
 pub(crate) fn return_params(obtained: Obtained, numbers: &mut [u32; 10], place: &mut usize) -> u32
     requires { ⌜ (obtained .params .d ≤ 4) × (obtained .params .m ≤ 16384) ⌝ }
     ensures { λ r. ⌜ (r ≡ numberIn (obtained .answer)) × (now (place .exit) ≡ indexIn (obtained .answer)) × (now (numbers .exit) ≡ paramNumbers (obtained .params)) ⌝ }

@@ -38,7 +38,7 @@ done m S = record { number = 0; index = 0; params = arrays m; after = S }
 abbrev refused : ℕ → ℕ → Sketch → Row
 refused n k S = record { number = n; index = k; params = noParams; after = S }
 
--- four buckets an array, with these counts and no idsums
+-- four buckets an array, with these counts and idsums of 0
 abbrev counts : List ℤ → Sketch
 counts cs = sketch cs (replicate 8 0)
 
@@ -72,6 +72,7 @@ table =
     ∷ (folding (arrays 4) 1 (counts (most ∷ most ∷ negsuc 2147483644 ∷ negsuc 0 ∷ o ∷ o ∷ o ∷ o ∷ [])), done 1 (counts (most ∷ o ∷ o ∷ o ∷ o ∷ o ∷ o ∷ o ∷ [])))
     ∷ (folding (arrays 4) 1 (counts (o ∷ o ∷ o ∷ o ∷ least-count ∷ least-count ∷ pos 2147483645 ∷ pos 1 ∷ [])), done 1 (counts (o ∷ least-count ∷ o ∷ o ∷ o ∷ o ∷ o ∷ o ∷ [])))
     ∷ (folding (arrays 4) 1 (counts (most ∷ most ∷ least-count ∷ least-count ∷ o ∷ o ∷ o ∷ o ∷ [])), done 1 (counts (o ∷ o ∷ o ∷ o ∷ o ∷ o ∷ o ∷ o ∷ [])))
+    -- and where nothing is added
     ∷ (folding (arrays 4) 4 (counts (most ∷ o ∷ o ∷ o ∷ o ∷ o ∷ o ∷ least-count ∷ [])), done 4 (counts (most ∷ o ∷ o ∷ o ∷ o ∷ o ∷ o ∷ least-count ∷ [])))
     -- and that only just leave the limits: the index is that of the folded sketch, the lowest
     ∷ (folding (arrays 4) 2 (counts (o ∷ most ∷ o ∷ pos 1 ∷ o ∷ o ∷ o ∷ o ∷ [])), refused 6 1 (counts (o ∷ most ∷ o ∷ pos 1 ∷ o ∷ o ∷ o ∷ o ∷ [])))

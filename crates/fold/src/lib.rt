@@ -31,7 +31,7 @@ fn divides(m2: usize, m: usize) -> bool
     m % m2 == 0
 }
 
-// Whether n buckets, each `step` behind the one before it, are undamaged, and their whole sum is within the limits.
+// Whether n buckets, from `start` on, each `step` behind the one before it, are undamaged, and their whole sum is within the limits.
 fn sources_fit(counts: &[i32], idsums: &[u32], start: usize, step: usize, n: usize) -> bool
     requires { ⌜ (step ≤ 16384) × (n ≤ 16384) × (length (now counts) ≤ 65536) × (length (now idsums) ≡ length (now counts)) ⌝ }
     requires { ⌜ ((q : ℕ) → q < n → start + q * step < length (now counts)) ⌝ }
@@ -51,8 +51,8 @@ fn sources_fit(counts: &[i32], idsums: &[u32], start: usize, step: usize, n: usi
     within(count)
 }
 
-// The first bucket of the folded sketch that has a damaged source or a whole sum outside the limits, or how many buckets it has. Bucket k is at
-// position j of its array, and the first of its sources at `start`.
+// The first bucket of the folded sketch that has a damaged source or a whole sum outside the limits, or, where there is none, how many
+// buckets the folded sketch has. Bucket k is at position j of its array, and the first of its sources at `start`.
 fn first_unfit(d: usize, m: usize, m2: usize, counts: &[i32], idsums: &[u32]) -> usize
     requires { ⌜ Foldable d m m2 (length (now counts)) (length (now idsums)) ⌝ }
     ensures { λ r. ⌜ r ≡ least 0 (d * m2) (unfitAt d m m2 (sketch (now (counts .entry)) (now (idsums .entry)))) ⌝ }
@@ -77,8 +77,8 @@ fn first_unfit(d: usize, m: usize, m2: usize, counts: &[i32], idsums: &[u32]) ->
     k
 }
 
-// The buckets are undamaged, and each whole sum is within the limits. One pass over all buckets tells where nothing is at fault. Where
-// something is, damage is looked for, which comes first; where there is none, the pass has found the first sum that leaves the limits.
+// Judges the buckets. One pass over all of them tells whether anything is at fault. Where something is, damage is looked for, which comes
+// first; where there is none, the pass has found the first whole sum that leaves the limits.
 fn judge_buckets(p: Params, m2: usize, counts: &[i32], idsums: &[u32]) -> Answer
     requires { ⌜ Foldable (p .d) (p .m) m2 (length (now counts)) (length (now idsums)) ⌝ }
     ensures { λ r. ⌜ r ≡ foldBucketsAnswer p m2 (sketch (now (counts .entry)) (now (idsums .entry))) ⌝ }
@@ -94,7 +94,7 @@ fn judge_buckets(p: Params, m2: usize, counts: &[i32], idsums: &[u32]) -> Answer
     Answer::Refused(Refusal::Range, unfit)
 }
 
-// The answer, which alters nothing.
+// What a fold answers. Nothing is altered.
 fn judge(p: Params, m2: usize, counts: &[i32], idsums: &[u32]) -> Answer
     ensures { λ r. ⌜ r ≡ foldAnswer p m2 (sketch (now (counts .entry)) (now (idsums .entry))) ⌝ }
 {
@@ -114,7 +114,7 @@ struct Sums {
     idsum: u64,
 }
 
-// The sums over n buckets, each `step` behind the one before it.
+// The sums over n buckets, from `start` on, each `step` behind the one before it.
 fn sum_of(counts: &[i32], idsums: &[u32], start: usize, step: usize, n: usize) -> Sums
     requires { ⌜ (step ≤ 16384) × (n ≤ 16384) × (length (now counts) ≤ 65536) × (length (now idsums) ≡ length (now counts)) ⌝ }
     requires { ⌜ ((q : ℕ) → q < n → start + q * step < length (now counts)) ⌝ }

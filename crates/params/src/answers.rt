@@ -33,8 +33,8 @@ impl Refusal {
     }
 }
 
-// The index is that of the lowest bucket at fault for Damage and Range of lent sketches (for Range of a fold its index in the folded one), the offset of the record at fault for a
-// file that is read, and 0 for anything else.
+// The index is that of the lowest bucket at fault for Damage and Range of lent sketches (for Range of a fold its index in the folded one), the
+// offset of the record at fault for a file that is read, and 0 for anything else.
 pub enum Answer {
     Done,
     Refused(Refusal, usize),

@@ -110,8 +110,8 @@ history (of-flow-zero minus n h e) = e ∙ ap (changed _ _ _ _) (history h) ∙ 
 history (inserting-all h i) = i .after-all ∙ ap (after _ _ _) (history h) ∙ after-entries _ _ _ _
 history (withdrawing h i) = i .after ∙ ap (changed _ true _ _) (history h) ∙ changed-entry _ true _ _ _
 history (adding h g i) = combined-shared false _ _ (history h) (history g) i ∙ sym (joined _ _ _)
-history (folding h i) = fold-of-list i _ (history h)
 history (subtracting h g i) = combined-shared true _ _ (history h) (history g) i ∙ sym (joined-less _ _ _)
+history (folding h i) = fold-of-list i _ (history h)
 
 -- a desk may fold the larger of two sketches to subtract a smaller one from it, or it from the smaller one: the difference is that of the packets
 pub fold-and-subtract : {P Q R : Params} {m2 : ℕ} {es gs : List Entry} {S S' T D : Sketch} → History P es S → Folded P m2 S (foldedTo Q) S' → History R gs T

@@ -40,8 +40,8 @@ pub data History : Params → List Entry → Sketch → Type 0 where
   inserting-all : {P : Params} {es : List Entry} {S S' : Sketch} {fs ns : List ℕ} → History P es S → AllInserted P fs ns S Done S' → History P (es ++ entriesOf fs ns) S'
   withdrawing : {P : Params} {es : List Entry} {S S' : Sketch} {f n : ℕ} → History P es S → Withdrawn P f n S Done S' → History P (es ++ (by f (negℤ (pos n)) ∷ [])) S'
   adding : {P Q : Params} {es gs : List Entry} {S T S' : Sketch} → History P es S → History Q gs T → Combined false P Q S T Done S' → History P (es ++ gs) S'
-  folding : {P Q : Params} {es : List Entry} {S S' : Sketch} {m2 : ℕ} → History P es S → Folded P m2 S (foldedTo Q) S' → History Q es (front (size Q) S')
   subtracting : {P Q : Params} {es gs : List Entry} {S T S' : Sketch} → History P es S → History Q gs T → Combined true P Q S T Done S' → History P (es ++ negated gs) S'
+  folding : {P Q : Params} {es : List Entry} {S S' : Sketch} {m2 : ℕ} → History P es S → Folded P m2 S (foldedTo Q) S' → History Q es (front (size Q) S')
 
 -- the same entries in another order: what is first stays and the rest is rearranged, the first two change places, or one after the other
 pub data Rearranged : List Entry → List Entry → Type 0 where

@@ -86,7 +86,7 @@ impl Lent<'_> {
         Ok(())
     }
 
-    /// Folds the sketch to m2 buckets an array; its new parameters. It then stands at the front of the lent slices, and the
+    /// Folds the sketch to m2 buckets an array, and gives its new parameters. It then stands at the front of the lent slices, and the
     /// freed room behind it is zero.
     pub fn fold(&mut self, m2: i64) -> Result<Params, Refusal> {
         let folded = self.sketch()?.fold(m2)?;
