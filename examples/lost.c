@@ -12,7 +12,9 @@
 
 enum { D = 2, M = 5, BUCKETS = D * M, SLOTS = BUCKETS };
 
-static const uint32_t params[GABUNLITIK_PARAMS] = {D, M, 1, 1073741824, 0, 0, 0, 0, 0, 0};
+/* Two arrays of five buckets with the pairs (1, 0) and (1073741824, 0), the first prime, and no fingerprints. */
+static const uint32_t params[GABUNLITIK_PARAMS] = {
+    D, M, 1, 1073741824, 0, 0, 0, 0, 0, 0, GABUNLITIK_FIRST_PRIME, 0, 0, GABUNLITIK_PLAIN_SORT};
 
 struct sketch {
     int32_t counts[BUCKETS];

@@ -41,7 +41,7 @@ enum {
     GABUNLITIK_DONE = 0,
     GABUNLITIK_PARAM = 1,    /* the parameters break a rule */
     GABUNLITIK_LENGTH = 2,   /* a slice has a length other than stated */
-    GABUNLITIK_FLOW = 3,     /* a flow number that is 0, or 2147483647 or more */
+    GABUNLITIK_FLOW = 3,     /* a flow number that is 0, or 2147483647 or more; with fingerprints, 0 or 8388607 or more */
     GABUNLITIK_COUNT = 4,    /* a packet's number is 0, or 2147483647 or more */
     GABUNLITIK_DAMAGE = 5,   /* a bucket that was looked at is outside its limits */
     GABUNLITIK_RANGE = 6,    /* a new count would leave its limits */
@@ -50,16 +50,38 @@ enum {
     GABUNLITIK_FOLD = 9      /* a sketch is to be folded to 0 buckets an array, or to a number that does not divide m */
 };
 
-/* The ten numbers of `params`: d arrays, 2 to 4, of m buckets each, 1 to 16384, then four multipliers and four offsets. Of the first
- * d pairs of a multiplier and an offset no two are equal, a multiplier is 1 to 2147483646 and an offset 0 to 2147483646; the numbers
- * of the pairs after them are 0. */
+/* The fourteen numbers of `params`, all of which are set; what breaks a rule is PARAM.
+ *
+ *   0       d arrays, 2 to 4
+ *   1       m buckets in each, 1 to 16384
+ *   2 to 5  four multipliers
+ *   6 to 9  four offsets
+ *   10      the number of the prime: 1, which stands for 2147483647
+ *   11, 12  the multiplier and the offset of the fifth pair
+ *   13      0, kept free for another sort of sketch
+ *
+ * Of the first d pairs of a multiplier and an offset no two are equal, a multiplier is 1 to 2147483646 and an offset 0 to 2147483646; the
+ * numbers of the pairs after them are 0.
+ *
+ * Two profiles. In the plain one both numbers of the fifth pair are 0, and a flow is 1 to 2147483646. With fingerprints the fifth multiplier
+ * is 1 to 2147483646 and its offset 0 to 2147483646 (draw both at random; the pair may equal another), and a flow is 1 to 8388606. What is
+ * sketched for flow f is then f * 256 + fingerprint, where the fingerprint is ((multiplier * f + offset) mod 2147483647) mod 256: positions,
+ * idsums, the idsums that remain and those in files are of that number. Callers hand over f and are told f. Sketches and files of different
+ * profiles, or of different fifth pairs, are MISMATCH. */
 enum {
-    GABUNLITIK_PARAMS = 10,
+    GABUNLITIK_PARAMS = 14,
     GABUNLITIK_D = 0,
     GABUNLITIK_M = 1,
     GABUNLITIK_MULTIPLIERS = 2,
-    GABUNLITIK_OFFSETS = 6
+    GABUNLITIK_OFFSETS = 6,
+    GABUNLITIK_PRIME = 10,
+    GABUNLITIK_FIFTH_MULTIPLIER = 11,
+    GABUNLITIK_FIFTH_OFFSET = 12,
+    GABUNLITIK_SORT = 13
 };
+
+/* What stands in `params` at GABUNLITIK_PRIME and at GABUNLITIK_SORT. */
+enum { GABUNLITIK_FIRST_PRIME = 1, GABUNLITIK_PLAIN_SORT = 0 };
 
 /* What a walk returns in `figures`: its ending, how many entries the table has, the packets lost (the sum of the table's positive
  * counts) and the extra ones (the sum of its negative counts, without their sign), and the pops made. */
@@ -133,7 +155,7 @@ uint32_t gabunlitik_subtract(const uint32_t params[GABUNLITIK_PARAMS],
  * freed behind it is 0. It is the sketch that the same packets make with m2 from the start. `folded_params` returns its parameters, d, m2
  * and the same pairs: every other call is handed these, with d * m2 as the length of each slice. They are written to an array other
  * than `params`. Every bucket is looked at: DAMAGE has its index in the sketch that is lent, RANGE the index in the folded sketch of the
- * lowest bucket whose whole sum would leave the limits; a sum may leave them on the way. A refusal writes `folded_params`, ten zeros, and
+ * lowest bucket whose whole sum would leave the limits; a sum may leave them on the way. A refusal writes `folded_params`, fourteen zeros, and
  * `place`, and nothing else. */
 uint32_t gabunlitik_fold(const uint32_t params[GABUNLITIK_PARAMS],
                          int32_t *counts, size_t counts_len,
@@ -172,8 +194,9 @@ uint32_t gabunlitik_index(const uint32_t params[GABUNLITIK_PARAMS],
                           size_t *place);
 
 /* Writes the parameters in the head of a file of either kind, so that slices of the right lengths can be lent to the call that reads
- * it. All ten are 0 where it is refused: FORM where the bytes do not start with a whole head, PARAM where its parameters break a
- * rule. What stands after the head is not looked at. Parameters that are still wanted are not handed over to be written. */
+ * it. All fourteen are 0 where it is refused: FORM where the bytes do not start with a whole head, PARAM where its parameters break a
+ * rule, or where a head of kind 10, which says that there are fingerprints (docs/FORMAT.md), has no fifth pair in use. What stands after
+ * the head is not looked at. Parameters that are still wanted are not handed over to be written. */
 uint32_t gabunlitik_read_head(const uint8_t *bytes, size_t bytes_len,
                               uint32_t params[GABUNLITIK_PARAMS],
                               size_t *place);
@@ -187,8 +210,8 @@ uint32_t gabunlitik_read_stream(const uint32_t params[GABUNLITIK_PARAMS],
                                 size_t *place);
 
 /* Writes the stream file of these flows, each by its number, at the start of `out`, whose rest is not touched, and returns the file's
- * length, 0 where it is refused. A file of n flows has 43 + 9 * n bytes, and an `out` that is shorter is LENGTH; the two lists have
- * one length, 0 to 65536. */
+ * length, 0 where it is refused. A file of n flows has 43 + 9 * n bytes, with fingerprints 51 + 9 * n, and an `out` that is shorter is
+ * LENGTH; the two lists have one length, 0 to 65536. */
 uint32_t gabunlitik_write_stream(const uint32_t params[GABUNLITIK_PARAMS],
                                  const uint32_t *flows, size_t flows_len,
                                  const uint32_t *numbers, size_t numbers_len,
@@ -204,7 +227,8 @@ uint32_t gabunlitik_read_sketch(const uint32_t params[GABUNLITIK_PARAMS],
                                 size_t *place);
 
 /* Writes the one file of the sketch at the start of `out`, whose rest is not touched, and returns its length, 0 where it is refused.
- * A file of n buckets that are not all zero, damaged ones among them, has 43 + 13 * n bytes, and an `out` that is shorter is LENGTH. */
+ * A file of n buckets that are not all zero, damaged ones among them, has 43 + 13 * n bytes, with fingerprints 51 + 13 * n, and an `out`
+ * that is shorter is LENGTH. */
 uint32_t gabunlitik_write_sketch(const uint32_t params[GABUNLITIK_PARAMS],
                                  const int32_t *counts, size_t counts_len,
                                  const uint32_t *idsums, size_t idsums_len,

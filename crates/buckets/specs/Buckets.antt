@@ -42,9 +42,9 @@ idsumPlusMinus true s t = cond (ltb s t) ((s + prime + 4294967296 - t) % 4294967
 unfoldable pub isSmall : ℤ → ℕ → Bool
 isSmall c s = ltb s prime && leb (natAbs c) 1000000000
 
--- what n packets of flow f bring to an idsum: n * f mod p
+-- what n packets bring to an idsum of a flow for which x is sketched: n * x mod p
 abbrev pub weight : ℕ → ℕ → ℕ
-weight f n = residue prime (pos (n * f))
+weight x n = residue prime (pos (n * x))
 
 -- a count that is 0
 abbrev pub isZero : ℤ → Bool

@@ -102,9 +102,9 @@ pub fn idsum_plus_minus(minus: bool, s: u32, t: u32) -> u32
     }
 }
 
-// What n packets of flow f add to an idsum.
-pub fn weight(f: u32, n: u32) -> u32
-    ensures { λ r. ⌜ r ≡ «weight-of» f n ⌝ }
+// What n packets add to an idsum of a flow for which x is sketched.
+pub fn weight(x: u32, n: u32) -> u32
+    ensures { λ r. ⌜ r ≡ «weight-of» x n ⌝ }
 {
-    field::multiply(PRIME, n, f)
+    field::multiply(PRIME, n, x)
 }

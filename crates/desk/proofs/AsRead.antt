@@ -19,7 +19,8 @@ use Rattle.params.proofs.Judging.{first-refused, first-passed}
 use Rattle.sketch.specs.Sketch.{Sketch}
 use Rattle.sketch.proofs.Tables.{from-same}
 use Rattle.files.specs.Bytes.{word}
-use Rattle.files.specs.Records.{bodyLength, recordAt, isKind, packetsKind, endKind, headLength, packetsLength, endLength}
+use Rattle.files.specs.Records.{bodyLength, recordAt, isKind, packetsKind, endKind, headLengthIn, packetsLength, endLength}
+use Rattle.files.specs.Heads.{headLengthOf}
 use Rattle.files.specs.Turns.{atOffset, packetFrom, packetOffset, recordsOf, endAnswer}
 use Rattle.files.specs.Fields.{flowField, numberField, recordsField}
 use Rattle.files.proofs.Standing.{nothing-stands}
@@ -90,39 +91,39 @@ due-packets downstream DownstreamPackets e = refl
 due-packets downstream Nothing e = e
 due-packets downstream (Stopped w) e = e
 
--- fs has the bytes of a head and then those that the desk is fed with
-module _ (P : Params) (fs : List ℕ) (long : headLength ≤ length fs) (S : Sketch) where
+-- fs has the bytes of a head, as many as the profile says, and then those that the desk is fed with
+module _ (P : Params) (fs : List ℕ) (head : headLengthIn fs ≡ headLengthOf P) (long : headLengthOf P ≤ length fs) (S : Sketch) where
   abbrev xs : List ℕ
-  xs = drop headLength fs
+  xs = drop (headLengthOf P) fs
 
   abbrev n : ℕ
   n = packetsFrom 0 xs
 
-  kind-same : (kind k : ℕ) → 0 < bodyLength kind → isKind kind (recordAt fs (packetOffset k)) ≡ isKind kind (recordAt xs (packetFrom 0 k))
-  kind-same kind k some = ap (λ (i : ℕ). isKind kind (recordAt fs i)) (omega arith) ∙ sym (kind-further fs headLength (packetFrom 0 k) kind some)
+  kind-same : (kind k : ℕ) → 0 < bodyLength kind → isKind kind (recordAt fs (packetOffset fs k)) ≡ isKind kind (recordAt xs (packetFrom 0 k))
+  kind-same kind k some = ap (λ (i : ℕ). isKind kind (recordAt fs i)) (omega arith) ∙ sym (kind-further fs (headLengthOf P) (packetFrom 0 k) kind some)
 
   number-same : packetsIn fs ≡ n
   number-same =
-      records-are packetsKind packetOffset fs n (omega (arith, run-bytes xs, length-drop headLength fs))
+      records-are packetsKind (packetOffset fs) fs n (omega (arith, run-bytes xs, length-drop (headLengthOf P) fs))
       (λ k l. kind-same packetsKind k (omega arith) ∙ whole-within packetsKind (packetFrom 0) xs k l)
       (kind-same packetsKind n (omega arith) ∙ run-over xs)
 
-  flow-same : (k : ℕ) → flowFrom headLength fs k ≡ flowFrom 0 xs k
-  flow-same k = sym (word-at fs headLength (packetFrom 0 k + flowField) ∙ ap (word fs) (omega arith))
+  flow-same : (k : ℕ) → flowFrom (headLengthIn fs) fs k ≡ flowFrom 0 xs k
+  flow-same k = sym (word-at fs (headLengthOf P) (packetFrom 0 k + flowField) ∙ ap (word fs) (omega arith))
 
-  packets-same : (k : ℕ) → numberFrom headLength fs k ≡ numberFrom 0 xs k
-  packets-same k = sym (word-at fs headLength (packetFrom 0 k + numberField) ∙ ap (word fs) (omega arith))
+  packets-same : (k : ℕ) → numberFrom (headLengthIn fs) fs k ≡ numberFrom 0 xs k
+  packets-same k = sym (word-at fs (headLengthOf P) (packetFrom 0 k + numberField) ∙ ap (word fs) (omega arith))
 
   flows-same : flowsIn fs ≡ flowsFrom 0 xs
   unfolding flowsFrom
-  flows-same = ap (λ (m : ℕ). from 0 m (flowFrom headLength fs)) number-same ∙ from-same 0 n (flowFrom headLength fs) (flowFrom 0 xs) (λ j a b. flow-same j)
+  flows-same = ap (λ (m : ℕ). from 0 m (flowFrom (headLengthIn fs) fs)) number-same ∙ from-same 0 n (flowFrom (headLengthIn fs) fs) (flowFrom 0 xs) (λ j a b. flow-same j)
 
   numbers-same : numbersIn fs ≡ numbersFrom 0 xs
   unfolding numbersFrom
-  numbers-same = ap (λ (m : ℕ). from 0 m (numberFrom headLength fs)) number-same ∙ from-same 0 n (numberFrom headLength fs) (numberFrom 0 xs) (λ j a b. packets-same j)
+  numbers-same = ap (λ (m : ℕ). from 0 m (numberFrom (headLengthIn fs) fs)) number-same ∙ from-same 0 n (numberFrom (headLengthIn fs) fs) (numberFrom 0 xs) (λ j a b. packets-same j)
 
   -- each packet record has one answer
-  judged-same : (k : ℕ) → packetJudged P fs S k ≡ atOffset (packetOffset k) (recordAnswer P xs S k)
+  judged-same : (k : ℕ) → packetJudged P fs S k ≡ atOffset (packetOffset fs k) (recordAnswer P xs S k)
   unfolding packetJudged recordAnswer
   judged-same k = rw (flow-same k, packets-same k, flows-same, numbers-same)
 
@@ -131,23 +132,23 @@ module _ (P : Params) (fs : List ℕ) (long : headLength ≤ length fs) (S : Ske
   judged-done k e = judged-same k ∙ rw e
 
   -- the first that is refused decides
-  one-refused : (w : Refusal) (i : ℕ) → recordAnswer P xs S (taken P xs S) ≡ Refused w i → taken P xs S < n → packetsJudged P fs S ≡ Refused w (packetOffset (taken P xs S))
+  one-refused : (w : Refusal) (i : ℕ) → recordAnswer P xs S (taken P xs S) ≡ Refused w i → taken P xs S < n → packetsJudged P fs S ≡ Refused w (packetOffset fs (taken P xs S))
   unfolding packetsJudged atOffset
   one-refused w i e l =
       let k : ℕ = taken P xs S in
-      let here : packetJudged P fs S k ≡ Refused w (packetOffset k) = judged-same k ∙ rw e in
-      let first = in-turn-refused (packetsIn fs) k (packetJudged P fs S) (Refused w (packetOffset k)) (omega (arith, number-same)) (λ j m. judged-done j (accepted-before P xs S j m)) (sym here) refl in
-      sym (first-refused (Refused w (packetOffset k)) _ _ first refl)
+      let here : packetJudged P fs S k ≡ Refused w (packetOffset fs k) = judged-same k ∙ rw e in
+      let first = in-turn-refused (packetsIn fs) k (packetJudged P fs S) (Refused w (packetOffset fs k)) (omega (arith, number-same)) (λ j m. judged-done j (accepted-before P xs S j m)) (sym here) refl in
+      sym (first-refused (Refused w (packetOffset fs k)) _ _ first refl)
 
   -- where none is, the end does
-  at-end : AllTaken P xs S → packetsJudged P fs S ≡ endAnswer fs (packetOffset n) n
+  at-end : AllTaken P xs S → packetsJudged P fs S ≡ endAnswer fs (packetOffset fs n) n
   unfolding packetsJudged
   at-end all =
       first-passed _ _ (in-turn-done (packetsIn fs) (packetJudged P fs S) (λ j l. judged-done j (all .each j (omega (arith, number-same)))))
-      ∙ ap (λ (m : ℕ). endAnswer fs (packetOffset m) m) number-same
+      ∙ ap (λ (m : ℕ). endAnswer fs (packetOffset fs m) m) number-same
 
   -- the stages of the stream's packets and of its end, from a state in which its packets are due; the file's first byte stands at `base`
-  module _ (downstream : Bool) (base : ℕ) (s : State) (due : isDue downstream (s .stage) ≡ true) (there : s .at ≡ base + headLength) (none : s .records ≡ 0) where
+  module _ (downstream : Bool) (base : ℕ) (s : State) (due : isDue downstream (s .stage) ≡ true) (there : s .at ≡ base + headLengthOf P) (none : s .records ≡ 0) where
     abbrev pub packetsTaken : State
     packetsTaken = packetsStage downstream P xs S s
 
@@ -181,7 +182,7 @@ module _ (P : Params) (fs : List ℕ) (long : headLength ≤ length fs) (S : Ske
     by-packet l Done e q f = absurd (true≢false (sym q))
     by-packet l (Refused w i) e q f =
         let ends = stopped-ends _ w (packet-stops w i f) refl in
-        refused-there w (packetOffset (taken P xs S)) (one-refused w i e l) (ap (λ t. t .stage) ends) (ap (λ t. t .at) ends ∙ omega (arith, there))
+        refused-there w (packetOffset fs (taken P xs S)) (one-refused w i e l) (ap (λ t. t .stage) ends) (ap (λ t. t .at) ends ∙ omega (arith, there))
 
     -- all packets are taken, and the end decides
     module _ (done : takenAnswer P xs S ≡ Done) where
@@ -202,20 +203,20 @@ module _ (P : Params) (fs : List ℕ) (long : headLength ≤ length fs) (S : Ske
       number-taken : taken P xs S ≡ n
       number-taken = all-taken P xs S done .number
 
-      end-kind : isKind endKind (recordAt fs (packetOffset n)) ≡ isKind endKind (recordAt atTheEnd 0)
+      end-kind : isKind endKind (recordAt fs (packetOffset fs n)) ≡ isKind endKind (recordAt atTheEnd 0)
       end-kind =
           kind-same endKind n (omega arith)
           ∙ ap (λ (i : ℕ). isKind endKind (recordAt xs i)) {x = packetFrom 0 n} {y = packetsLength * taken P xs S} (omega (arith, number-taken))
           ∙ sym (kind-left xs (packetsLength * taken P xs S) endKind (omega arith))
 
-      end-word : word fs (packetOffset n + recordsField) ≡ word atTheEnd recordsField
+      end-word : word fs (packetOffset fs n + recordsField) ≡ word atTheEnd recordsField
       end-word =
-          sym (word-at xs (packetsLength * taken P xs S) recordsField ∙ word-at fs headLength (packetsLength * taken P xs S + recordsField) ∙ ap (word fs) (omega (arith, number-taken)))
+          sym (word-at xs (packetsLength * taken P xs S) recordsField ∙ word-at fs (headLengthOf P) (packetsLength * taken P xs S + recordsField) ∙ ap (word fs) (omega (arith, number-taken)))
 
-      judged : packetsJudged P fs S ≡ endAnswer fs (packetOffset n) n
+      judged : packetsJudged P fs S ≡ endAnswer fs (packetOffset fs n) n
       judged = at-end (all-taken P xs S done)
 
-      stops-at : t .at ≡ base + packetOffset n
+      stops-at : t .at ≡ base + packetOffset fs n
       stops-at = omega (arith, there, number-taken)
 
       -- an end that says how many packets there were: the stream is over, and the reader minds no more than a byte after it
@@ -223,11 +224,11 @@ module _ (P : Params) (fs : List ℕ) (long : headLength ≤ length fs) (S : Ske
         pub ends-right : streamEnded ≡ endedState t
         ends-right = ends-so ∙ rw (end-here atTheEnd whole, eq-eqb (word atTheEnd recordsField) (t .records) (said ∙ omega (arith, none)))
 
-        pub all-read : length fs ≤ packetOffset n + endLength → packetsJudged P fs S ≡ Done
-        all-read h = judged ∙ sym (ended fs (packetOffset n) n (end-kind ∙ whole) (end-word ∙ said ∙ number-taken) h)
+        pub all-read : length fs ≤ packetOffset fs n + endLength → packetsJudged P fs S ≡ Done
+        all-read h = judged ∙ sym (ended fs (packetOffset fs n) n (end-kind ∙ whole) (end-word ∙ said ∙ number-taken) h)
 
-        pub more-behind : packetOffset n + endLength < length fs → packetsJudged P fs S ≡ Refused Form (packetOffset n + endLength)
-        more-behind h = judged ∙ sym (byte-after fs (packetOffset n) n (end-kind ∙ whole) (end-word ∙ said ∙ number-taken) h)
+        pub more-behind : packetOffset fs n + endLength < length fs → packetsJudged P fs S ≡ Refused Form (packetOffset fs n + endLength)
+        more-behind h = judged ∙ sym (byte-after fs (packetOffset fs n) n (end-kind ∙ whole) (end-word ∙ said ∙ number-taken) h)
 
       whole-end : isKind endKind (recordAt atTheEnd 0) ≡ true → Came
       whole-end w = at (eqb (word atTheEnd recordsField) (t .records)) refl
@@ -236,23 +237,23 @@ module _ (P : Params) (fs : List ℕ) (long : headLength ≤ length fs) (S : Ske
           at true e = passed-by done w (eqb-true (word atTheEnd recordsField) (t .records) e ∙ omega (arith, none))
           at false e =
               let here : streamEnded ≡ stopped Form t = ends-so ∙ rw (end-here atTheEnd w, e) in
-              let other : word fs (packetOffset n + recordsField) ≡ n → ⊥ = λ q. eqb-false (word atTheEnd recordsField) (t .records) e (sym end-word ∙ q ∙ omega (arith, none, number-taken)) in
-              refused-there Form (packetOffset n) (judged ∙ sym (wrong-number fs (packetOffset n) n (end-kind ∙ w) other)) (ap (λ u. u .stage) here) (ap (λ u. u .at) here ∙ stops-at)
+              let other : word fs (packetOffset fs n + recordsField) ≡ n → ⊥ = λ q. eqb-false (word atTheEnd recordsField) (t .records) e (sym end-word ∙ q ∙ omega (arith, none, number-taken)) in
+              refused-there Form (packetOffset fs n) (judged ∙ sym (wrong-number fs (packetOffset fs n) n (end-kind ∙ w) other)) (ap (λ u. u .stage) here) (ap (λ u. u .at) here ∙ stops-at)
 
       no-whole-end : isKind endKind (recordAt atTheEnd 0) ≡ false → Came
       no-whole-end w = at (dueEnd atTheEnd) refl
         where
-          form : packetsJudged P fs S ≡ Refused Form (packetOffset n)
-          form = judged ∙ no-end fs (packetOffset n) n (omega (arith, run-bytes xs, length-drop headLength fs)) (end-kind ∙ w)
+          form : packetsJudged P fs S ≡ Refused Form (packetOffset fs n)
+          form = judged ∙ no-end fs (packetOffset fs n) n (omega (arith, run-bytes xs, length-drop (headLengthOf P) fs)) (end-kind ∙ w)
 
           at : (d : Due) → dueEnd atTheEnd ≡ d → Came
           at Here e = absurd (true≢false (sym (end-whole atTheEnd e) ∙ w))
           at NotYet e =
               let here : streamEnded ≡ t = ends-so ∙ rw e in
-              unfinished (packetOffset n) form (here ∙ sym taken-is) (ap (λ u. u .stage) here) (ap (λ u. u .at) here ∙ stops-at)
+              unfinished (packetOffset fs n) form (here ∙ sym taken-is) (ap (λ u. u .stage) here) (ap (λ u. u .at) here ∙ stops-at)
           at Other e =
               let here : streamEnded ≡ stopped Form t = ends-so ∙ rw e in
-              refused-there Form (packetOffset n) form (ap (λ u. u .stage) here) (ap (λ u. u .at) here ∙ stops-at)
+              refused-there Form (packetOffset fs n) form (ap (λ u. u .stage) here) (ap (λ u. u .at) here ∙ stops-at)
 
       by-end : Came
       by-end = at (isKind endKind (recordAt atTheEnd 0)) refl

@@ -16,8 +16,7 @@ use Rattle.sketch.specs.Sketch.{Sketch}
 use Rattle.params.proofs.Searches.{cannot-hold}
 use Rattle.params.proofs.Lowest.{least-lowest}
 use Rattle.files.specs.Bytes.{word}
-use Rattle.files.specs.Records.{recordAt, isKind, headKind, packetsKind, endKind, packetsLength}
-use Rattle.files.specs.Heads.{paramsIn}
+use Rattle.files.specs.Records.{recordAt, isKind, packetsKind, endKind, packetsLength}
 use Rattle.files.specs.Turns.{packetFrom, recordsOf}
 use Rattle.files.specs.Fields.{recordsField}
 use Rattle.files.proofs.Standing.{nothing-stands}
@@ -28,7 +27,7 @@ use Rattle.desk.specs.declared.states.Stage.the-variants.{UpstreamPacket
 use Rattle.desk.specs.declared.states.State.{State}
 use Rattle.desk.specs.declared.stages.Due.{Due}
 use Rattle.desk.specs.declared.stages.Due.the-variants.{Here, NotYet, Other}
-use Rattle.desk.specs.Desk.{isDue, packetsDue, headDue, nothingDue, afterEnd, stopped, endState, downstreamHeadAnswer, answered, headState, stageAfter, taken, packetsState, dueOf, dueEnd, endedState, headedState, packetsStage, endStage, headStage, nothingStage, rest, upstreamTaken, upstreamEnded, downstreamHeaded, downstreamTaken, downstreamEnded, fedState}
+use Rattle.desk.specs.Desk.{isDue, packetsDue, headDue, nothingDue, afterEnd, stopped, endState, downstreamHeadAnswer, answered, headState, stageAfter, taken, packetsState, dueOf, dueEnd, dueHead, endedState, headedState, packetsStage, endStage, headStage, nothingStage, rest, upstreamTaken, upstreamEnded, downstreamHeaded, downstreamTaken, downstreamEnded, fedState}
 use Rattle.desk.proofs.InTheRest.{whole-at}
 use Rattle.desk.proofs.Taking.{all-taken}
 use Rattle.desk.proofs.Onward.{Onward, packets-onward, end-onward, head-onward, onward-then}
@@ -97,11 +96,11 @@ end-still bs s = at (packetsDue (s .stage)) refl (dueEnd bs)
     at true q Other p = absurd (true≢false (sym p))
     at true q Here p = absurd (true≢false (sym p ∙ judged (eqb (word bs recordsField) (s .records))))
 
-head-still : (P : Params) (bs : List ℕ) (s : State) → headStage P bs s .stage ≡ DownstreamHead → (headStage P bs s ≡ s) × (notYet (dueOf headKind bs) ≡ true)
+head-still : (P : Params) (bs : List ℕ) (s : State) → headStage P bs s .stage ≡ DownstreamHead → (headStage P bs s ≡ s) × (notYet (dueHead bs) ≡ true)
 unfolding headStage
-head-still P bs s = at (headDue (s .stage)) refl (dueOf headKind bs)
+head-still P bs s = at (headDue (s .stage)) refl (dueHead bs)
   where
-    judged : (r : Answer) → headDue (answered r s (headedState s) .stage) ≡ false
+    judged : (r : Answer) → headDue (answered r s (headedState P s) .stage) ≡ false
     judged Done = refl
     judged (Refused w k) = refl
 
@@ -109,7 +108,7 @@ head-still P bs s = at (headDue (s .stage)) refl (dueOf headKind bs)
     at false q d p = absurd (true≢false (sym (ap headDue p) ∙ q))
     at true q NotYet p = (refl, refl)
     at true q Other p = absurd (true≢false (sym (ap headDue p)))
-    at true q Here p = absurd (true≢false (sym (ap headDue p) ∙ judged (downstreamHeadAnswer P (paramsIn bs))))
+    at true q Here p = absurd (true≢false (sym (ap headDue p) ∙ judged (downstreamHeadAnswer P bs)))
 
 nothing-still : (bs : List ℕ) (s : State) → live (nothingStage bs s .stage) ≡ true → nothingStage bs s ≡ s
 unfolding nothingStage
@@ -123,7 +122,7 @@ nothing-still bs s = at (nothingDue (s .stage) && not (leb (length bs) 0))
 module _ (P : Params) (S : Sketch) (bs : List ℕ) (s a b c d e f : State)
     (a-settled : isDue false (a .stage) ≡ true → isKind packetsKind (recordAt (rest s a bs) 0) ≡ false)
     (b-still : packetsDue (b .stage) ≡ true → (b ≡ a) × (notYet (dueEnd (rest s a bs)) ≡ true))
-    (c-still : c .stage ≡ DownstreamHead → (c ≡ b) × (notYet (dueOf headKind (rest s b bs)) ≡ true))
+    (c-still : c .stage ≡ DownstreamHead → (c ≡ b) × (notYet (dueHead (rest s b bs)) ≡ true))
     (c-came : live (c .stage) ≡ true → (c ≡ b) ⊎ HeadedBy P (rest s b bs) b c)
     (d-settled : isDue true (d .stage) ≡ true → isKind packetsKind (recordAt (rest s d bs) 0) ≡ false)
     (d-came : live (d .stage) ≡ true → ((isDue true (c .stage) ≡ false) × (d ≡ c)) ⊎ TakenBy true P (rest s c bs) S c d)
@@ -158,13 +157,13 @@ module _ (P : Params) (S : Sketch) (bs : List ℕ) (s a b c d e f : State)
   no-packet (Stopped w) p l = absurd (true≢false (sym l))
 
   -- after the upstream end a head is due, which is waited for
-  head-waited : e .stage ≡ DownstreamHead → notYet (dueOf headKind (rest s e bs)) ≡ true
+  head-waited : e .stage ≡ DownstreamHead → notYet (dueHead (rest s e bs)) ≡ true
   head-waited p = ⊎-elim same ended (e-came (ap live p))
     where
       taken-so : d .stage ≡ DownstreamHead → TakenBy true P (rest s c bs) S c d → d ≡ c
       taken-so q t = absurd (true≢false (sym (ap headDue q) ∙ ap headDue (taken-due t)))
 
-      same : e ≡ d → notYet (dueOf headKind (rest s e bs)) ≡ true
+      same : e ≡ d → notYet (dueHead (rest s e bs)) ≡ true
       same q =
           let stage : d .stage ≡ DownstreamHead = rw q at p in
           let dc = ⊎-elim (λ h. h .1) (taken-so stage) (d-came (ap live stage)) in
@@ -178,7 +177,7 @@ module _ (P : Params) (S : Sketch) (bs : List ℕ) (s a b c d e f : State)
       in-first Nothing l z = absurd (true≢false (sym l))
       in-first (Stopped w) l z = absurd (true≢false (sym l))
 
-      ended : EndedBy (rest s d bs) d e → notYet (dueOf headKind (rest s e bs)) ≡ true
+      ended : EndedBy (rest s d bs) d e → notYet (dueHead (rest s e bs)) ≡ true
       ended w =
           let h = first-stream (in-first (d .stage) (w .due) (sym (ap (λ s. s .stage) (w .next)) ∙ p)) in
           absurd (true≢false (sym (h .1) ∙ rw (h .0) at (end-here (rest s d bs) (w .whole))))

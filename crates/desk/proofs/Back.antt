@@ -14,16 +14,15 @@ use Rattle.params.specs.declared.answers.Answer.{Answer}
 use Rattle.params.specs.declared.answers.Answer.the-variants.{Done, Refused}
 use Rattle.sketch.specs.Sketch.{Sketch}
 use Rattle.files.specs.Bytes.{word}
-use Rattle.files.specs.Records.{recordAt, isKind, headKind, endKind}
-use Rattle.files.specs.Heads.{paramsIn}
+use Rattle.files.specs.Records.{recordAt, isKind, isHead, endKind}
 use Rattle.files.specs.Fields.{recordsField}
 use Rattle.desk.specs.declared.states.Stage.{Stage}
 use Rattle.desk.specs.declared.states.Stage.the-variants.{UpstreamPackets, DownstreamHead, DownstreamPackets, Nothing, Refused as Stopped}
 use Rattle.desk.specs.declared.states.State.{State}
 use Rattle.desk.specs.declared.stages.Due.{Due}
 use Rattle.desk.specs.declared.stages.Due.the-variants.{Here, NotYet, Other}
-use Rattle.desk.specs.Desk.{packetsDue, headDue, nothingDue, stopped, stageAfter, takenAnswer, isDue, packetsState, dueOf, dueEnd, endedState, endState, downstreamHeadAnswer, headedState, answered, headState, packetsStage, endStage, headStage, nothingStage}
-use Rattle.desk.proofs.WhatIsDue.{here-whole, end-whole}
+use Rattle.desk.specs.Desk.{packetsDue, headDue, nothingDue, stopped, stageAfter, takenAnswer, isDue, packetsState, dueEnd, dueHead, endedState, endState, downstreamHeadAnswer, headedState, answered, headState, packetsStage, endStage, headStage, nothingStage}
+use Rattle.desk.proofs.WhatIsDue.{end-whole, head-whole}
 
 -- the input is not refused
 abbrev pub live : Stage → Bool
@@ -113,25 +112,25 @@ end-back bs s = at (packetsDue (s .stage)) refl (dueEnd bs) refl
 -- the downstream head: not there, or there with the same parameters
 pub record HeadedBy (P : Params) (bs : List ℕ) (s t : State) : Type 0 where
   pub due : s .stage ≡ DownstreamHead
-  pub whole : isKind headKind (recordAt bs 0) ≡ true
-  pub same : downstreamHeadAnswer P (paramsIn bs) ≡ Done
-  pub next : t ≡ headedState s
+  pub whole : isHead (recordAt bs 0) ≡ true
+  pub same : downstreamHeadAnswer P bs ≡ Done
+  pub next : t ≡ headedState P s
 
 pub head-back : (P : Params) (bs : List ℕ) (s : State) → live (headStage P bs s .stage) ≡ true → (headStage P bs s ≡ s) ⊎ HeadedBy P bs s (headStage P bs s)
 unfolding headStage
-head-back P bs s = at (headDue (s .stage)) refl (dueOf headKind bs) refl
+head-back P bs s = at (headDue (s .stage)) refl (dueHead bs) refl
   where
-    judged : (r : Answer) → downstreamHeadAnswer P (paramsIn bs) ≡ r → s .stage ≡ DownstreamHead → isKind headKind (recordAt bs 0) ≡ true → live (answered r s (headedState s) .stage) ≡ true
-        → (answered r s (headedState s) ≡ s) ⊎ HeadedBy P bs s (answered r s (headedState s))
+    judged : (r : Answer) → downstreamHeadAnswer P bs ≡ r → s .stage ≡ DownstreamHead → isHead (recordAt bs 0) ≡ true → live (answered r s (headedState P s) .stage) ≡ true
+        → (answered r s (headedState P s) ≡ s) ⊎ HeadedBy P bs s (answered r s (headedState P s))
     judged Done q p w e = inr record { due = p; whole = w; same = q; next = refl }
     judged (Refused v k) q p w e = absurd (true≢false (sym e))
 
-    at : (b : Bool) → headDue (s .stage) ≡ b → (d : Due) → dueOf headKind bs ≡ d → live (cond b (headState d P bs s) s .stage) ≡ true
+    at : (b : Bool) → headDue (s .stage) ≡ b → (d : Due) → dueHead bs ≡ d → live (cond b (headState d P bs s) s .stage) ≡ true
         → (cond b (headState d P bs s) s ≡ s) ⊎ HeadedBy P bs s (cond b (headState d P bs s) s)
     at false p d q e = inl refl
     at true p NotYet q e = inl refl
     at true p Other q e = absurd (true≢false (sym e))
-    at true p Here q e = judged (downstreamHeadAnswer P (paramsIn bs)) refl (head-stage _ p) (here-whole headKind bs q) e
+    at true p Here q e = judged (downstreamHeadAnswer P bs) refl (head-stage _ p) (head-whole bs q) e
 
 -- nothing more was due, and no byte stood there
 pub nothing-back : (bs : List ℕ) (s : State) → nothingStage bs s .stage ≡ Nothing → (nothingStage bs s ≡ s) × (length bs ≡ 0)

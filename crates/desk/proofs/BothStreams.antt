@@ -11,8 +11,8 @@ use Rattle.params.specs.declared.params.Params.{Params}
 use Rattle.params.specs.declared.answers.Answer.the-variants.{Done}
 use Rattle.sketch.specs.Sketch.{Sketch}
 use Rattle.files.specs.Bytes.{word}
-use Rattle.files.specs.Records.{recordAt, isKind, headKind, endKind, headLength, packetsLength, endLength}
-use Rattle.files.specs.Heads.{paramsIn}
+use Rattle.files.specs.Records.{recordAt, isKind, isHead, endKind, packetsLength, endLength}
+use Rattle.files.specs.Heads.{headLengthOf}
 use Rattle.files.specs.Fields.{recordsField}
 use Rattle.desk.specs.declared.states.Stage.{Stage}
 use Rattle.desk.specs.declared.states.Stage.the-variants.{UpstreamPackets, DownstreamHead, DownstreamPackets, Nothing, Refused as Stopped}
@@ -104,7 +104,7 @@ module _ (P : Params) (bs : List ℕ) (up down : Sketch) where
   downstreamFile = drop (packetsLength * upstreamNumber + endLength) bs
 
   abbrev pub downstreamBody : List ℕ
-  downstreamBody = drop headLength downstreamFile
+  downstreamBody = drop (headLengthOf P) downstreamFile
 
   abbrev pub downstreamNumber : ℕ
   downstreamNumber = taken P downstreamBody down
@@ -113,49 +113,49 @@ module _ (P : Params) (bs : List ℕ) (up down : Sketch) where
     pub first-done : takenAnswer P bs up ≡ Done
     pub first-end : isKind endKind (recordAt (drop (packetsLength * upstreamNumber) bs) 0) ≡ true
     pub first-said : word (drop (packetsLength * upstreamNumber) bs) recordsField ≡ upstreamNumber
-    pub second-head : isKind headKind (recordAt downstreamFile 0) ≡ true
-    pub second-same : downstreamHeadAnswer P (paramsIn downstreamFile) ≡ Done
+    pub second-head : isHead (recordAt downstreamFile 0) ≡ true
+    pub second-same : downstreamHeadAnswer P downstreamFile ≡ Done
     pub second-done : takenAnswer P downstreamBody down ≡ Done
     pub second-end : isKind endKind (recordAt (drop (packetsLength * downstreamNumber) downstreamBody) 0) ≡ true
     pub second-said : word (drop (packetsLength * downstreamNumber) downstreamBody) recordsField ≡ downstreamNumber
     pub nothing-more : length (drop (packetsLength * downstreamNumber + endLength) downstreamBody) ≡ 0
 
   -- the bytes that are left at an offset
-  left-at : (t : State) (k : ℕ) → t .at ≡ headLength + k → rest started t bs ≡ drop k bs
-  left-at t k q = ap (λ (i : ℕ). drop i bs) {x = t .at - headLength} {y = k} (omega arith)
+  left-at : (t : State) (k : ℕ) → t .at ≡ headLengthOf P + k → rest (started P) t bs ≡ drop k bs
+  left-at t k q = ap (λ (i : ℕ). drop i bs) {x = t .at - headLengthOf P} {y = k} (omega arith)
 
-  module _ {a b c d e : State} (ta : TakenBy false P bs up started a) (tb : EndedBy (rest started a bs) a b) (tc : HeadedBy P (rest started b bs) b c)
-      (td : TakenBy true P (rest started c bs) down c d) (te : EndedBy (rest started d bs) d e) (none : length (rest started e bs) ≡ 0) where
-    a-left : rest started a bs ≡ drop (packetsLength * upstreamNumber) bs
+  module _ {a b c d e : State} (ta : TakenBy false P bs up (started P) a) (tb : EndedBy (rest (started P) a bs) a b) (tc : HeadedBy P (rest (started P) b bs) b c)
+      (td : TakenBy true P (rest (started P) c bs) down c d) (te : EndedBy (rest (started P) d bs) d e) (none : length (rest (started P) e bs) ≡ 0) where
+    a-left : rest (started P) a bs ≡ drop (packetsLength * upstreamNumber) bs
     unfolding packetsState
     a-left = left-at a (packetsLength * upstreamNumber) (ap (λ s. s .at) (ta .next))
 
-    b-left : rest started b bs ≡ downstreamFile
+    b-left : rest (started P) b bs ≡ downstreamFile
     unfolding packetsState
     b-left = left-at b (packetsLength * upstreamNumber + endLength) (ap (λ s. s .at) (tb .next) ∙ ap (λ s. s .at + endLength) (ta .next) ∙ omega arith)
 
-    c-at : c .at ≡ headLength + (packetsLength * upstreamNumber + endLength + headLength)
+    c-at : c .at ≡ headLengthOf P + (packetsLength * upstreamNumber + endLength + headLengthOf P)
     unfolding packetsState
-    c-at = ap (λ s. s .at) (tc .next) ∙ ap (λ s. s .at + headLength) (tb .next) ∙ ap (λ s. s .at + endLength + headLength) (ta .next) ∙ omega arith
+    c-at = ap (λ s. s .at) (tc .next) ∙ ap (λ s. s .at + headLengthOf P) (tb .next) ∙ ap (λ s. s .at + endLength + headLengthOf P) (ta .next) ∙ omega arith
 
-    c-left : rest started c bs ≡ downstreamBody
-    c-left = left-at c (packetsLength * upstreamNumber + endLength + headLength) c-at ∙ sym (drop-drop headLength (packetsLength * upstreamNumber + endLength) bs)
+    c-left : rest (started P) c bs ≡ downstreamBody
+    c-left = left-at c (packetsLength * upstreamNumber + endLength + headLengthOf P) c-at ∙ sym (drop-drop (headLengthOf P) (packetsLength * upstreamNumber + endLength) bs)
 
     -- k bytes into the second body
-    into : (t : State) (k : ℕ) → t .at ≡ c .at + k → rest started t bs ≡ drop k downstreamBody
+    into : (t : State) (k : ℕ) → t .at ≡ c .at + k → rest (started P) t bs ≡ drop k downstreamBody
     into t k q =
-        left-at t (packetsLength * upstreamNumber + endLength + headLength + k) (omega (arith, c-at))
-        ∙ sym (drop-drop k (packetsLength * upstreamNumber + endLength + headLength) bs)
-        ∙ ap (drop k) (sym (drop-drop headLength (packetsLength * upstreamNumber + endLength) bs))
+        left-at t (packetsLength * upstreamNumber + endLength + headLengthOf P + k) (omega (arith, c-at))
+        ∙ sym (drop-drop k (packetsLength * upstreamNumber + endLength + headLengthOf P) bs)
+        ∙ ap (drop k) (sym (drop-drop (headLengthOf P) (packetsLength * upstreamNumber + endLength) bs))
 
     d-next : d ≡ packetsState P downstreamBody down c
     d-next = td .next ∙ ap (λ xs. packetsState P xs down c) c-left
 
-    d-left : rest started d bs ≡ drop (packetsLength * downstreamNumber) downstreamBody
+    d-left : rest (started P) d bs ≡ drop (packetsLength * downstreamNumber) downstreamBody
     unfolding packetsState
     d-left = into d (packetsLength * downstreamNumber) (ap (λ s. s .at) d-next)
 
-    e-left : rest started e bs ≡ drop (packetsLength * downstreamNumber + endLength) downstreamBody
+    e-left : rest (started P) e bs ≡ drop (packetsLength * downstreamNumber + endLength) downstreamBody
     unfolding packetsState
     e-left = into e (packetsLength * downstreamNumber + endLength) (ap (λ s. s .at) (te .next) ∙ ap (λ s. s .at + endLength) d-next ∙ omega arith)
 
@@ -175,22 +175,22 @@ module _ (P : Params) (bs : List ℕ) (up down : Sketch) where
         }
 
     -- and what the downstream packets left
-    second-left : packetsSketch true P (rest started c bs) down c ≡ afterTaken P downstreamBody down
+    second-left : packetsSketch true P (rest (started P) c bs) down c ≡ afterTaken P downstreamBody down
     unfolding packetsSketch
     second-left = rw (td .due, c-left)
 
-  first-taken : live (upstreamTaken P bs up down started .stage) ≡ true → TakenBy false P bs up started (upstreamTaken P bs up down started)
-  first-taken l = ⊎-elim (λ h. absurd (true≢false (h .0))) (λ t. t) (packets-back false P bs up started l)
+  first-taken : live (upstreamTaken P bs up down (started P) .stage) ≡ true → TakenBy false P bs up (started P) (upstreamTaken P bs up down (started P))
+  first-taken l = ⊎-elim (λ h. absurd (true≢false (h .0))) (λ t. t) (packets-back false P bs up (started P) l)
 
-  at-first-packets : live (upstreamTaken P bs up down started .stage) ≡ true
-      → upstreamTaken P bs up down started .stage ≡ UpstreamPackets
+  at-first-packets : live (upstreamTaken P bs up down (started P) .stage) ≡ true
+      → upstreamTaken P bs up down (started P) .stage ≡ UpstreamPackets
   unfolding packetsState stageAfter
   at-first-packets l = let t = first-taken l in ap (λ s. s .stage) (t .next) ∙ ap (stageAfter UpstreamPackets) (t .done)
 
-  pub passed : fedState P bs up down started .stage ≡ Nothing
-      → Passed × (packetsSketch true P (rest started (downstreamHeaded P bs up down started) bs) down (downstreamHeaded P bs up down started) ≡ afterTaken P downstreamBody down)
+  pub passed : fedState P bs up down (started P) .stage ≡ Nothing
+      → Passed × (packetsSketch true P (rest (started P) (downstreamHeaded P bs up down (started P)) bs) down (downstreamHeaded P bs up down (started P)) ≡ afterTaken P downstreamBody down)
   passed nothing =
-      let last = nothing-back (rest started (downstreamEnded P bs up down started) bs) (downstreamEnded P bs up down started) nothing in
+      let last = nothing-back (rest (started P) (downstreamEnded P bs up down (started P)) bs) (downstreamEnded P bs up down (started P)) nothing in
       let all = all-passed at-first-packets (end-back _ _) (head-back P _ _) (packets-back true P _ down _) (end-back _ _) (ap (λ s. s .stage) (sym (last .0)) ∙ nothing) in
-      let first = first-taken (packets-live (upstreamTaken P bs up down started .stage) (all .0 .due)) in
+      let first = first-taken (packets-live (upstreamTaken P bs up down (started P) .stage) (all .0 .due)) in
       (found first (all .0) (all .1) (all .2) (all .3) (last .1), second-left first (all .0) (all .1) (all .2) (all .3) (last .1))

@@ -1,41 +1,38 @@
 -- The first head is settled by its own bytes: whoever judges it with those at hand judges it for the whole input. It is refused as the stream's reader
 -- refuses it, or for its size.
-use mathlib.Core.Path.{_≡_, refl, sym, _∙_}
-use mathlib.Core.Bool.{Bool, true, false, not, true≢false}
+use mathlib.Core.Path.{_≡_, refl, sym}
+use mathlib.Core.Bool.{Bool, true, false, not}
 use mathlib.Core.Logic.{_⊎_, inl, inr, ⊎-elim}
 use mathlib.Core.List.{List, _++_}
 use Prim.Native.Nat.{ℕ, _≤_}
 use native.Mathlib.Omega.{arith}
-use borrow.Author.Tests.{ne-eqb}
-use lib.ListN.{length, getD}
+use lib.ListN.{length}
 use Rattle.params.specs.declared.params.Params.{Params}
 use Rattle.params.specs.declared.answers.Refusal.{Refusal}
 use Rattle.params.specs.declared.answers.Refusal.the-variants.{Param}
 use Rattle.params.specs.declared.answers.Answer.the-variants.{Done, Refused}
-use Rattle.params.specs.Answers.{refuseIf}
+use Rattle.params.specs.Answers.{refuseIf, first, kept}
 use Rattle.params.proofs.Judging.{first-refused, first-either}
 use Rattle.sketch.specs.Sketch.{Sketch}
-use Rattle.files.specs.Records.{recordAt, isKind, headKind, headLength}
+use Rattle.files.specs.Records.{recordAt, isHead, headLengthIn}
 use Rattle.files.specs.Heads.{paramsIn, headAnswer}
 use Rattle.files.proofs.HeadStages.{head-refused}
-use Rattle.files.proofs.RecordTrips.{record-whole}
 use Rattle.streamfile.specs.Streams.{streamAnswer}
-use Rattle.desk.specs.Desk.{fewEnough, beginAnswer, beginOf}
-use Rattle.desk.proofs.MoreBytes.{params-more, whole-more, other-more}
+use Rattle.desk.specs.Desk.{fewEnough, dueHead, beginAnswer, beginOf}
+use Rattle.desk.proofs.MoreBytes.{notYet, head-long, head-stays, params-more, good-more, no-head-more}
 
-module _ (xs ys : List ℕ) (long : headLength ≤ length xs) where
-  head-same : isKind headKind (recordAt (xs ++ ys) 0) ≡ isKind headKind (recordAt xs 0)
-  head-same = at (isKind headKind (recordAt xs 0)) refl
+module _ (xs ys : List ℕ) where
+  -- a whole head, or a byte of another kind
+  pub begin-found : notYet (dueHead xs) ≡ false → beginOf (xs ++ ys) ≡ beginOf xs
+  unfolding beginAnswer headAnswer first kept
+  begin-found h = at (isHead (recordAt xs 0)) refl
     where
-      at : (b : Bool) → isKind headKind (recordAt xs 0) ≡ b → isKind headKind (recordAt (xs ++ ys) 0) ≡ b
-      at true w = whole-more xs ys 1 (omega arith) w
-      at false w =
-          let other : getD xs 0 0 ≡ 1 → ⊥ = λ e. true≢false (sym (record-whole xs 0 headKind e (omega arith) (omega arith)) ∙ w) in
-          other-more xs ys 1 (omega arith) (ne-eqb (getD xs 0 0) headKind other) .1
+      at : (b : Bool) → isHead (recordAt xs 0) ≡ b → beginOf (xs ++ ys) ≡ beginOf xs
+      at true w = rw (head-stays xs ys w, w, good-more xs ys w, params-more xs ys w)
+      at false w = rw (no-head-more xs ys h w, w)
 
-  pub begin-settled : beginOf (xs ++ ys) ≡ beginOf xs
-  unfolding beginAnswer headAnswer
-  begin-settled = rw (head-same, params-more xs ys long)
+  pub begin-settled : headLengthIn xs ≤ length xs → beginOf (xs ++ ys) ≡ beginOf xs
+  begin-settled long = begin-found (head-long xs long)
 
 -- Where the first head is refused: that is the answer of any reader of a stream on the input, with whatever parameters and sketch; or its parameters
 -- keep the rules and have too many buckets for a desk, which is PARAM.

@@ -1,26 +1,28 @@
 -- More bytes behind those at hand change nothing of a record that stands there whole, or of one that is not due.
 use mathlib.Core.Path.{_≡_, refl, sym, ap, _∙_}
-use mathlib.Core.Bool.{Bool, true, false, not, cond, _&&_, true≢false}
+use mathlib.Core.Bool.{Bool, true, false, not, cond, _&&_, or-true, true≢false}
 use mathlib.Core.Logic.{_⊎_, inl, inr, ⊎-elim}
 use mathlib.Core.List.{List, _++_}
 use Prim.Native.Nat.{ℕ, _+_, _≤_, _<_}
 use native.Mathlib.Omega.{arith}
-use borrow.Author.Tests.{leb-false, lt-leb, eqb-false, ne-eqb}
+use borrow.Author.Tests.{leb-false, lt-leb, eqb-true, eqb-false, ne-eqb}
 use lib.Dec.{eqb, leb}
-use lib.ListN.{length, getD, length-append, List·getD-append}
+use lib.ListN.{length, getD, take, drop, length-append, length-drop, List·getD-append}
+use lib.Seq.{take-append-le, drop-append-le}
 use Rattle.params.specs.declared.params.Params.{Params}
+use Rattle.params.proofs.Searches.{cannot-hold}
 use Rattle.files.specs.Bytes.{word}
-use Rattle.files.specs.Records.{bodyLength, recordAt, isKind, headKind, packetsKind, endKind, headLength}
-use Rattle.files.specs.Heads.{paramsIn}
-use Rattle.files.specs.Fields.{recordsField, arraysField, bucketsField, multiplierField, offsetField}
-use Rattle.files.proofs.Bodies.{params-fields}
+use Rattle.files.specs.Records.{bodyLength, recordLength, headLengthIn, recordAt, isKind, isHead, bodyFrom, headKind, extendedHeadKind, packetsKind, endKind, headKindIn}
+use Rattle.files.specs.Heads.{paramsInBody, paramsIn, goodHead}
+use Rattle.files.specs.Fields.{recordsField}
+use Rattle.files.proofs.Standing.{head-kinds, head-is-kind, head-inside}
 use Rattle.files.proofs.RecordTrips.{record-whole, not-kind}
 use Rattle.desk.proofs.Whole.{whole-record}
 use Rattle.desk.specs.declared.states.State.{State}
 use Rattle.desk.specs.declared.stages.Due.{Due}
 use Rattle.desk.specs.declared.stages.Due.the-variants.{Here, NotYet, Other}
-use Rattle.desk.specs.Desk.{packetsDue, headDue, dueOf, dueEnd, endState, headState, endStage, headStage, nothingStage}
-use Rattle.desk.proofs.WhatIsDue.{here-whole, end-whole}
+use Rattle.desk.specs.Desk.{packetsDue, headDue, dueOf, dueEnd, dueHead, downstreamHeadAnswer, endState, headState, endStage, headStage, nothingStage}
+use Rattle.desk.proofs.WhatIsDue.{due-here, either-kind, end-whole, head-whole, head-here}
 
 abbrev pub notYet : Due → Bool
 notYet Here = false
@@ -40,10 +42,6 @@ due-known kind bs = at (leb (length bs) 0) refl (isKind kind (recordAt bs 0)) re
     at false e true f z g h = inl f
     at false e false f true g h = absurd (true≢false h)
     at false e false f false g h = inr (leb-false (length bs) 0 e, f, g)
-
-due-here : (kind : ℕ) (bs : List ℕ) → 0 < length bs → isKind kind (recordAt bs 0) ≡ true → dueOf kind bs ≡ Here
-unfolding dueOf
-due-here kind bs l w = rw (lt-leb (length bs) 0 l, w)
 
 due-other : (kind : ℕ) (bs : List ℕ) → 0 < length bs → isKind kind (recordAt bs 0) ≡ false → eqb (getD bs 0 0) kind ≡ false → dueOf kind bs ≡ Other
 unfolding dueOf
@@ -68,6 +66,32 @@ end-due bs e = rw e (at (not (leb (length bs) 0)))
     at true = refl
     at false = refl
 
+-- a record that all its bytes are at hand of is not waited for
+pub due-long : (kind : ℕ) (bs : List ℕ) → 0 < bodyLength kind → recordLength kind ≤ length bs → notYet (dueOf kind bs) ≡ false
+unfolding dueOf
+due-long kind bs some long = at (isKind kind (recordAt bs 0)) refl (eqb (getD bs 0 0) kind) refl
+  where
+    at : (w : Bool) → isKind kind (recordAt bs 0) ≡ w → (e : Bool) → eqb (getD bs 0 0) kind ≡ e → notYet (dueOf kind bs) ≡ false
+    at true w e f = rw (lt-leb (length bs) 0 (omega arith), w)
+    at false w true f = absurd (true≢false (sym (record-whole bs 0 kind (eqb-true (getD bs 0 0) kind f) some (omega arith)) ∙ w))
+    at false w false f = rw (lt-leb (length bs) 0 (omega arith), w, f)
+
+-- the head that the first byte says: it has a body, and is no shorter than a head of kind 1 and no longer than one of kind 10
+head-some : (bs : List ℕ) → 0 < bodyLength (headKindIn bs)
+head-some bs = either-kind (λ k. 0 < bodyLength k) bs (omega arith) (omega arith)
+
+pub head-least : (bs : List ℕ) → recordLength headKind ≤ headLengthIn bs
+unfolding headLengthIn
+head-least bs = either-kind (λ k. recordLength headKind ≤ recordLength k) bs (omega arith) (omega arith)
+
+pub head-most : (bs : List ℕ) → headLengthIn bs ≤ recordLength extendedHeadKind
+unfolding headLengthIn
+head-most bs = either-kind (λ k. recordLength k ≤ recordLength extendedHeadKind) bs (omega arith) (omega arith)
+
+pub head-long : (bs : List ℕ) → headLengthIn bs ≤ length bs → notYet (dueHead bs) ≡ false
+unfolding headLengthIn dueHead
+head-long bs long = due-long (headKindIn bs) bs (head-some bs) long
+
 module _ (xs ys : List ℕ) where
   byte-more : (i : ℕ) → i < length xs → getD (xs ++ ys) i 0 ≡ getD xs i 0
   byte-more i l = List·getD-append xs ys 0 i l
@@ -75,23 +99,6 @@ module _ (xs ys : List ℕ) where
   pub word-more : (at : ℕ) → at + 4 ≤ length xs → word (xs ++ ys) at ≡ word xs at
   unfolding word
   word-more at h = rw (byte-more at (omega arith), byte-more (at + 1) (omega arith), byte-more (at + 2) (omega arith), byte-more (at + 3) (omega arith))
-
-  pub params-more : headLength ≤ length xs → paramsIn (xs ++ ys) ≡ paramsIn xs
-  params-more h =
-      rw (
-        params-fields (xs ++ ys),
-        params-fields xs,
-        byte-more arraysField (omega arith),
-        word-more bucketsField (omega arith),
-        word-more (multiplierField 0) (omega arith),
-        word-more (multiplierField 1) (omega arith),
-        word-more (multiplierField 2) (omega arith),
-        word-more (multiplierField 3) (omega arith),
-        word-more (offsetField 0) (omega arith),
-        word-more (offsetField 1) (omega arith),
-        word-more (offsetField 2) (omega arith),
-        word-more (offsetField 3) (omega arith),
-      )
 
   longer : length xs ≤ length (xs ++ ys)
   longer = omega (arith, length-append xs ys)
@@ -102,7 +109,7 @@ module _ (xs ys : List ℕ) where
       let w = whole-record xs 0 kind e in
       record-whole (xs ++ ys) 0 kind (byte-more 0 (omega (arith, w .1)) ∙ w .0) p (omega (arith, w .1, longer))
 
-  pub other-more : (kind : ℕ) → 0 < length xs → eqb (getD xs 0 0) kind ≡ false → (eqb (getD (xs ++ ys) 0 0) kind ≡ false) × (isKind kind (recordAt (xs ++ ys) 0) ≡ false)
+  other-more : (kind : ℕ) → 0 < length xs → eqb (getD xs 0 0) kind ≡ false → (eqb (getD (xs ++ ys) 0 0) kind ≡ false) × (isKind kind (recordAt (xs ++ ys) 0) ≡ false)
   other-more kind l e =
       let differs : getD (xs ++ ys) 0 0 ≡ kind → ⊥ = λ q. eqb-false (getD xs 0 0) kind e (sym (byte-more 0 l) ∙ q) in
       (ne-eqb (getD (xs ++ ys) 0 0) kind differs, not-kind (xs ++ ys) 0 kind differs)
@@ -136,16 +143,49 @@ module _ (xs ys : List ℕ) where
       at Other e = refl
       at Here e = rw (word-more recordsField (omega (arith, whole-record xs 0 endKind (end-whole xs e) .1)))
 
-  pub head-more : (P : Params) (s : State) → notYet (dueOf headKind xs) ≡ false → (dueOf headKind (xs ++ ys) ≡ dueOf headKind xs) × (headStage P (xs ++ ys) s ≡ headStage P xs s)
+  -- a whole head stays one, and says the same
+  module _ (e : isHead (recordAt xs 0) ≡ true) where
+    kind-same : getD (xs ++ ys) 0 0 ≡ getD xs 0 0
+    kind-same = byte-more 0 (head-inside xs 0 e)
+
+    pub head-stays : isHead (recordAt (xs ++ ys) 0) ≡ true
+    head-stays = ⊎-elim (λ h. rw (whole-more headKind (omega arith) h)) (λ h. rw (whole-more extendedHeadKind (omega arith) h, or-true)) (head-kinds xs 0 e)
+
+    pub params-more : paramsIn (xs ++ ys) ≡ paramsIn xs
+    unfolding paramsIn bodyFrom
+    params-more =
+        let k : ℕ = getD xs 0 0 in
+        let w = whole-record xs 0 k (head-is-kind xs 0 e) in
+        ap (λ (j : ℕ). paramsInBody (take (bodyLength j) (drop 1 (xs ++ ys)))) kind-same
+        ∙ ap (λ (bs : List ℕ). paramsInBody (take (bodyLength k) bs)) (drop-append-le 1 xs ys (omega (arith, w .1)))
+        ∙ ap paramsInBody (take-append-le (bodyLength k) (drop 1 xs) ys (omega (arith, w .1, length-drop 1 xs)))
+
+    pub good-more : goodHead (xs ++ ys) ≡ goodHead xs
+    unfolding goodHead
+    good-more = rw (params-more, kind-same)
+
+    answer-more : (P : Params) → downstreamHeadAnswer P (xs ++ ys) ≡ downstreamHeadAnswer P xs
+    unfolding downstreamHeadAnswer
+    answer-more P = rw (good-more, params-more)
+
+  -- where a head is due, and none stands there
+  head-due-more : notYet (dueHead xs) ≡ false → dueHead (xs ++ ys) ≡ dueHead xs
+  unfolding dueHead
+  head-due-more h =
+      let m = due-more (headKindIn xs) (head-some xs) h in
+      ap (λ (n : ℕ). dueOf (cond (eqb n extendedHeadKind) extendedHeadKind headKind) (xs ++ ys)) (byte-more 0 (m .0)) ∙ m .1
+
+  pub no-head-more : notYet (dueHead xs) ≡ false → isHead (recordAt xs 0) ≡ false → isHead (recordAt (xs ++ ys) 0) ≡ false
+  no-head-more h e = cannot-hold (isHead (recordAt (xs ++ ys) 0)) (λ w. true≢false (sym (head-whole xs (sym (head-due-more h) ∙ head-here (xs ++ ys) w)) ∙ e))
+
+  pub head-more : (P : Params) (s : State) → notYet (dueHead xs) ≡ false → (dueHead (xs ++ ys) ≡ dueHead xs) × (headStage P (xs ++ ys) s ≡ headStage P xs s)
   unfolding headStage
-  head-more P s h =
-      let due = due-more headKind (omega arith) h .1 in
-      (due, rw due (ap (λ t. cond (headDue (s .stage)) t s) (at (dueOf headKind xs) refl)))
+  head-more P s h = let due = head-due-more h in (due, rw due (ap (λ t. cond (headDue (s .stage)) t s) (at (dueHead xs) refl)))
     where
-      at : (d : Due) → dueOf headKind xs ≡ d → headState d P (xs ++ ys) s ≡ headState d P xs s
+      at : (d : Due) → dueHead xs ≡ d → headState d P (xs ++ ys) s ≡ headState d P xs s
       at NotYet e = refl
       at Other e = refl
-      at Here e = rw (params-more (omega (arith, whole-record xs 0 headKind (here-whole headKind xs e) .1)))
+      at Here e = rw (answer-more (head-whole xs e) P)
 
   pub nothing-more : (s : State) → 0 < length xs → (leb (length (xs ++ ys)) 0 ≡ false) × (nothingStage (xs ++ ys) s ≡ nothingStage xs s)
   unfolding nothingStage

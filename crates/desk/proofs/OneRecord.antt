@@ -14,13 +14,13 @@ use Rattle.params.specs.Answers.{kept}
 use Rattle.sketch.specs.Sketch.{Sketch}
 use Rattle.sketch.specs.Packets.{stepAnswer, changed}
 use Rattle.files.specs.Bytes.{word}
-use Rattle.files.specs.Records.{recordAt, isKind, headKind, packetsKind, packetsLength}
+use Rattle.files.specs.Records.{recordAt, isKind, packetsKind, packetsLength}
 use Rattle.files.specs.Fields.{flowField, numberField}
 use Rattle.desk.proofs.Whole.{whole-record}
 use Rattle.desk.specs.declared.states.Stage.{Stage}
 use Rattle.desk.specs.declared.states.Stage.the-variants.{UpstreamPackets, DownstreamHead, DownstreamPackets, Nothing, Refused as Stopped}
 use Rattle.desk.specs.declared.states.State.{State}
-use Rattle.desk.specs.Desk.{stopped, dueOf, dueEnd, endStage, headStage, nothingStage}
+use Rattle.desk.specs.Desk.{stopped, dueEnd, dueHead, endStage, headStage, nothingStage}
 use Rattle.desk.proofs.Onward.{Onward, onward-here, end-onward, head-onward, nothing-onward}
 use Rattle.desk.proofs.MoreBytes.{notYet, word-more, whole-more, end-more, head-more, nothing-more}
 
@@ -71,7 +71,7 @@ one P bs k = oneAt (k .state .stage) P bs k
 -- nothing can be said of what stands first until there are more bytes
 unfoldable pub waitsAt : Stage → List ℕ → Bool
 waitsAt UpstreamPackets bs = not (isKind packetsKind (recordAt bs 0)) && notYet (dueEnd bs)
-waitsAt DownstreamHead bs = notYet (dueOf headKind bs)
+waitsAt DownstreamHead bs = notYet (dueHead bs)
 waitsAt DownstreamPackets bs = not (isKind packetsKind (recordAt bs 0)) && notYet (dueEnd bs)
 waitsAt Nothing bs = leb (length bs) 0
 waitsAt (Stopped w) bs = true

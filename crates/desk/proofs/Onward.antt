@@ -13,16 +13,16 @@ use Rattle.params.specs.declared.answers.Answer.{Answer}
 use Rattle.params.specs.declared.answers.Answer.the-variants.{Done, Refused}
 use Rattle.sketch.specs.Sketch.{Sketch}
 use Rattle.files.specs.Bytes.{word}
-use Rattle.files.specs.Records.{recordAt, isKind, headKind, endKind}
-use Rattle.files.specs.Heads.{paramsIn}
+use Rattle.files.specs.Records.{recordAt, isKind, isHead, endKind}
 use Rattle.files.specs.Fields.{recordsField}
 use Rattle.files.proofs.Standing.{kind-ends}
 use Rattle.desk.specs.declared.states.State.{State}
 use Rattle.desk.specs.declared.stages.Due.{Due}
 use Rattle.desk.specs.declared.stages.Due.the-variants.{Here, NotYet, Other}
-use Rattle.desk.specs.Desk.{packetsDue, headDue, nothingDue, isDue, packetsState, dueOf, dueEnd, endState, endedState, stopped, downstreamHeadAnswer, answered, headState, headedState, packetsStage, packetsSketch, endStage, headStage, nothingStage, rest, offsetsFit}
+use Rattle.desk.specs.Desk.{packetsDue, headDue, nothingDue, isDue, packetsState, dueEnd, dueHead, endState, endedState, stopped, downstreamHeadAnswer, answered, headState, headedState, packetsStage, packetsSketch, endStage, headStage, nothingStage, rest, offsetsFit}
 use Rattle.desk.proofs.Taking.{taken-bytes}
-use Rattle.desk.proofs.WhatIsDue.{here-whole, end-whole}
+use Rattle.desk.proofs.HeadAnswers.{second-within}
+use Rattle.desk.proofs.WhatIsDue.{end-whole, head-whole}
 use Rattle.desk.proofs.OffsetsFit.{bounded, offsets-fit}
 
 -- t comes after s by some of these bytes, and no more records than bytes stood in between
@@ -70,17 +70,17 @@ end-onward bs s = at (packetsDue (s .stage)) (dueEnd bs) refl
 
 pub head-onward : (P : Params) (bs : List ℕ) (s : State) → Onward bs s (headStage P bs s)
 unfolding headStage
-head-onward P bs s = at (headDue (s .stage)) (dueOf headKind bs) refl
+head-onward P bs s = at (headDue (s .stage)) (dueHead bs) refl
   where
-    judged : (r : Answer) → isKind headKind (recordAt bs 0) ≡ true → Onward bs s (answered r s (headedState s))
-    judged Done w = omega (arith, kind-ends headKind bs 0 w)
-    judged (Refused w k) h = omega arith
+    judged : (r : Answer) → downstreamHeadAnswer P bs ≡ r → isHead (recordAt bs 0) ≡ true → Onward bs s (answered r s (headedState P s))
+    judged Done q w = omega (arith, second-within bs P q w)
+    judged (Refused v k) q w = omega arith
 
-    at : (b : Bool) (d : Due) → dueOf headKind bs ≡ d → Onward bs s (cond b (headState d P bs s) s)
+    at : (b : Bool) (d : Due) → dueHead bs ≡ d → Onward bs s (cond b (headState d P bs s) s)
     at false d e = onward-here bs s
     at true NotYet e = onward-here bs s
     at true Other e = omega arith
-    at true Here e = judged (downstreamHeadAnswer P (paramsIn bs)) (here-whole headKind bs e)
+    at true Here e = judged (downstreamHeadAnswer P bs) refl (head-whole bs e)
 
 pub nothing-onward : (bs : List ℕ) (s : State) → Onward bs s (nothingStage bs s)
 unfolding nothingStage

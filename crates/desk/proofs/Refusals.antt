@@ -14,7 +14,7 @@ use mathlib.Core.List.{List, _++_}
 use Prim.Native.Nat.{ℕ, _+_, _-_, _*_, _≤_, _<_}
 use native.Mathlib.Nat.{zero-add}
 use native.Mathlib.Omega.{arith}
-use borrow.Author.Tests.{lt-leb, leb-true, leb-false, not-false}
+use borrow.Author.Tests.{leb-true, leb-false}
 use lib.Dec.{leb}
 use lib.ListN.{length, getD, take, drop, length-drop}
 use lib.Seq.{length-take-le, getD-take, getD-drop, drop-drop}
@@ -24,15 +24,13 @@ use Rattle.params.specs.declared.answers.Refusal.the-variants.{Param, Mismatch,
 use Rattle.params.specs.declared.answers.Answer.{Answer}
 use Rattle.params.specs.declared.answers.Answer.the-variants.{Done, Refused}
 use Rattle.params.specs.Answers.{refuseIf, first, kept}
-use Rattle.params.specs.Params.{goodParams, sameParams}
-use Rattle.params.proofs.Searches.{and-true}
-use Rattle.params.proofs.Judging.{refuse-done}
+use Rattle.params.specs.Params.{sameParams}
 use Rattle.params.proofs.SameParams.{same-itself}
 use Rattle.sketch.specs.Sketch.{Sketch, zeros}
 use Rattle.sketch.specs.Packets.{after}
 use Rattle.files.specs.Bytes.{word}
-use Rattle.files.specs.Records.{recordAt, isKind, headKind, endKind, headLength, packetsLength, endLength}
-use Rattle.files.specs.Heads.{paramsIn, isHead, parametersAnswer}
+use Rattle.files.specs.Records.{headLengthIn, recordAt, isKind, isHead, endKind, packetsLength, endLength}
+use Rattle.files.specs.Heads.{headLengthOf, paramsIn, goodHead, parametersAnswer}
 use Rattle.files.specs.Turns.{packetOffset}
 use Rattle.files.specs.Fields.{recordsField}
 use Rattle.streamfile.specs.Streams.{packetsFrom, packetsIn, flowsIn, numbersIn, packetsJudged, streamAnswer, StreamRead}
@@ -41,16 +39,16 @@ use Rattle.desk.specs.declared.stages.Due.{Due}
 use Rattle.desk.specs.declared.stages.Due.the-variants.{Here, NotYet, Other}
 use Rattle.desk.specs.declared.states.State.{State}
 use Rattle.desk.specs.declared.states.Fed.{Fed}
-use Rattle.desk.specs.Desk.{fewEnough, beginOf, started, stopped, taken, takenAnswer, dueOf, downstreamHeadAnswer, isDue, packetsDue, headDue, nothingDue, packetsStage, endStage, headStage, nothingStage, rest, offsetsFit, upstreamEnded, downstreamHeaded, downstreamTaken, downstreamEnded, fedState, Feeds, finishAnswer, packetsSketch, upstreamTaken, lentBoth, stageTurnedDown}
-use Rattle.desk.proofs.Accepted.{Begun, begun, good-params, input-long, firstNumber, atFirstEnd, firstLength, split-within, first-file}
-use Rattle.desk.proofs.Whole.{whole-record}
+use Rattle.desk.specs.Desk.{fewEnough, beginOf, started, stopped, taken, takenAnswer, dueHead, downstreamHeadAnswer, isDue, packetsDue, headDue, nothingDue, packetsStage, endStage, headStage, nothingStage, rest, offsetsFit, upstreamEnded, downstreamHeaded, downstreamTaken, downstreamEnded, fedState, Feeds, finishAnswer, packetsSketch, upstreamTaken, lentBoth, stageTurnedDown}
+use Rattle.desk.proofs.Accepted.{Begun, begun, good-params, begun-length, input-long, firstNumber, atFirstEnd, firstLength, split-within, first-file}
+use Rattle.desk.proofs.HeadAnswers.{second-good, second-same, second-length, second-within}
 use Rattle.desk.proofs.InTheRest.{word-at, whole-left}
-use Rattle.desk.proofs.WhatIsDue.{here-whole}
+use Rattle.desk.proofs.WhatIsDue.{head-whole, head-here}
 use Rattle.desk.proofs.Taking.{all-taken}
 use Rattle.desk.proofs.Lending.{turned-down, taken-fed, fed-taken, fresh-lent}
 use Rattle.desk.proofs.Pieces.{pieces}
 use Rattle.desk.proofs.SameBytes.{opened-judged, all-back, end-back, said-back}
-use Rattle.desk.proofs.Accepts.{file-long}
+use Rattle.desk.proofs.Accepts.{file-head, file-long}
 use Rattle.desk.proofs.AsRead.{Came, refused-there, unfinished, passed-by, came, streamEnded, taken-at, ends-right, all-read, more-behind}
 
 -- a stage that is not due leaves the state
@@ -95,7 +93,7 @@ shifted i (Refused w k) = Refused w (i + k)
 
 -- a downstream stream at the desk: as its reader answers it into a fresh sketch, save that a head which keeps the rules and has too many buckets is PARAM
 unfoldable pub downstreamAnswer : Params → List ℕ → Answer
-downstreamAnswer P bs = refuseIf (isHead (recordAt bs 0) && (goodParams (paramsIn bs) && not (fewEnough (paramsIn bs)))) Param 0 (streamAnswer P bs (zeros P))
+downstreamAnswer P bs = refuseIf (isHead (recordAt bs 0) && (goodHead bs && not (fewEnough (paramsIn bs)))) Param 0 (streamAnswer P bs (zeros P))
 
 -- the upstream stream is accepted, and the downstream one refused at an offset of its own file
 pub record DownstreamRefused (P : Params) (input : List ℕ) (w : Refusal) (k : ℕ) : Type 0 where
@@ -104,16 +102,11 @@ pub record DownstreamRefused (P : Params) (input : List ℕ) (w : Refusal) (k : 
   pub reader-refuses : downstreamAnswer P (drop (upstream .split) input) ≡ Refused w offset
   pub place : k ≡ upstream .split + offset
 
--- a whole head is found
-head-here : (bs : List ℕ) → isKind headKind (recordAt bs 0) ≡ true → dueOf headKind bs ≡ Here
-unfolding dueOf
-head-here bs whole = rw (lt-leb (length bs) 0 (omega (arith, whole-record bs 0 headKind whole .1)), whole)
-
 -- the first head is accepted with the parameters P, and what follows it is fed to two fresh sketches, with all offsets within 64 bits
 module _ (P : Params) (input : List ℕ) (r : Fed) (up down : Sketch) (head : beginOf input ≡ record { answer = Done; params = P })
-    (near : offsetsFit (drop headLength input) started ≡ true) (fed : Feeds P (drop headLength input) (zeros P) (zeros P) started r up down) where
+    (near : offsetsFit (drop (headLengthOf P) input) (started P) ≡ true) (fed : Feeds P (drop (headLengthOf P) input) (zeros P) (zeros P) (started P) r up down) where
   abbrev xs : List ℕ
-  xs = drop headLength input
+  xs = drop (headLengthOf P) input
 
   -- what the end of the input then answers
   abbrev pub deskAnswer : Answer
@@ -125,21 +118,24 @@ module _ (P : Params) (input : List ℕ) (r : Fed) (up down : Sketch) (head : be
   opening : streamAnswer P input (zeros P) ≡ packetsJudged P input (zeros P)
   opening = opened-judged P input (b .head) (good-params P input b) (b .good) (ap (sameParams P) (sym (b .params)) ∙ same-itself P)
 
-  state-is : r .state ≡ fedState P xs (zeros P) (zeros P) started
+  state-is : r .state ≡ fedState P xs (zeros P) (zeros P) (started P)
   state-is = rw near at (fed-taken (fresh-lent P (good-params P input b)) fed .state)
+
+  at-start : headLengthOf P ≡ 0 + headLengthOf P
+  at-start = sym (zero-add (headLengthOf P))
 
   -- a right end stands behind the upstream's packets
   abbrev RightEnd : Type 0
   RightEnd = (takenAnswer P xs (zeros P) ≡ Done) × (isKind endKind (recordAt (atFirstEnd P input b) 0) ≡ true) × (word (atFirstEnd P input b) recordsField ≡ firstNumber P input b)
 
-  upstream-came : Came P input (input-long P input b) (zeros P) false 0 started refl refl refl → (deskAnswer ≡ streamAnswer P input (zeros P)) ⊎ RightEnd
+  upstream-came : Came P input (begun-length P input b) (input-long P input b) (zeros P) false 0 (started P) refl at-start refl → (deskAnswer ≡ streamAnswer P input (zeros P)) ⊎ RightEnd
   upstream-came (refused-there w k judged stage at) =
-      let t : State = upstreamEnded P xs (zeros P) (zeros P) started in
-      let stays = after-end-stay P xs (zeros P) (zeros P) started t refl (ap headDue stage) (ap (isDue true) stage) (end-skips (rest started t xs) t (ap packetsDue stage)) (ap nothingDue stage) in
+      let t : State = upstreamEnded P xs (zeros P) (zeros P) (started P) in
+      let stays = after-end-stay P xs (zeros P) (zeros P) (started P) t refl (ap headDue stage) (ap (isDue true) stage) (end-skips (rest (started P) t xs) t (ap packetsDue stage)) (ap nothingDue stage) in
       inl (ap (λ s. finishAnswer (s .stage) (s .at)) (state-is ∙ stays) ∙ ap₂ finishAnswer stage (at ∙ zero-add k) ∙ sym (opening ∙ judged))
   upstream-came (unfinished k judged same stage at) =
-      let t : State = upstreamEnded P xs (zeros P) (zeros P) started in
-      let stays = after-end-stay P xs (zeros P) (zeros P) started t refl (ap headDue stage) (ap (isDue true) stage) (ap (λ u. endStage (rest started u xs) u) same) (ap nothingDue stage) in
+      let t : State = upstreamEnded P xs (zeros P) (zeros P) (started P) in
+      let stays = after-end-stay P xs (zeros P) (zeros P) (started P) t refl (ap headDue stage) (ap (isDue true) stage) (ap (λ u. endStage (rest (started P) u xs) u) same) (ap nothingDue stage) in
       inl (ap (λ s. finishAnswer (s .stage) (s .at)) (state-is ∙ stays) ∙ ap₂ finishAnswer stage (at ∙ zero-add k) ∙ sym (opening ∙ judged))
   upstream-came (passed-by done whole said) = inr (done, whole, said)
 
@@ -147,13 +143,13 @@ module _ (P : Params) (input : List ℕ) (r : Fed) (up down : Sketch) (head : be
   pub upstream-refused : ((i : ℕ) → streamAnswer P (take i input) (zeros P) ≡ Done → ⊥) → deskAnswer ≡ streamAnswer P input (zeros P)
   upstream-refused none =
       ⊎-elim (λ e. e) (λ p. absurd (none (firstLength P input b) (sym (first-file P input b (p .0) (p .1) (p .2) .answer))))
-      (upstream-came (came P input (input-long P input b) (zeros P) false 0 started refl refl refl))
+      (upstream-came (came P input (begun-length P input b) (input-long P input b) (zeros P) false 0 (started P) refl at-start refl))
 
   -- one or the other
   pub either-stream : (deskAnswer ≡ streamAnswer P input (zeros P)) ⊎ AcceptedPart P input
   either-stream =
       ⊎-elim inl (λ p. inr (record { split = firstLength P input b; within = split-within P input b (p .0) (p .1) (p .2); reader = sym (first-file P input b (p .0) (p .1) (p .2) .answer) }))
-      (upstream-came (came P input (input-long P input b) (zeros P) false 0 started refl refl refl))
+      (upstream-came (came P input (begun-length P input b) (input-long P input b) (zeros P) false 0 (started P) refl at-start refl))
 
   -- the first i bytes are a stream that the reader accepts
   module _ (i : ℕ) (within : i ≤ length input) (reader : streamAnswer P (take i input) (zeros P) ≡ Done) where
@@ -167,137 +163,134 @@ module _ (P : Params) (input : List ℕ) (r : Fed) (up down : Sketch) (head : be
     unfolding kept
     read = record { answer = sym reader; after-all = refl }
 
-    i-long : i ≡ headLength + (packetsLength * n + endLength)
+    i-long : i ≡ headLengthOf P + (packetsLength * n + endLength)
     i-long = sym (length-take-le i input within) ∙ file-long read
 
     room : packetsLength * n + endLength ≤ length xs
-    room = omega (arith, i-long, length-drop headLength input)
+    room = omega (arith, i-long, length-drop (headLengthOf P) input)
 
-    bytes-same : (j : ℕ) → j < packetsLength * n + endLength → getD (take i input) (headLength + j) 0 ≡ getD xs j 0
-    bytes-same j l = getD-take i input (headLength + j) 0 (omega (arith, i-long)) ∙ sym (getD-drop headLength input j 0)
+    bytes-same : (j : ℕ) → j < packetsLength * n + endLength → getD (take i input) (headLengthOf P + j) 0 ≡ getD xs j 0
+    bytes-same j l = getD-take i input (headLengthOf P + j) 0 (omega (arith, i-long)) ∙ sym (getD-drop (headLengthOf P) input j 0)
 
     taken-back : (taken P xs (zeros P) ≡ n) × (takenAnswer P xs (zeros P) ≡ Done)
-    taken-back = all-back P (take i input) xs n (file-long read) room bytes-same read refl
+    taken-back = all-back P (take i input) xs n (file-head read) (file-long read) room bytes-same read refl
 
     right-kind : isKind endKind (recordAt (atFirstEnd P input b) 0) ≡ true
-    right-kind = rw (taken-back .0) (whole-left xs (packetsLength * n) endKind (omega arith) (end-back P (take i input) xs n (file-long read) room bytes-same read refl))
+    right-kind = rw (taken-back .0) (whole-left xs (packetsLength * n) endKind (omega arith) (end-back P (take i input) xs n (file-head read) (file-long read) room bytes-same read refl))
 
     right-word : word (atFirstEnd P input b) recordsField ≡ firstNumber P input b
-    right-word = rw (taken-back .0) (word-at xs (packetsLength * n) recordsField ∙ said-back P (take i input) xs n (file-long read) room bytes-same read refl)
+    right-word = rw (taken-back .0) (word-at xs (packetsLength * n) recordsField ∙ said-back P (take i input) xs n (file-head read) (file-long read) room bytes-same read refl)
 
     -- so the upstream ends there
     abbrev headState : State
     headState = record { stage = DownstreamHead; at = i; records = 0 }
 
-    at-head : upstreamEnded P xs (zeros P) (zeros P) started ≡ headState
+    at-head : upstreamEnded P xs (zeros P) (zeros P) (started P) ≡ headState
     at-head =
-        ends-right P input (input-long P input b) (zeros P) false 0 started refl refl refl (taken-back .1) right-kind right-word
-        ∙ ap (λ (k : ℕ). record { stage = DownstreamHead; at = k; records = 0 }) {x = headLength + packetsLength * taken P xs (zeros P) + endLength} {y = i} (omega (arith, i-long, taken-back .0))
+        ends-right P input (begun-length P input b) (input-long P input b) (zeros P) false 0 (started P) refl at-start refl (taken-back .1) right-kind right-word
+        ∙ ap (λ (k : ℕ). record { stage = DownstreamHead; at = k; records = 0 }) {x = headLengthOf P + packetsLength * taken P xs (zeros P) + endLength} {y = i} (omega (arith, i-long, taken-back .0))
 
     -- and what is left of the bytes is what is left of the input
-    left-of : (t : State) → headLength ≤ t .at → rest started t xs ≡ drop (t .at) input
-    left-of t h = drop-drop (t .at - headLength) headLength input ∙ ap (λ (k : ℕ). drop k input) {x = headLength + (t .at - headLength)} {y = t .at} (omega arith)
+    left-of : (t : State) → headLengthOf P ≤ t .at → rest (started P) t xs ≡ drop (t .at) input
+    left-of t h = drop-drop (t .at - headLengthOf P) (headLengthOf P) input ∙ ap (λ (k : ℕ). drop k input) {x = headLengthOf P + (t .at - headLengthOf P)} {y = t .at} (omega arith)
 
-    headed-is : downstreamHeaded P xs (zeros P) (zeros P) started ≡ headStage P file headState
-    headed-is = ap (λ u. headStage P (rest started u xs) u) at-head ∙ ap (λ ys. headStage P ys headState) (left-of headState (omega (arith, i-long)))
+    headed-is : downstreamHeaded P xs (zeros P) (zeros P) (started P) ≡ headStage P file headState
+    headed-is = ap (λ u. headStage P (rest (started P) u xs) u) at-head ∙ ap (λ ys. headStage P ys headState) (left-of headState (omega (arith, i-long)))
 
     -- the head is refused, or more of it is waited for
     head-stops : (t : State) → headStage P file headState ≡ t → isDue true (t .stage) ≡ false → packetsDue (t .stage) ≡ false → nothingDue (t .stage) ≡ false → deskAnswer ≡ finishAnswer (t .stage) (t .at)
     head-stops t e d q z =
         ap (λ s. finishAnswer (s .stage) (s .at))
-        (state-is ∙ after-head-stay P xs (zeros P) (zeros P) started t (headed-is ∙ e) d (end-skips (rest started t xs) t q) z)
+        (state-is ∙ after-head-stay P xs (zeros P) (zeros P) (started P) t (headed-is ∙ e) d (end-skips (rest (started P) t xs) t q) z)
 
-    no-head : isKind headKind (recordAt file 0) ≡ false → deskAnswer ≡ Refused Form i
+    no-head : isHead (recordAt file 0) ≡ false → deskAnswer ≡ Refused Form i
     unfolding headStage
-    no-head e = at (dueOf headKind file) refl
+    no-head e = at (dueHead file) refl
       where
-        at : (d : Due) → dueOf headKind file ≡ d → deskAnswer ≡ Refused Form i
-        at Here q = absurd (true≢false (sym (here-whole headKind file q) ∙ e))
+        at : (d : Due) → dueHead file ≡ d → deskAnswer ≡ Refused Form i
+        at Here q = absurd (true≢false (sym (head-whole file q) ∙ e))
         at NotYet q = head-stops headState (rw q) refl refl refl
         at Other q = head-stops (stopped Form headState) (rw q) refl refl refl
 
-    head-answered : (w : Refusal) (k : ℕ) → isKind headKind (recordAt file 0) ≡ true → downstreamHeadAnswer P (paramsIn file) ≡ Refused w k → deskAnswer ≡ Refused w i
+    head-answered : (w : Refusal) (k : ℕ) → isHead (recordAt file 0) ≡ true → downstreamHeadAnswer P file ≡ Refused w k → deskAnswer ≡ Refused w i
     unfolding headStage
     head-answered w k e q = head-stops (stopped w headState) (rw (head-here file e, q)) refl refl refl
 
     -- the head is right
-    module _ (whole : isKind headKind (recordAt file 0) ≡ true) (same : downstreamHeadAnswer P (paramsIn file) ≡ Done) where
+    module _ (whole : isHead (recordAt file 0) ≡ true) (same : downstreamHeadAnswer P file ≡ Done) where
       abbrev s : State
-      s = record { stage = DownstreamPackets; at = i + headLength; records = 0 }
+      s = record { stage = DownstreamPackets; at = i + headLengthOf P; records = 0 }
 
       abbrev body : List ℕ
-      body = drop headLength file
+      body = drop (headLengthOf P) file
 
-      at-packets : downstreamHeaded P xs (zeros P) (zeros P) started ≡ s
+      at-packets : downstreamHeaded P xs (zeros P) (zeros P) (started P) ≡ s
       unfolding headStage
       at-packets = headed-is ∙ rw (head-here file whole, same)
 
-      body-left : rest started s xs ≡ body
-      body-left = left-of s (omega arith) ∙ sym (drop-drop headLength i input)
+      body-left : rest (started P) s xs ≡ body
+      body-left = left-of s (omega arith) ∙ sym (drop-drop (headLengthOf P) i input)
 
-      into-body : (t : State) → i + headLength ≤ t .at → rest started t xs ≡ rest s t body
+      into-body : (t : State) → i + headLengthOf P ≤ t .at → rest (started P) t xs ≡ rest s t body
       into-body t h =
           left-of t (omega arith)
-          ∙ ap (λ (k : ℕ). drop k input) {x = t .at} {y = i + headLength + (t .at - (i + headLength))} (omega arith)
-          ∙ sym (drop-drop (t .at - (i + headLength)) (i + headLength) input)
-          ∙ ap (drop (t .at - (i + headLength))) (sym (drop-drop headLength i input))
+          ∙ ap (λ (k : ℕ). drop k input) {x = t .at} {y = i + headLengthOf P + (t .at - (i + headLengthOf P))} (omega arith)
+          ∙ sym (drop-drop (t .at - (i + headLengthOf P)) (i + headLengthOf P) input)
+          ∙ ap (drop (t .at - (i + headLengthOf P))) (sym (drop-drop (headLengthOf P) i input))
 
-      file-whole : headLength ≤ length file
-      file-whole = omega (arith, whole-record file 0 headKind whole .1)
+      same-length : headLengthIn file ≡ headLengthOf P
+      same-length = second-length file P same
 
-      at-taken : downstreamTaken P xs (zeros P) (zeros P) started ≡ packetsStage true P body (zeros P) s
-      at-taken = ap (λ u. packetsStage true P (rest started u xs) (zeros P) u) at-packets ∙ ap (λ ys. packetsStage true P ys (zeros P) s) body-left
+      file-whole : headLengthOf P ≤ length file
+      file-whole = second-within file P same whole
+
+      at-taken : downstreamTaken P xs (zeros P) (zeros P) (started P) ≡ packetsStage true P body (zeros P) s
+      at-taken = ap (λ u. packetsStage true P (rest (started P) u xs) (zeros P) u) at-packets ∙ ap (λ ys. packetsStage true P ys (zeros P) s) body-left
 
       abbrev last : State
-      last = streamEnded P file file-whole (zeros P) true i s refl refl refl
+      last = streamEnded P file same-length file-whole (zeros P) true i s refl refl refl
 
-      at-last : downstreamEnded P xs (zeros P) (zeros P) started ≡ last
+      at-last : downstreamEnded P xs (zeros P) (zeros P) (started P) ≡ last
       at-last =
           let t : State = packetsStage true P body (zeros P) s in
-          ap (λ u. endStage (rest started u xs) u) at-taken
-          ∙ ap (λ ys. endStage ys t) (into-body t (omega (arith, taken-at P file file-whole (zeros P) true i s refl refl refl)))
+          ap (λ u. endStage (rest (started P) u xs) u) at-taken
+          ∙ ap (λ ys. endStage ys t) (into-body t (omega (arith, taken-at P file same-length file-whole (zeros P) true i s refl refl refl)))
 
-      ends-by : (t u : State) → last ≡ t → nothingStage (rest started t xs) t ≡ u → deskAnswer ≡ finishAnswer (u .stage) (u .at)
-      ends-by t u e q = ap (λ s. finishAnswer (s .stage) (s .at)) (state-is ∙ ap (λ u. nothingStage (rest started u xs) u) (at-last ∙ e) ∙ q)
-
-      good-same : (goodParams (paramsIn file) && fewEnough (paramsIn file) ≡ true) × (sameParams P (paramsIn file) ≡ true)
-      unfolding downstreamHeadAnswer
-      good-same =
-          let h = refuse-done (not (goodParams (paramsIn file) && fewEnough (paramsIn file))) Param 0 _ same in
-          (not-false _ (h .0), not-false _ (refuse-done (not (sameParams P (paramsIn file))) Mismatch 0 Done (h .1) .0))
+      ends-by : (t u : State) → last ≡ t → nothingStage (rest (started P) t xs) t ≡ u → deskAnswer ≡ finishAnswer (u .stage) (u .at)
+      ends-by t u e q = ap (λ s. finishAnswer (s .stage) (s .at)) (state-is ∙ ap (λ u. nothingStage (rest (started P) u xs) u) (at-last ∙ e) ∙ q)
 
       judged-so : streamAnswer P file (zeros P) ≡ packetsJudged P file (zeros P)
-      judged-so = opened-judged P file whole (good-params P input b) (and-true (goodParams (paramsIn file)) _ (good-same .0) .0) (good-same .1)
+      judged-so = opened-judged P file whole (good-params P input b) (second-good file P same) (second-same file P same)
 
-      by-records : Came P file file-whole (zeros P) true i s refl refl refl → deskAnswer ≡ shifted i (streamAnswer P file (zeros P))
+      by-records : Came P file same-length file-whole (zeros P) true i s refl refl refl → deskAnswer ≡ shifted i (streamAnswer P file (zeros P))
       unfolding nothingStage
       by-records (refused-there w k judged stage at) =
-          ends-by last last refl (nothing-skips (rest started last xs) last (ap nothingDue stage)) ∙ ap₂ finishAnswer stage at ∙ ap (shifted i) (sym (judged-so ∙ judged))
+          ends-by last last refl (nothing-skips (rest (started P) last xs) last (ap nothingDue stage)) ∙ ap₂ finishAnswer stage at ∙ ap (shifted i) (sym (judged-so ∙ judged))
       by-records (unfinished k judged here stage at) =
-          ends-by last last refl (nothing-skips (rest started last xs) last (ap nothingDue stage)) ∙ ap₂ finishAnswer stage at ∙ ap (shifted i) (sym (judged-so ∙ judged))
-      by-records (passed-by done kind said) = at (leb (length (rest started t xs)) 0) refl
+          ends-by last last refl (nothing-skips (rest (started P) last xs) last (ap nothingDue stage)) ∙ ap₂ finishAnswer stage at ∙ ap (shifted i) (sym (judged-so ∙ judged))
+      by-records (passed-by done kind said) = at (leb (length (rest (started P) t xs)) 0) refl
         where
           t : State
-          t = record { stage = Nothing; at = i + headLength + packetsLength * taken P body (zeros P) + endLength; records = 0 }
+          t = record { stage = Nothing; at = i + headLengthOf P + packetsLength * taken P body (zeros P) + endLength; records = 0 }
 
           ends : last ≡ t
-          ends = ends-right P file file-whole (zeros P) true i s refl refl refl done kind said
+          ends = ends-right P file same-length file-whole (zeros P) true i s refl refl refl done kind said
 
-          over : length (rest started t xs) ≡ length input - t .at
+          over : length (rest (started P) t xs) ≡ length input - t .at
           over = ap length (left-of t (omega arith)) ∙ length-drop (t .at) input
 
-          at : (b : Bool) → leb (length (rest started t xs)) 0 ≡ b → deskAnswer ≡ shifted i (streamAnswer P file (zeros P))
+          at : (b : Bool) → leb (length (rest (started P) t xs)) 0 ≡ b → deskAnswer ≡ shifted i (streamAnswer P file (zeros P))
           at true q =
-              let short : length file ≤ packetOffset (packetsFrom 0 body) + endLength = omega (arith, leb-true (length (rest started t xs)) 0 q, over, all-taken P body (zeros P) done .number, length-drop i input) in
-              ends-by t t ends (rw q) ∙ ap (shifted i) (sym (judged-so ∙ all-read P file file-whole (zeros P) true i s refl refl refl done kind said short))
+              let short : length file ≤ packetOffset file (packetsFrom 0 body) + endLength = omega (arith, same-length, leb-true (length (rest (started P) t xs)) 0 q, over, all-taken P body (zeros P) done .number, length-drop i input) in
+              ends-by t t ends (rw q) ∙ ap (shifted i) (sym (judged-so ∙ all-read P file same-length file-whole (zeros P) true i s refl refl refl done kind said short))
           at false q =
-              let long : packetOffset (packetsFrom 0 body) + endLength < length file = omega (arith, leb-false (length (rest started t xs)) 0 q, over, all-taken P body (zeros P) done .number, length-drop i input) in
+              let long : packetOffset file (packetsFrom 0 body) + endLength < length file = omega (arith, same-length, leb-false (length (rest (started P) t xs)) 0 q, over, all-taken P body (zeros P) done .number, length-drop i input) in
               ends-by t (stopped Form t) ends (rw q)
-              ∙ ap (Refused Form) {x = t .at} {y = i + (packetOffset (packetsFrom 0 body) + endLength)} (omega (arith, all-taken P body (zeros P) done .number))
-              ∙ ap (shifted i) (sym (judged-so ∙ more-behind P file file-whole (zeros P) true i s refl refl refl done kind said long))
+              ∙ ap (Refused Form) {x = t .at} {y = i + (packetOffset file (packetsFrom 0 body) + endLength)} (omega (arith, same-length, all-taken P body (zeros P) done .number))
+              ∙ ap (shifted i) (sym (judged-so ∙ more-behind P file same-length file-whole (zeros P) true i s refl refl refl done kind said long))
 
       right-head : deskAnswer ≡ shifted i (streamAnswer P file (zeros P))
-      right-head = by-records (came P file file-whole (zeros P) true i s refl refl refl)
+      right-head = by-records (came P file same-length file-whole (zeros P) true i s refl refl refl)
 
     -- no sooner: at the first byte of the downstream's file
     at-first : {w : Refusal} → deskAnswer ≡ Refused w i → downstreamAnswer P file ≡ Refused w 0 → deskAnswer ≡ shifted i (downstreamAnswer P file)
@@ -306,9 +299,9 @@ module _ (P : Params) (input : List ℕ) (r : Fed) (up down : Sketch) (head : be
     -- the downstream stream is answered as its reader answers it
     pub downstream-answered : deskAnswer ≡ shifted i (downstreamAnswer P (drop i input))
     unfolding downstreamAnswer downstreamHeadAnswer streamAnswer parametersAnswer first
-    downstream-answered = at (isKind headKind (recordAt file 0)) refl (goodParams (paramsIn file)) refl (fewEnough (paramsIn file)) refl (sameParams P (paramsIn file)) refl
+    downstream-answered = at (isHead (recordAt file 0)) refl (goodHead file) refl (fewEnough (paramsIn file)) refl (sameParams P (paramsIn file)) refl
       where
-        at : (h : Bool) → isKind headKind (recordAt file 0) ≡ h → (g : Bool) → goodParams (paramsIn file) ≡ g → (f : Bool) → fewEnough (paramsIn file) ≡ f → (a : Bool) → sameParams P (paramsIn file) ≡ a
+        at : (h : Bool) → isHead (recordAt file 0) ≡ h → (g : Bool) → goodHead file ≡ g → (f : Bool) → fewEnough (paramsIn file) ≡ f → (a : Bool) → sameParams P (paramsIn file) ≡ a
             → deskAnswer ≡ shifted i (downstreamAnswer P file)
         at false h g g' f f' a a' = at-first (no-head h) (rw h)
         at true h false g f f' a a' = at-first (head-answered Param 0 h (rw g)) (rw (h, g))

@@ -1,5 +1,5 @@
 -- A stream file whose body has the bytes of a list at hand: what was taken from the list is what the stream's reader reads, and the other way.
-use mathlib.Core.Path.{_≡_, refl, sym, ap, _∙_}
+use mathlib.Core.Path.{_≡_, sym, ap, _∙_}
 use mathlib.Core.Bool.{true, false, not}
 use mathlib.Core.List.{List}
 use Prim.Native.Nat.{ℕ, _+_, _*_, _≤_, _<_}
@@ -21,8 +21,8 @@ use Rattle.sketch.proofs.Tables.{from-same}
 use Rattle.params.proofs.Judging.{first-passed, refuse-none, refuse-done}
 use Rattle.sketch.proofs.ManyPackets.{after-end}
 use Rattle.files.specs.Bytes.{word}
-use Rattle.files.specs.Records.{bodyLength, recordAt, isKind, offsetOf, packetsKind, endKind, headLength, packetsLength, endLength}
-use Rattle.files.specs.Heads.{paramsIn, isHead, parametersAnswer}
+use Rattle.files.specs.Records.{bodyLength, recordAt, isKind, isHead, offsetOf, packetsKind, endKind, headLengthIn, packetsLength, endLength}
+use Rattle.files.specs.Heads.{headLengthOf, paramsIn, goodHead, parametersAnswer}
 use Rattle.files.specs.Turns.{atOffset, packetFrom, packetOffset, endAnswer}
 use Rattle.files.specs.Fields.{flowField, numberField, recordsField}
 use Rattle.files.proofs.EndStages.{ended}
@@ -47,7 +47,7 @@ module _ (P : Params) where
   fresh-sound k l = rw (getD-replicate (size P) k (pos 0) (pos 0) l, getD-replicate {A = ℕ} (size P) k 0 0 l)
 
 -- so where the head is right, the records decide
-pub opened-judged : (P : Params) (fs : List ℕ) → isHead (recordAt fs 0) ≡ true → goodParams P ≡ true → goodParams (paramsIn fs) ≡ true → sameParams P (paramsIn fs) ≡ true
+pub opened-judged : (P : Params) (fs : List ℕ) → isHead (recordAt fs 0) ≡ true → goodParams P ≡ true → goodHead fs ≡ true → sameParams P (paramsIn fs) ≡ true
     → streamAnswer P fs (zeros P) ≡ packetsJudged P fs (zeros P)
 unfolding streamAnswer parametersAnswer
 opened-judged P fs head good goods alike =
@@ -69,48 +69,48 @@ end-said-done bs at n e =
     record { kind = not-false _ (h .0); said = eqb-true _ _ (not-false _ (k .0)); last = ltb-false _ _ (l .0) }
 
 -- the file fs is a head, n packets and an end, and what stands after the head is what stands in xs
-module _ (P : Params) (fs xs : List ℕ) (n : ℕ) (long : length fs ≡ headLength + (packetsLength * n + endLength)) (room : packetsLength * n + endLength ≤ length xs)
-    (same : (j : ℕ) → j < packetsLength * n + endLength → getD fs (headLength + j) 0 ≡ getD xs j 0) where
-  word-same : (at j : ℕ) → at ≡ headLength + j → j + 4 ≤ packetsLength * n + endLength → word fs at ≡ word xs j
+module _ (P : Params) (fs xs : List ℕ) (n : ℕ) (head : headLengthIn fs ≡ headLengthOf P) (long : length fs ≡ headLengthOf P + (packetsLength * n + endLength)) (room : packetsLength * n + endLength ≤ length xs)
+    (same : (j : ℕ) → j < packetsLength * n + endLength → getD fs (headLengthOf P + j) 0 ≡ getD xs j 0) where
+  word-same : (at j : ℕ) → at ≡ headLengthOf P + j → j + 4 ≤ packetsLength * n + endLength → word fs at ≡ word xs j
   unfolding word
   word-same at j e h =
       let byte : (i : ℕ) → i < 4 → getD fs (at + i) 0 ≡ getD xs (j + i) 0 = λ i l. ap (λ (k : ℕ). getD fs k 0) (omega arith) ∙ same (j + i) (omega arith) in
       let first : getD fs at 0 ≡ getD xs j 0 = ap (λ (k : ℕ). getD fs k 0) e ∙ same j (omega arith) in
       rw (first, byte 1 (omega arith), byte 2 (omega arith), byte 3 (omega arith))
 
-  whole-same : (kind at j : ℕ) → at ≡ headLength + j → 0 < bodyLength kind → j + 1 + bodyLength kind ≤ packetsLength * n + endLength → isKind kind (recordAt xs j) ≡ true → isKind kind (recordAt fs at) ≡ true
+  whole-same : (kind at j : ℕ) → at ≡ headLengthOf P + j → 0 < bodyLength kind → j + 1 + bodyLength kind ≤ packetsLength * n + endLength → isKind kind (recordAt xs j) ≡ true → isKind kind (recordAt fs at) ≡ true
   whole-same kind at j e p h w =
       record-whole fs at kind (ap (λ (k : ℕ). getD fs k 0) e ∙ same j (omega arith) ∙ whole-record xs j kind w .0) p (omega (arith, long))
 
   -- xs has n packets at hand and then an end
   module _ (number : packetsFrom 0 xs ≡ n) (end : isKind endKind (recordAt xs (packetsLength * n)) ≡ true) (said : word xs (packetsLength * n + recordsField) ≡ n) where
-    end-same : isKind endKind (recordAt fs (packetOffset n)) ≡ true
-    end-same = whole-same endKind (packetOffset n) (packetsLength * n) refl (omega arith) (omega arith) end
+    end-same : isKind endKind (recordAt fs (packetOffset fs n)) ≡ true
+    end-same = whole-same endKind (packetOffset fs n) (packetsLength * n) (omega arith) (omega arith) (omega arith) end
 
     number-same : packetsIn fs ≡ n
     number-same =
-        records-are packetsKind packetOffset fs n (omega arith)
-        (λ k l. whole-same packetsKind (packetOffset k) (packetFrom 0 k) (omega arith) (omega arith) (omega arith) (whole-within packetsKind (packetFrom 0) xs k (omega arith)))
-        (not-kind fs (packetOffset n) packetsKind (λ e. omega (arith, whole-record fs (packetOffset n) endKind end-same .0)))
+        records-are packetsKind (packetOffset fs) fs n (omega arith)
+        (λ k l. whole-same packetsKind (packetOffset fs k) (packetFrom 0 k) (omega arith) (omega arith) (omega arith) (whole-within packetsKind (packetFrom 0) xs k (omega arith)))
+        (not-kind fs (packetOffset fs n) packetsKind (λ e. omega (arith, whole-record fs (packetOffset fs n) endKind end-same .0)))
 
-    flow-same : (k : ℕ) → k < n → flowFrom headLength fs k ≡ flowFrom 0 xs k
-    flow-same k l = word-same (packetOffset k + flowField) (packetFrom 0 k + flowField) (omega arith) (omega arith)
+    flow-same : (k : ℕ) → k < n → flowFrom (headLengthIn fs) fs k ≡ flowFrom 0 xs k
+    flow-same k l = word-same (packetOffset fs k + flowField) (packetFrom 0 k + flowField) (omega arith) (omega arith)
 
-    packets-same : (k : ℕ) → k < n → numberFrom headLength fs k ≡ numberFrom 0 xs k
-    packets-same k l = word-same (packetOffset k + numberField) (packetFrom 0 k + numberField) (omega arith) (omega arith)
+    packets-same : (k : ℕ) → k < n → numberFrom (headLengthIn fs) fs k ≡ numberFrom 0 xs k
+    packets-same k l = word-same (packetOffset fs k + numberField) (packetFrom 0 k + numberField) (omega arith) (omega arith)
 
     flows-same : flowsIn fs ≡ flowsFrom 0 xs
     unfolding flowsFrom
     flows-same =
-        ap (λ (m : ℕ). from 0 m (flowFrom headLength fs)) number-same
-        ∙ from-same 0 n (flowFrom headLength fs) (flowFrom 0 xs) (λ j a b. flow-same j (omega arith))
+        ap (λ (m : ℕ). from 0 m (flowFrom (headLengthIn fs) fs)) number-same
+        ∙ from-same 0 n (flowFrom (headLengthIn fs) fs) (flowFrom 0 xs) (λ j a b. flow-same j (omega arith))
         ∙ ap (λ (m : ℕ). from 0 m (flowFrom 0 xs)) (sym number)
 
     numbers-same : numbersIn fs ≡ numbersFrom 0 xs
     unfolding numbersFrom
     numbers-same =
-        ap (λ (m : ℕ). from 0 m (numberFrom headLength fs)) number-same
-        ∙ from-same 0 n (numberFrom headLength fs) (numberFrom 0 xs) (λ j a b. packets-same j (omega arith))
+        ap (λ (m : ℕ). from 0 m (numberFrom (headLengthIn fs) fs)) number-same
+        ∙ from-same 0 n (numberFrom (headLengthIn fs) fs) (numberFrom 0 xs) (λ j a b. packets-same j (omega arith))
         ∙ ap (λ (m : ℕ). from 0 m (numberFrom 0 xs)) (sym number)
 
     module _ (S : Sketch) (done : AllTaken P xs S) where
@@ -122,8 +122,8 @@ module _ (P : Params) (fs xs : List ℕ) (n : ℕ) (long : length fs ≡ headLen
       unfolding packetsJudged
       records-done =
           first-passed _ _ (in-turn-done (packetsIn fs) (packetJudged P fs S) (λ j l. judged-done j (omega (arith, number-same))))
-          ∙ ap (λ (m : ℕ). endAnswer fs (packetOffset m) m) number-same
-          ∙ sym (ended fs (packetOffset n) n end-same (word-same (packetOffset n + recordsField) (packetsLength * n + recordsField) (omega arith) (omega arith) ∙ said) (omega arith))
+          ∙ ap (λ (m : ℕ). endAnswer fs (packetOffset fs m) m) number-same
+          ∙ sym (ended fs (packetOffset fs n) n end-same (word-same (packetOffset fs n + recordsField) (packetsLength * n + recordsField) (omega arith) (omega arith) ∙ said) (omega arith))
 
       all-same : afterTaken P xs S ≡ after P (flowsIn fs) (numbersIn fs) S
       unfolding afterTaken
@@ -132,7 +132,7 @@ module _ (P : Params) (fs xs : List ℕ) (n : ℕ) (long : length fs ≡ headLen
           (after-end P (flowsFrom 0 xs) (numbersFrom 0 xs) (taken P xs S) S (omega (arith, length-flows 0 xs, done .number)) (omega (arith, length-numbers 0 xs, done .number)))
 
     -- so a head with the given parameters makes fs a stream that is read into a fresh sketch
-    pub fed-is-read : isHead (recordAt fs 0) ≡ true → goodParams P ≡ true → goodParams (paramsIn fs) ≡ true → sameParams P (paramsIn fs) ≡ true
+    pub fed-is-read : isHead (recordAt fs 0) ≡ true → goodParams P ≡ true → goodHead fs ≡ true → sameParams P (paramsIn fs) ≡ true
         → takenAnswer P xs (zeros P) ≡ Done → StreamRead P fs (zeros P) Done (afterTaken P xs (zeros P))
     unfolding kept
     fed-is-read head good goods alike done =
@@ -143,7 +143,7 @@ module _ (P : Params) (fs xs : List ℕ) (n : ℕ) (long : length fs ≡ headLen
         }
 
   -- the other way: the stream's reader accepts fs
-  whole-back : (kind at j : ℕ) → at ≡ headLength + j → 0 < bodyLength kind → j + 1 + bodyLength kind ≤ packetsLength * n + endLength → isKind kind (recordAt fs at) ≡ true → isKind kind (recordAt xs j) ≡ true
+  whole-back : (kind at j : ℕ) → at ≡ headLengthOf P + j → 0 < bodyLength kind → j + 1 + bodyLength kind ≤ packetsLength * n + endLength → isKind kind (recordAt fs at) ≡ true → isKind kind (recordAt xs j) ≡ true
   whole-back kind at j e p h w =
       record-whole xs j kind (sym (same j (omega arith)) ∙ ap (λ (k : ℕ). getD fs k 0) (sym e) ∙ whole-record fs at kind w .0) p (omega arith)
 
@@ -151,19 +151,19 @@ module _ (P : Params) (fs xs : List ℕ) (n : ℕ) (long : length fs ≡ headLen
     done : StreamDone P fs (zeros P)
     done = stream-done P fs (zeros P) (sym (read .answer))
 
-    said-so : EndSaid fs (packetOffset n) n
-    said-so = end-said-done fs (packetOffset n) n (ap (λ (k : ℕ). endAnswer fs (packetOffset k) k) (sym are) ∙ done .ended)
+    said-so : EndSaid fs (packetOffset fs n) n
+    said-so = end-said-done fs (packetOffset fs n) n (ap (λ (k : ℕ). endAnswer fs (packetOffset fs k) k) (sym are) ∙ done .ended)
 
     pub end-back : isKind endKind (recordAt xs (packetsLength * n)) ≡ true
-    end-back = whole-back endKind (packetOffset n) (packetsLength * n) refl (omega arith) (omega arith) (said-so .kind)
+    end-back = whole-back endKind (packetOffset fs n) (packetsLength * n) (omega arith) (omega arith) (omega arith) (said-so .kind)
 
     pub said-back : word xs (packetsLength * n + recordsField) ≡ n
-    said-back = sym (word-same (packetOffset n + recordsField) (packetsLength * n + recordsField) (omega arith) (omega arith)) ∙ said-so .said
+    said-back = sym (word-same (packetOffset fs n + recordsField) (packetsLength * n + recordsField) (omega arith) (omega arith)) ∙ said-so .said
 
     number-back : packetsFrom 0 xs ≡ n
     number-back =
         records-are packetsKind (packetFrom 0) xs n (omega arith)
-        (λ k l. whole-back packetsKind (packetOffset k) (packetFrom 0 k) (omega arith) (omega arith) (omega arith) (whole-within packetsKind packetOffset fs k (omega (arith, are))))
+        (λ k l. whole-back packetsKind (packetOffset fs k) (packetFrom 0 k) (omega arith) (omega arith) (omega arith) (whole-within packetsKind (packetOffset fs) fs k (omega (arith, are))))
         (not-kind xs (packetFrom 0 n) packetsKind (λ e. let two : getD xs (packetsLength * n) 0 ≡ packetsKind = ap (λ (k : ℕ). getD xs k 0) (omega arith) ∙ e in omega (arith, two, whole-record xs (packetsLength * n) endKind end-back .0)))
 
     each-accepted : (k : ℕ) → k < packetsFrom 0 xs → recordAnswer P xs (zeros P) k ≡ Done

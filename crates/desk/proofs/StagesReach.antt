@@ -9,14 +9,14 @@ use lib.Dec.{leb}
 use lib.ListN.{length, getD}
 use Rattle.params.specs.declared.params.Params.{Params}
 use Rattle.params.proofs.Searches.{same-either}
-use Rattle.files.specs.Records.{recordAt, isKind, headKind, packetsKind}
+use Rattle.files.specs.Records.{recordAt, isKind, packetsKind}
 use Rattle.desk.proofs.Whole.{whole-record}
 use Rattle.desk.specs.declared.states.Stage.{Stage}
 use Rattle.desk.specs.declared.states.Stage.the-variants.{UpstreamPackets, DownstreamHead, DownstreamPackets, Nothing, Refused as Stopped}
 use Rattle.desk.specs.declared.states.State.{State}
 use Rattle.desk.specs.declared.stages.Due.{Due}
 use Rattle.desk.specs.declared.stages.Due.the-variants.{Here, NotYet, Other}
-use Rattle.desk.specs.Desk.{packetsDue, headDue, dueOf, dueEnd, endState, headState, endStage, headStage, nothingStage, rest}
+use Rattle.desk.specs.Desk.{packetsDue, headDue, dueEnd, dueHead, endState, headState, endStage, headStage, nothingStage, rest}
 use Rattle.desk.proofs.MoreBytes.{notYet}
 use Rattle.desk.proofs.OneRecord.{Moment, into, oneAt, waitsAt}
 use Rattle.desk.proofs.Reaching.{Reaches, stays, by-one, rest-none}
@@ -31,9 +31,9 @@ end-waits bs s = at (dueEnd bs)
     at Here e = absurd (true≢false (sym e))
     at Other e = absurd (true≢false (sym e))
 
-head-waits : (P : Params) (bs : List ℕ) (s : State) → notYet (dueOf headKind bs) ≡ true → headStage P bs s ≡ s
+head-waits : (P : Params) (bs : List ℕ) (s : State) → notYet (dueHead bs) ≡ true → headStage P bs s ≡ s
 unfolding headStage
-head-waits P bs s = at (dueOf headKind bs)
+head-waits P bs s = at (dueHead bs)
   where
     at : (d : Due) → notYet d ≡ true → cond (headDue (s .stage)) (headState d P bs s) s ≡ s
     at NotYet e = same-either (headDue (s .stage)) s
@@ -69,9 +69,9 @@ module _ (P : Params) (bs : List ℕ) (k : Moment) where
 
   pub head-reach : Reaches P bs k (rest (k .state) (headStage P bs (k .state)) bs) (into (headStage P bs (k .state)) k)
   unfolding headStage oneAt waitsAt
-  head-reach = at (k .state .stage) refl (notYet (dueOf headKind bs)) refl
+  head-reach = at (k .state .stage) refl (notYet (dueHead bs)) refl
     where
-      at : (g : Stage) → k .state .stage ≡ g → (y : Bool) → notYet (dueOf headKind bs) ≡ y
+      at : (g : Stage) → k .state .stage ≡ g → (y : Bool) → notYet (dueHead bs) ≡ y
           → Reaches P bs k (rest (k .state) (headStage P bs (k .state)) bs) (into (headStage P bs (k .state)) k)
       at DownstreamHead e true f = unmoved _ (head-waits P bs (k .state) f)
       at DownstreamHead e false f = by-one bs k (into (headStage P bs (k .state)) k) (rw e f) (rw e)

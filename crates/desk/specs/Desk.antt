@@ -13,12 +13,12 @@ use Rattle.params.specs.declared.answers.Answer.{Answer}
 use Rattle.params.specs.declared.answers.Answer.the-variants.{Done, Refused}
 use Rattle.params.specs.Lists.{least}
 use Rattle.params.specs.Answers.{refuseIf, first, kept}
-use Rattle.params.specs.Params.{size, goodParams, sameParams, lentAnswer, obtained}
+use Rattle.params.specs.Params.{size, sameParams, lentAnswer, obtained}
 use Rattle.sketch.specs.Sketch.{Sketch}
 use Rattle.sketch.specs.Packets.{stepAnswer, after}
 use Rattle.files.specs.Bytes.{word}
-use Rattle.files.specs.Records.{recordAt, isKind, headKind, packetsKind, endKind, headLength, packetsLength, endLength}
-use Rattle.files.specs.Heads.{paramsIn, headAnswer}
+use Rattle.files.specs.Records.{recordAt, isKind, packetsKind, endKind, packetsLength, endLength, headKindIn}
+use Rattle.files.specs.Heads.{headLengthOf, paramsIn, goodHead, headAnswer}
 use Rattle.files.specs.Fields.{recordsField}
 use Rattle.streamfile.specs.Streams.{packetsFrom, flowFrom, numberFrom, flowsFrom, numbersFrom}
 use Rattle.desk.specs.declared.states.Stage.{Stage}
@@ -45,9 +45,9 @@ beginOf bs = obtained (beginAnswer bs) (paramsIn bs)
 -- A state says what is due next, at which offset of the whole input, and how many records stood since the head.
 -- Below, bs are the bytes at hand: the first of them is the one at that offset.
 
--- after the first head
-abbrev pub started : State
-started = record { stage = UpstreamPackets; at = headLength; records = 0 }
+-- after the first head, whose parameters are P
+abbrev pub started : Params → State
+started P = record { stage = UpstreamPackets; at = headLengthOf P; records = 0 }
 
 -- refused for what stands next
 abbrev pub stopped : Refusal → State → State
@@ -143,15 +143,19 @@ endState NotYet bs s = s
 endState Other bs s = stopped Form s
 endState Here bs s = cond (eqb (word bs recordsField) (s .records)) (endedState s) (stopped Form s)
 
+-- where a head is due, one of either profile may stand: the one that the first byte says
+unfoldable pub dueHead : List ℕ → Due
+dueHead bs = dueOf (headKindIn bs) bs
+
 -- the downstream head
-unfoldable pub downstreamHeadAnswer : Params → Params → Answer
-downstreamHeadAnswer P Q =
-    refuseIf (not (goodParams Q && fewEnough Q)) Param 0
-    (refuseIf (not (sameParams P Q)) Mismatch 0
+unfoldable pub downstreamHeadAnswer : Params → List ℕ → Answer
+downstreamHeadAnswer P bs =
+    refuseIf (not (goodHead bs && fewEnough (paramsIn bs))) Param 0
+    (refuseIf (not (sameParams P (paramsIn bs))) Mismatch 0
     Done)
 
-abbrev pub headedState : State → State
-headedState s = record { stage = DownstreamPackets; at = s .at + headLength; records = 0 }
+abbrev pub headedState : Params → State → State
+headedState P s = record { stage = DownstreamPackets; at = s .at + headLengthOf P; records = 0 }
 
 abbrev pub answered : Answer → State → State → State
 answered Done s next = next
@@ -160,7 +164,7 @@ answered (Refused w k) s next = stopped w s
 abbrev pub headState : Due → Params → List ℕ → State → State
 headState NotYet P bs s = s
 headState Other P bs s = stopped Form s
-headState Here P bs s = answered (downstreamHeadAnswer P (paramsIn bs)) s (headedState s)
+headState Here P bs s = answered (downstreamHeadAnswer P bs) s (headedState P s)
 
 -- The stages, each where it is due.
 unfoldable pub packetsStage : Bool → Params → List ℕ → Sketch → State → State
@@ -173,7 +177,7 @@ unfoldable pub endStage : List ℕ → State → State
 endStage bs s = cond (packetsDue (s .stage)) (endState (dueEnd bs) bs s) s
 
 unfoldable pub headStage : Params → List ℕ → State → State
-headStage P bs s = cond (headDue (s .stage)) (headState (dueOf headKind bs) P bs s) s
+headStage P bs s = cond (headDue (s .stage)) (headState (dueHead bs) P bs s) s
 
 unfoldable pub nothingStage : List ℕ → State → State
 nothingStage bs s = cond (nothingDue (s .stage) && not (leb (length bs) 0)) (stopped Form s) s

@@ -2,8 +2,7 @@
 ghost use mathlib.Core.Path.{_≡_};
 ghost use mathlib.Core.Bool.{true};
 ghost use Rattle.params.specs.Params.{goodParams};
-ghost use Rattle.files.specs.Records.{recordAt, isKind, headKind};
-ghost use Rattle.files.specs.Heads.{paramsIn};
+ghost use Rattle.files.specs.Records.{recordAt, isHead};
 ghost use Rattle.desk.specs.Desk.{fewEnough, beginOf, downstreamHeadAnswer};
 use files::heads::head;
 use params::Answer;
@@ -22,7 +21,7 @@ fn few_enough(p: Params) -> bool
     p.size() <= MOST_BUCKETS
 }
 
-// Judges the first head of the input, once as many bytes as a head has are at hand, or a first byte that none has, or the input has ended.
+// Judges the first head of the input, once as many bytes are at hand as the head has that its first byte says, or a first byte that none has, or the input has ended.
 pub fn begin(bytes: &[u8]) -> Obtained
     ensures { λ r. ⌜ r ≡ beginOf (now (bytes .entry)) ⌝ }
 {
@@ -40,8 +39,8 @@ pub fn begin(bytes: &[u8]) -> Obtained
 
 // Judges a downstream head that stands first, against the first one's parameters.
 pub(crate) fn judge_downstream_head(p: Params, bytes: &[u8]) -> Answer
-    requires { ⌜ isKind headKind (recordAt (now bytes) 0) ≡ true ⌝ }
-    ensures { λ r. ⌜ r ≡ downstreamHeadAnswer p (paramsIn (now (bytes .entry))) ⌝ }
+    requires { ⌜ isHead (recordAt (now bytes) 0) ≡ true ⌝ }
+    ensures { λ r. ⌜ r ≡ downstreamHeadAnswer p (now (bytes .entry)) ⌝ }
 {
     let h = head(bytes);
     let judged = h.answer;

@@ -2,8 +2,8 @@
 ghost use mathlib.Core.Path.{_≡_};
 ghost use mathlib.Core.Bool.{true};
 ghost use Rattle.sketch.specs.Sketch.{sketch};
-ghost use Rattle.files.specs.Records.{recordAt, isKind, headKind, endKind};
-ghost use Rattle.desk.specs.Desk.{isDue, packetsDue, stageAfter, afterEnd, taken as «taken-of», takenAnswer, afterTaken, dueOf, dueEnd, endState, endStage, headState, headStage, nothingStage, packetsStage, packetsSketch, offsetsFit};
+ghost use Rattle.files.specs.Records.{recordAt, isKind, isHead, endKind};
+ghost use Rattle.desk.specs.Desk.{isDue, packetsDue, stageAfter, afterEnd, taken as «taken-of», takenAnswer, afterTaken, dueOf, dueEnd, dueHead, endState, endStage, headState, headStage, nothingStage, packetsStage, packetsSketch, offsetsFit};
 use crate::heads::judge_downstream_head;
 use crate::states::Stage;
 use crate::states::State;
@@ -12,10 +12,11 @@ use files::fields::End;
 use files::fields::Packets;
 use files::fields::end_at;
 use files::fields::packets_at;
+use files::heads::head_length;
 use files::records::END;
 use files::records::END_LENGTH;
+use files::records::EXTENDED_HEAD;
 use files::records::HEAD;
-use files::records::HEAD_LENGTH;
 use files::records::PACKETS;
 use files::records::PACKETS_LENGTH;
 use files::records::is_kind;
@@ -203,18 +204,34 @@ pub(crate) fn end_stage(s: State, bytes: &[u8]) -> State
     }
 }
 
+// Where a head is due, one of either profile may stand.
+fn due_head(bytes: &[u8]) -> Due
+    ensures { λ r. ⌜ r ≡ dueHead (now (bytes .entry)) ⌝ }
+{
+    if bytes.len() == 0 {
+        return Due::NotYet;
+    }
+    if bytes[0] == EXTENDED_HEAD {
+        return due_of(EXTENDED_HEAD, bytes);
+    }
+    due_of(HEAD, bytes)
+}
+
 // A whole head stands first.
 fn take_head(p: Params, s: State, bytes: &[u8]) -> State
-    requires { ⌜ (isKind headKind (recordAt (now bytes) 0) ≡ true) × (offsetsFit (now bytes) s ≡ true) ⌝ }
+    requires { ⌜ (isHead (recordAt (now bytes) 0) ≡ true) × (offsetsFit (now bytes) s ≡ true) ⌝ }
     ensures { λ r. ⌜ r ≡ headState Due.Here p (now (bytes .entry)) s ⌝ }
 {
     let r = judge_downstream_head(p, bytes);
     match r {
-        Answer::Done => State {
-            stage: Stage::DownstreamPackets,
-            at: s.at + HEAD_LENGTH,
-            records: 0,
-        },
+        Answer::Done => {
+            let length = head_length(p);
+            State {
+                stage: Stage::DownstreamPackets,
+                at: s.at + length,
+                records: 0,
+            }
+        }
         Answer::Refused(refusal, _) => stop(refusal, s),
     }
 }
@@ -228,7 +245,7 @@ pub(crate) fn head_stage(p: Params, s: State, bytes: &[u8]) -> State
     let Stage::DownstreamHead = stage else {
         return s;
     };
-    let d = due_of(HEAD, bytes);
+    let d = due_head(bytes);
     match d {
         Due::NotYet => s,
         Due::Other => stop(Refusal::Form, s),

@@ -4,8 +4,9 @@ ghost use mathlib.Core.Bool.{_&&_};
 ghost use Prim.Native.Nat.{_+_};
 ghost use lib.Dec.{ltb};
 ghost use Rattle.desk.specs.Desk.{started, stopped, stageTurnedDown, turnedDown, finishAnswer};
-use files::records::HEAD_LENGTH;
+use files::heads::head_length;
 use params::Answer;
+use params::Params;
 use params::Refusal;
 
 // What is due next: packets or the end of the upstream stream, the downstream one's head, its packets or end, or nothing more; or
@@ -32,13 +33,14 @@ pub struct Fed {
     pub used: usize,
 }
 
-// The state after the first head.
-pub fn start() -> State
-    ensures { λ r. ⌜ r ≡ started ⌝ }
+// The state after the first head, whose parameters these are.
+pub fn start(p: Params) -> State
+    ensures { λ r. ⌜ r ≡ started p ⌝ }
 {
+    let length = head_length(p);
     State {
         stage: Stage::UpstreamPackets,
-        at: HEAD_LENGTH,
+        at: length,
         records: 0,
     }
 }

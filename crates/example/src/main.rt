@@ -11,12 +11,14 @@ use sums::subtract;
 const ROOM: usize = 21 * LINE_ROOM;
 
 fn main() {
-    // two arrays of five buckets, each with a multiplier and an offset
+    // two arrays of five buckets, each with a multiplier and an offset; no fifth pair, so flows have no fingerprints
     let p = Params {
         d: 2,
         m: 5,
         a: [1, 1073741824, 0, 0],
         b: [0; 4],
+        a5: 0,
+        b5: 0,
     };
     // upstream three packets of flow 7 and two of flow 12 are seen, downstream two of flow 7
     let mut counts = [0i32; 10];

@@ -38,7 +38,7 @@ AllInsertedFor P fs ns S r k S' = AnswerReturned (allAnswer P fs ns S) (λ x. Al
 abbrev pub CombinedFor : Bool → Params → Params → Sketch → Sketch → ℕ → ℕ → Sketch → Type 0
 CombinedFor minus P Q S T r k S' = AnswerReturned (combineAnswer minus P Q S T) (λ x. Combined minus P Q S T x S') r k
 
--- ns are the ten numbers that the caller gets of the folded sketch's parameters
+-- ns are the fourteen numbers that the caller gets of the folded sketch's parameters
 abbrev pub FoldedFor : Params → ℕ → Sketch → ℕ → ℕ → List ℕ → Sketch → Type 0
 FoldedFor P m2 S r k ns S' = ParamsReturned (foldReturns P m2 S) r k ns × Folded P m2 S (foldReturns P m2 S) S'
 
@@ -49,7 +49,7 @@ PositionFor P i f r k n = LocatedReturned (locatedOf (positionAnswer P i f) (pos
 abbrev pub IndexFor : Params → ℕ → ℕ → ℕ → ℕ → ℕ → Type 0
 IndexFor P i f r k n = LocatedReturned (locatedOf (positionAnswer P i f) (index P i f)) r k n
 
--- ns are the ten numbers that the caller gets of the head of the file bs
+-- ns are the fourteen numbers that the caller gets of the head of the file bs
 abbrev pub HeadReadFor : List ℕ → ℕ → ℕ → List ℕ → Type 0
 HeadReadFor bs r k ns = ParamsReturned (headOf bs) r k ns
 

@@ -16,7 +16,7 @@ use streamfile::writing::write_stream;
 #[no_mangle]
 pub extern "C" fn gabunlitik_read_head(
     bytes: &[u8],
-    params: &mut [u32; 10],
+    params: &mut [u32; 14],
     place: &mut usize,
 ) -> u32
     ensures { λ r. ⌜ HeadReadFor (now (bytes .entry)) r (now (place .exit)) (now (params .exit)) ⌝ }
@@ -27,7 +27,7 @@ pub extern "C" fn gabunlitik_read_head(
 // Inserts the packets of a stream file.
 #[no_mangle]
 pub extern "C" fn gabunlitik_read_stream(
-    params: &[u32; 10],
+    params: &[u32; 14],
     counts: &mut [i32],
     idsums: &mut [u32],
     bytes: &[u8],
@@ -42,7 +42,7 @@ pub extern "C" fn gabunlitik_read_stream(
 // Writes the stream file of these flows, each by its number.
 #[no_mangle]
 pub extern "C" fn gabunlitik_write_stream(
-    params: &[u32; 10],
+    params: &[u32; 14],
     flows: &[u32],
     numbers: &[u32],
     out: &mut [u8],
@@ -58,7 +58,7 @@ pub extern "C" fn gabunlitik_write_stream(
 // Reads a sketch file in place of the lent sketch's content.
 #[no_mangle]
 pub extern "C" fn gabunlitik_read_sketch(
-    params: &[u32; 10],
+    params: &[u32; 14],
     counts: &mut [i32],
     idsums: &mut [u32],
     bytes: &[u8],
@@ -73,7 +73,7 @@ pub extern "C" fn gabunlitik_read_sketch(
 // Writes the file of a sketch.
 #[no_mangle]
 pub extern "C" fn gabunlitik_write_sketch(
-    params: &[u32; 10],
+    params: &[u32; 14],
     counts: &[i32],
     idsums: &[u32],
     out: &mut [u8],

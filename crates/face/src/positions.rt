@@ -8,7 +8,7 @@ use crate::returned::wide;
 // The position of a flow in an array, 0 where it is refused; arrays count from 1.
 #[no_mangle]
 pub extern "C" fn gabunlitik_position(
-    params: &[u32; 10],
+    params: &[u32; 14],
     array: u32,
     flow: u32,
     position: &mut usize,
@@ -24,7 +24,7 @@ pub extern "C" fn gabunlitik_position(
 // The index of the flow's bucket there, likewise.
 #[no_mangle]
 pub extern "C" fn gabunlitik_index(
-    params: &[u32; 10],
+    params: &[u32; 14],
     array: u32,
     flow: u32,
     index: &mut usize,

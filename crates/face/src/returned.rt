@@ -1,11 +1,11 @@
-// Parameters from ten numbers, and answers as numbers: C knows neither our structs nor our enums.
+// Parameters from fourteen numbers, and answers as numbers: C knows neither our structs nor our enums.
 ghost use mathlib.Core.Path.{_≡_};
 ghost use Prim.Native.Nat.{_≤_};
 ghost use Rattle.params.specs.Answers.{numberIn, indexIn, locatedNumber, locatedIndex, locatedAt};
 ghost use Rattle.files.specs.Writing.{writtenNumber, writtenIndex, writtenLength};
 ghost use Rattle.walk.specs.Endings.{endingNumber};
 ghost use Rattle.peel.specs.Peel.{peeledNumber, peeledIndex};
-ghost use Rattle.face.specs.Returned.{paramsOf, paramNumbers, figuresIn};
+ghost use Rattle.face.specs.Returned.{paramsOf, paramNumbers, obtainedNumbers, figuresIn};
 use files::writing::Written;
 use params::Answer;
 use params::Located;
@@ -21,10 +21,20 @@ pub(crate) fn wide(n: u32) -> usize
     n as usize
 }
 
-// d, m, the four multipliers, the four offsets.
-pub(crate) fn params_of(params: &[u32; 10]) -> Params
+// The number of the prime; there is one.
+const FIRST_PRIME: u32 = 1;
+
+// d, m, the four multipliers, the four offsets, the prime's number, the fifth pair, and a number that is kept free. Where the prime's number
+// is not 1 or the last number not 0 there are no such parameters, and those that stand for none take their place, which every call refuses.
+pub(crate) fn params_of(params: &[u32; 14]) -> Params
     ensures { λ r. ⌜ r ≡ paramsOf (now (params .entry)) ⌝ }
 {
+    if params[10] != FIRST_PRIME {
+        return Params::none();
+    }
+    if params[13] != 0 {
+        return Params::none();
+    }
     let a = [params[2], params[3], params[4], params[5]];
     let b = [params[6], params[7], params[8], params[9]];
     Params {
@@ -32,11 +42,13 @@ pub(crate) fn params_of(params: &[u32; 10]) -> Params
         m: wide(params[1]),
         a,
         b,
+        a5: params[11],
+        b5: params[12],
     }
 }
 
-// The same ten numbers of parameters whose dimensions are small.
-fn numbers_of(p: Params, numbers: &mut [u32; 10])
+// The same fourteen numbers of parameters whose dimensions are small.
+fn numbers_of(p: Params, numbers: &mut [u32; 14])
     requires { ⌜ (p .d ≤ 4) × (p .m ≤ 16384) ⌝ }
     ensures { λ r. ⌜ now (numbers .exit) ≡ paramNumbers p ⌝ }
 {
@@ -53,6 +65,10 @@ fn numbers_of(p: Params, numbers: &mut [u32; 10])
         b[1],
         b[2],
         b[3],
+        FIRST_PRIME,
+        p.a5,
+        p.b5,
+        0,
     ];
 }
 
@@ -72,12 +88,16 @@ pub(crate) fn return_answer(answer: Answer, place: &mut usize) -> u32
     }
 }
 
-// The same for parameters that a call returns, whose ten numbers go to `numbers`.
-pub(crate) fn return_params(obtained: Obtained, numbers: &mut [u32; 10], place: &mut usize) -> u32
+// The same for parameters that a call returns, whose fourteen numbers go to `numbers`: all 0 where it is refused.
+pub(crate) fn return_params(obtained: Obtained, numbers: &mut [u32; 14], place: &mut usize) -> u32
     requires { ⌜ (obtained .params .d ≤ 4) × (obtained .params .m ≤ 16384) ⌝ }
-    ensures { λ r. ⌜ (r ≡ numberIn (obtained .answer)) × (now (place .exit) ≡ indexIn (obtained .answer)) × (now (numbers .exit) ≡ paramNumbers (obtained .params)) ⌝ }
+    ensures { λ r. ⌜ (r ≡ numberIn (obtained .answer)) × (now (place .exit) ≡ indexIn (obtained .answer)) × (now (numbers .exit) ≡ obtainedNumbers obtained) ⌝ }
 {
     let answer = obtained.answer;
+    let Answer::Done = answer else {
+        *numbers = [0; 14];
+        return return_answer(answer, place);
+    };
     let p = obtained.params;
     numbers_of(p, numbers);
     return_answer(answer, place)

@@ -18,7 +18,7 @@ use sums::subtract;
 // Zeros everywhere, whatever was there.
 #[no_mangle]
 pub extern "C" fn gabunlitik_fresh(
-    params: &[u32; 10],
+    params: &[u32; 14],
     counts: &mut [i32],
     idsums: &mut [u32],
     place: &mut usize,
@@ -32,7 +32,7 @@ pub extern "C" fn gabunlitik_fresh(
 // Puts `number` packets of a flow in.
 #[no_mangle]
 pub extern "C" fn gabunlitik_insert(
-    params: &[u32; 10],
+    params: &[u32; 14],
     counts: &mut [i32],
     idsums: &mut [u32],
     flow: u32,
@@ -48,7 +48,7 @@ pub extern "C" fn gabunlitik_insert(
 // Takes `number` packets of a flow out again.
 #[no_mangle]
 pub extern "C" fn gabunlitik_withdraw(
-    params: &[u32; 10],
+    params: &[u32; 14],
     counts: &mut [i32],
     idsums: &mut [u32],
     flow: u32,
@@ -64,7 +64,7 @@ pub extern "C" fn gabunlitik_withdraw(
 // Puts many packets in, each flow by its number, or none of them.
 #[no_mangle]
 pub extern "C" fn gabunlitik_insert_all(
-    params: &[u32; 10],
+    params: &[u32; 14],
     counts: &mut [i32],
     idsums: &mut [u32],
     flows: &[u32],
@@ -80,8 +80,8 @@ pub extern "C" fn gabunlitik_insert_all(
 // Adds the other sketch to the first, bucket by bucket.
 #[no_mangle]
 pub extern "C" fn gabunlitik_add(
-    params: &[u32; 10],
-    other_params: &[u32; 10],
+    params: &[u32; 14],
+    other_params: &[u32; 14],
     counts: &mut [i32],
     idsums: &mut [u32],
     other_counts: &[i32],
@@ -99,8 +99,8 @@ pub extern "C" fn gabunlitik_add(
 // Takes the other sketch from the first, bucket by bucket.
 #[no_mangle]
 pub extern "C" fn gabunlitik_subtract(
-    params: &[u32; 10],
-    other_params: &[u32; 10],
+    params: &[u32; 14],
+    other_params: &[u32; 14],
     counts: &mut [i32],
     idsums: &mut [u32],
     other_counts: &[i32],
@@ -118,11 +118,11 @@ pub extern "C" fn gabunlitik_subtract(
 // Folds a sketch to m2 buckets an array, and writes its parameters, all 0 where it is refused.
 #[no_mangle]
 pub extern "C" fn gabunlitik_fold(
-    params: &[u32; 10],
+    params: &[u32; 14],
     counts: &mut [i32],
     idsums: &mut [u32],
     m2: u32,
-    folded_params: &mut [u32; 10],
+    folded_params: &mut [u32; 14],
     place: &mut usize,
 ) -> u32
     ensures { λ r. ⌜ FoldedFor (paramsOf (now (params .entry))) m2 (sketch (now (counts .entry)) (now (idsums .entry))) r (now (place .exit)) (now («folded_params» .exit)) (sketch (now (counts .exit)) (now (idsums .exit))) ⌝ }

@@ -9,7 +9,7 @@ use peel::peeling::peel;
 // Peels a sketch into a table and returns in `figures` the ending's number, the entries, the packets lost, those extra and the pops, in this order.
 #[no_mangle]
 pub extern "C" fn gabunlitik_peel(
-    params: &[u32; 10],
+    params: &[u32; 14],
     counts: &mut [i32],
     idsums: &mut [u32],
     table_flows: &mut [u32],

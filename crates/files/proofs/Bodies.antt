@@ -1,12 +1,12 @@
 -- Bodies: their length is the one that their kind fixes, and what stands in a body stands in the file, after the kind byte.
-use mathlib.Core.Path.{_≡_, refl, sym, ap, _∙_}
+use mathlib.Core.Path.{_≡_, refl, ap, ap₂, _∙_}
 use mathlib.Core.Bool.{Bool, true, false, cond, false≢true}
 use mathlib.Core.List.{List, [], _∷_}
 use Prim.Native.Nat.{ℕ, _+_, _-_, _≤_, _<_}
 use native.Mathlib.Omega.{arith}
 use borrow.Author.Tests.{eqb-true, eq-eqb, ne-eqb}
 use lib.Dec.{eqb}
-use lib.ListN.{getD, length, take, drop, length-drop}
+use lib.ListN.{getD, length, take, drop, length-drop, length-take, List·getD-eq-default}
 use lib.Seq.{getD-take, getD-drop, length-take-le}
 use Rattle.params.specs.declared.params.Params.{Params}
 use Rattle.files.specs.declared.records.Record.{Record}
@@ -15,7 +15,7 @@ use Rattle.files.specs.declared.fields.Packets.the-variants.{Of as Packe
 use Rattle.files.specs.declared.fields.Bucket.the-variants.{Of as BucketOf, No as NoBucket}
 use Rattle.files.specs.declared.fields.End.the-variants.{Of as EndOf, No as NoEnd}
 use Rattle.files.specs.Bytes.{word, countOf}
-use Rattle.files.specs.Records.{bodyLength, recordAt, isKind, bodyOf, bodyStart, bodyFrom, bodyOfKind, Body, KindBody, headKind, packetsKind, bucketKind, endKind}
+use Rattle.files.specs.Records.{bodyLength, recordAt, isKind, bodyOf, bodyStart, bodyFrom, bodyOfKind, Body, KindBody, headKind, extendedHeadKind, packetsKind, bucketKind, endKind}
 use Rattle.files.specs.Heads.{paramsInBody, paramsIn}
 use Rattle.files.specs.Layout.{packetsInBody, packetsAt, bucketInBody, bucketAt, endInBody, endAt}
 use Rattle.files.specs.Fields.{flowField, numberField, indexField, countField, idsumField, recordsField, arraysField, bucketsField, multiplierField, offsetField, arraysInBody, bucketsInBody, multiplierInBody, offsetInBody}
@@ -123,28 +123,58 @@ module _ (bs : List ℕ) (at : ℕ) where
       go true e = rw (kind-body endKind bs at e, word-in-body endKind bs at 0 (omega arith))
       go false e = refl
 
--- the parameters in a head, by the bytes of the file
-abbrev pub paramsFields : List ℕ → Params
-paramsFields bs =
+-- a number that would stand past the end of a body reads as 0
+pub word-past : (xs : List ℕ) (i : ℕ) → length xs ≤ i → word xs i ≡ 0
+unfolding word
+word-past xs i h =
+    let byte : (j : ℕ) → getD xs (i + j) 0 ≡ 0 = λ j. List·getD-eq-default xs 0 {n = i + j} (omega arith) in
+    rw (List·getD-eq-default xs 0 {n = i} h, byte 1, byte 2, byte 3)
+
+-- the parameters in a head, by the bytes of the file; x and y are the fifth pair
+abbrev pub paramsFields : List ℕ → ℕ → ℕ → Params
+paramsFields bs x y =
     record {
       d = getD bs arraysField 0;
       m = word bs bucketsField;
       a = word bs (multiplierField 0) ∷ word bs (multiplierField 1) ∷ word bs (multiplierField 2) ∷ word bs (multiplierField 3) ∷ [];
       b = word bs (offsetField 0) ∷ word bs (offsetField 1) ∷ word bs (offsetField 2) ∷ word bs (offsetField 3) ∷ [];
+      a5 = x;
+      b5 = y;
     }
 
-pub params-fields : (bs : List ℕ) → paramsIn bs ≡ paramsFields bs
-unfolding paramsIn paramsInBody
-params-fields bs =
-    rw (
-      byte-in-body headKind bs 0 arraysInBody (omega arith),
-      word-in-body headKind bs 0 bucketsInBody (omega arith),
-      word-in-body headKind bs 0 (multiplierInBody 0) (omega arith),
-      word-in-body headKind bs 0 (multiplierInBody 1) (omega arith),
-      word-in-body headKind bs 0 (multiplierInBody 2) (omega arith),
-      word-in-body headKind bs 0 (multiplierInBody 3) (omega arith),
-      word-in-body headKind bs 0 (offsetInBody 0) (omega arith),
-      word-in-body headKind bs 0 (offsetInBody 1) (omega arith),
-      word-in-body headKind bs 0 (offsetInBody 2) (omega arith),
-      word-in-body headKind bs 0 (offsetInBody 3) (omega arith),
-    )
+module _ (bs : List ℕ) where
+  four-fields : (k : ℕ) → bodyLength headKind ≤ bodyLength k
+      → paramsInBody (bodyFrom k bs 0) ≡ paramsFields bs (word (bodyFrom k bs 0) (multiplierInBody 4)) (word (bodyFrom k bs 0) (offsetInBody 4))
+  unfolding paramsInBody
+  four-fields k l =
+      rw (
+        byte-in-body k bs 0 arraysInBody (omega arith),
+        word-in-body k bs 0 bucketsInBody (omega arith),
+        word-in-body k bs 0 (multiplierInBody 0) (omega arith),
+        word-in-body k bs 0 (multiplierInBody 1) (omega arith),
+        word-in-body k bs 0 (multiplierInBody 2) (omega arith),
+        word-in-body k bs 0 (multiplierInBody 3) (omega arith),
+        word-in-body k bs 0 (offsetInBody 0) (omega arith),
+        word-in-body k bs 0 (offsetInBody 1) (omega arith),
+        word-in-body k bs 0 (offsetInBody 2) (omega arith),
+        word-in-body k bs 0 (offsetInBody 3) (omega arith),
+      )
+
+  -- a head of kind 1 has no fifth pair, one of kind 10 has
+  plain-past : (i : ℕ) → bodyLength headKind ≤ i → word (bodyFrom headKind bs 0) i ≡ 0
+  unfolding bodyFrom
+  plain-past i l = word-past (take (bodyLength headKind) (drop 1 bs)) i (omega (arith, length-take (bodyLength headKind) (drop 1 bs)))
+
+  pub plain-fields : getD bs 0 0 ≡ headKind → paramsIn bs ≡ paramsFields bs 0 0
+  unfolding paramsIn
+  plain-fields e =
+      ap (λ (k : ℕ). paramsInBody (bodyFrom k bs 0)) e
+      ∙ four-fields headKind (omega arith)
+      ∙ ap₂ (paramsFields bs) (plain-past (multiplierInBody 4) (omega arith)) (plain-past (offsetInBody 4) (omega arith))
+
+  pub extended-fields : getD bs 0 0 ≡ extendedHeadKind → paramsIn bs ≡ paramsFields bs (word bs (multiplierField 4)) (word bs (offsetField 4))
+  unfolding paramsIn
+  extended-fields e =
+      ap (λ (k : ℕ). paramsInBody (bodyFrom k bs 0)) e
+      ∙ four-fields extendedHeadKind (omega arith)
+      ∙ ap₂ (paramsFields bs) (word-in-body extendedHeadKind bs 0 (multiplierInBody 4) (omega arith)) (word-in-body extendedHeadKind bs 0 (offsetInBody 4) (omega arith))

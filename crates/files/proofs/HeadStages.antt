@@ -1,12 +1,11 @@
--- The stages of a head: no head, parameters that break a rule, and a head that says something; and of what is judged with it.
+-- The stages of a head: no head, one that is not good, and a head that says something; and of what is judged with it.
 use mathlib.Core.Path.{_≡_, refl, sym, ap, _∙_}
 use mathlib.Core.Bool.{Bool, true, false, not, _&&_}
+use mathlib.Core.Logic.{_⊎_, inl, inr, ⊎-elim}
 use mathlib.Core.List.{List}
 use Prim.Native.Nat.{ℕ}
-use native.Mathlib.Omega.{arith}
-use borrow.Author.Tests.{eq-eqb, ne-eqb}
-use lib.Dec.{eqb}
-use lib.ListN.{length}
+use borrow.Author.Tests.{eq-eqb, eqb-true}
+use lib.ListN.{getD, length}
 use Rattle.params.specs.declared.answers.Refusal.the-variants.{Param, Mismatch, Form}
 use Rattle.params.specs.declared.params.Params.{Params}
 use Rattle.params.specs.declared.params.Obtained.{Obtained}
@@ -14,38 +13,46 @@ use Rattle.params.specs.declared.answers.Answer.{Answer}
 use Rattle.params.specs.declared.answers.Answer.the-variants.{Done, Refused}
 use Rattle.params.specs.Answers.{refuseIf, first, kept}
 use Rattle.params.specs.Params.{noneObtained, goodParams, sameParams, lengthsAnswer}
+use Rattle.params.proofs.Searches.{and-true}
 use Rattle.params.proofs.Judging.{Refuses, first-refused, first-passed}
-use Rattle.files.specs.Records.{bodyLength, recordAt, bodyOfKind, headKind}
-use Rattle.files.specs.Heads.{paramsInBody, paramsIn, isHead, headAnswer, headOf, parametersAnswer}
-use Rattle.files.proofs.Bodies.{kind-body, body-decides}
+use Rattle.files.specs.Records.{bodyLength, recordAt, isKind, isHead, bodyOf, bodyFrom, Body, headKind, extendedHeadKind}
+use Rattle.files.specs.Heads.{headKindOf, paramsInBody, paramsIn, goodHead, headAnswer, headOf, parametersAnswer}
+use Rattle.files.proofs.Standing.{kind-stands, head-kinds}
+use Rattle.files.proofs.Bodies.{body-there, body-long}
 
 module _ (bs : List ℕ) where
   pub not-a-head : isHead (recordAt bs 0) ≡ false → noneObtained (Refused Form 0) ≡ headOf bs
   unfolding headAnswer kept
   not-a-head e = rw e
 
-  pub bad-params : isHead (recordAt bs 0) ≡ true → goodParams (paramsIn bs) ≡ false → noneObtained (Refused Param 0) ≡ headOf bs
+  pub bad-head : isHead (recordAt bs 0) ≡ true → goodHead bs ≡ false → noneObtained (Refused Param 0) ≡ headOf bs
   unfolding headAnswer kept
-  bad-params e g = rw (e, g)
+  bad-head e g = rw (e, g)
 
-  pub good-head : isHead (recordAt bs 0) ≡ true → goodParams (paramsIn bs) ≡ true → _≡_ {A = Obtained} (record { answer = Done; params = paramsIn bs }) (headOf bs)
+  pub good-head : isHead (recordAt bs 0) ≡ true → goodHead bs ≡ true → _≡_ {A = Obtained} (record { answer = Done; params = paramsIn bs }) (headOf bs)
   unfolding headAnswer kept
   good-head e g = rw (e, g)
 
-  -- what the body that a reader gets says: no head stands there, or a whole one
-  module _ {xs : List ℕ} (e : xs ≡ bodyOfKind headKind bs 0) where
-    decides : eqb (length xs) (bodyLength headKind) ≡ isHead (recordAt bs 0)
-    decides = ap (λ (ys : List ℕ). eqb (length ys) (bodyLength headKind)) e ∙ body-decides headKind bs 0 (omega arith)
+  -- a good head keeps the rules, and its kind is that of its profile
+  pub rules-kept : goodParams (paramsIn bs) ≡ true → getD bs 0 0 ≡ headKindOf (paramsIn bs) → goodHead bs ≡ true
+  unfolding goodHead
+  rules-kept g e = rw g (eq-eqb _ _ e)
 
-    pub no-body : (length xs ≡ bodyLength headKind → ⊥) → isHead (recordAt bs 0) ≡ false
-    no-body n = sym decides ∙ ne-eqb (length xs) (bodyLength headKind) n
+  pub good-parts : goodHead bs ≡ true → (goodParams (paramsIn bs) ≡ true) × (getD bs 0 0 ≡ headKindOf (paramsIn bs))
+  unfolding goodHead
+  good-parts e = let h = and-true (goodParams (paramsIn bs)) _ e in (h .0, eqb-true _ _ (h .1))
 
-    pub whole-body : length xs ≡ bodyLength headKind → isHead (recordAt bs 0) ≡ true
-    whole-body l = sym decides ∙ eq-eqb (length xs) (bodyLength headKind) l
+  -- the body of a whole head, h being what the contract of `body` gives: how long it is, and that its parameters are the file's
+  module _ {whole part : ℕ × ℕ} {xs : List ℕ} (h : Body 0 whole bs part xs) (e : isHead (recordAt bs 0) ≡ true) where
+    pub head-body-long : (length xs ≡ bodyLength headKind) ⊎ (length xs ≡ bodyLength extendedHeadKind)
+    head-body-long = ⊎-elim (λ k. inl (body-long headKind h k)) (λ k. inr (body-long extendedHeadKind h k)) (head-kinds bs 0 e)
 
-    pub body-params : length xs ≡ bodyLength headKind → paramsInBody xs ≡ paramsIn bs
+    pub body-params : paramsInBody xs ≡ paramsIn bs
     unfolding paramsIn
-    body-params l = ap paramsInBody (e ∙ kind-body headKind bs 0 (whole-body l))
+    body-params = ap paramsInBody (h .content ∙ ⊎-elim (there headKind) (there extendedHeadKind) (head-kinds bs 0 e))
+      where
+        there : (k : ℕ) → isKind k (recordAt bs 0) ≡ true → bodyOf (recordAt bs 0) 0 bs ≡ bodyFrom (getD bs 0 0) bs 0
+        there k q = body-there k bs 0 q ∙ ap (λ (n : ℕ). bodyFrom n bs 0) (kind-stands k bs 0 q .kind)
 
 -- what is judged first is the head, then what is given
 module _ (P : Params) (bs : List ℕ) where
@@ -57,7 +64,7 @@ module _ (P : Params) (bs : List ℕ) where
 
   head-then-given : parametersAnswer P bs ≡ first (headAnswer bs) givenAnswer
   unfolding parametersAnswer headAnswer first
-  head-then-given = go (isHead (recordAt bs 0)) (goodParams (paramsIn bs))
+  head-then-given = go (isHead (recordAt bs 0)) (goodHead bs)
     where
       go : (h g : Bool)
           → refuseIf (not h) Form 0 (refuseIf (not (g && goodParams P)) Param 0 (refuseIf (not (sameParams P (paramsIn bs))) Mismatch 0 Done))

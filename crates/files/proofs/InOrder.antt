@@ -23,8 +23,8 @@ use Rattle.files.specs.declared.records.Record.the-variants.{Whole, Cut,
 use Rattle.files.specs.declared.writing.Written.{Written}
 use Rattle.files.specs.declared.writing.Written.the-variants.{Refused as NotWritten}
 use Rattle.files.specs.Bytes.{word}
-use Rattle.files.specs.Records.{bodyLength, recordAt, isKind, offsetOf, recordNumber, recordOffset, endKind, endLength}
-use Rattle.files.specs.Heads.{paramsIn, isHead, parametersAnswer}
+use Rattle.files.specs.Records.{bodyLength, recordAt, isKind, isHead, offsetOf, recordNumber, recordOffset, endKind, endLength}
+use Rattle.files.specs.Heads.{paramsIn, goodHead, parametersAnswer}
 use Rattle.files.specs.Turns.{endAnswer}
 use Rattle.files.specs.Writing.{writtenOf, writtenNumber, writtenIndex, writtenLength}
 use Rattle.files.proofs.HeadStages.{openingAnswer}
@@ -40,7 +40,7 @@ module _ (P : Params) (bs : List ℕ) (c s : ℕ) where
   abbrev inOrder : Answer
   inOrder =
       refuseIf (not (isHead (recordAt bs 0))) Form 0
-      (refuseIf (not (goodParams (paramsIn bs) && goodParams P)) Param 0
+      (refuseIf (not (goodHead bs && goodParams P)) Param 0
       (refuseIf (not (sameParams P (paramsIn bs))) Mismatch 0
       (lengthsAnswer P c s)))
 
@@ -59,7 +59,7 @@ module _ (P : Params) (bs : List ℕ) (c s : ℕ) where
   opening-index =
       ap indexIn opening-is
       ∙ refuse-start (not (isHead (recordAt bs 0))) Form _
-      (refuse-start (not (goodParams (paramsIn bs) && goodParams P)) Param _
+      (refuse-start (not (goodHead bs && goodParams P)) Param _
       (refuse-start (not (sameParams P (paramsIn bs))) Mismatch _
       (refuse-start (not (eqb c (size P) && eqb s (size P))) Length Done refl)))
 

@@ -1,5 +1,6 @@
 -- The laws of records, heads, counts and ends, read and written, which the proofs of this crate and of those above it cite.
 pub mod Standing
+pub mod Profiles
 pub mod Bodies
 pub mod HeadStages
 pub mod RoundTrips

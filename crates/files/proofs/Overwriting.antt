@@ -20,13 +20,11 @@ use Rattle.files.specs.declared.writing.Written.the-variants.{Bytes, Ref
 use Rattle.files.specs.Bytes.{wordBytes, overwritten}
 use Rattle.files.specs.Layout.{headBytes, endBytes}
 use Rattle.files.specs.Writing.{written, writtenOf}
-use Rattle.files.specs.Records.{headLength, endLength}
+use Rattle.files.specs.Records.{endLength}
+use Rattle.files.specs.Heads.{headLengthOf}
+use Rattle.files.proofs.Profiles.{length-headBytes}
 
--- how long a head and an end are
-pub length-headBytes : (P : Params) → length (headBytes P) ≡ headLength
-unfolding headBytes wordBytes
-length-headBytes P = refl
-
+-- how long an end is
 pub length-endBytes : (n : ℕ) → length (endBytes n) ≡ endLength
 unfolding endBytes wordBytes
 length-endBytes n = refl
@@ -95,19 +93,19 @@ written-next xs ys rest goal at next e w h l =
     ap (λ n. overwritten n next rest) (w ∙ written-whole xs ys at h) ∙ overwritten-then xs ys rest at next (omega arith) l ∙ e
 
 -- a file: a head, records, an end
-pub length-file : (P : Params) (records : List ℕ) (n : ℕ) → length (headBytes P ++ (records ++ endBytes n)) ≡ headLength + length records + endLength
+pub length-file : (P : Params) (records : List ℕ) (n : ℕ) → length (headBytes P ++ (records ++ endBytes n)) ≡ headLengthOf P + length records + endLength
 length-file P records n =
     omega (arith, length-append (headBytes P) (records ++ endBytes n), length-append records (endBytes n), length-headBytes P, length-endBytes n)
 
-pub overwritten-file : (P : Params) (out records : List ℕ) (n at : ℕ) {headed full last : List ℕ} → goodParams P ≡ true → at ≡ headLength + length records → at + endLength ≤ length out
-    → headed ≡ cond (goodParams P) (written out 0 (headBytes P)) out → full ≡ overwritten headed headLength records → last ≡ written full at (endBytes n)
+pub overwritten-file : (P : Params) (out records : List ℕ) (n start at : ℕ) {headed full last : List ℕ} → goodParams P ≡ true → start ≡ headLengthOf P → at ≡ start + length records → at + endLength ≤ length out
+    → headed ≡ cond (goodParams P) (written out 0 (headBytes P)) out → full ≡ overwritten headed start records → last ≡ written full at (endBytes n)
     → last ≡ overwritten out 0 (headBytes P ++ (records ++ endBytes n))
-overwritten-file P out records n at {headed} {full} good e h a b c =
-    let start = length-headBytes P in
+overwritten-file P out records n start at {headed} {full} good s e h a b c =
+    let first = length-headBytes P in
     let end = length-endBytes n in
     let before = length-append (headBytes P) records in
     let head : headed ≡ overwritten out 0 (headBytes P) = a ∙ rw good (written-whole out (headBytes P) 0 (omega arith)) in
-    let filled : full ≡ overwritten out 0 (headBytes P ++ records) = overwritten-next out (headBytes P) records 0 headLength head b (omega arith) (omega arith) in
+    let filled : full ≡ overwritten out 0 (headBytes P ++ records) = overwritten-next out (headBytes P) records 0 start head b (omega arith) (omega arith) in
     let long : length full ≡ length out = ap length filled ∙ length-overwritten out (headBytes P ++ records) 0 (omega arith) in
     overwritten-next out (headBytes P ++ records) (endBytes n) 0 at filled (c ∙ written-whole full (endBytes n) at (omega arith)) (omega arith) (omega arith)
     ∙ ap (overwritten out 0) (append-assoc (headBytes P) records (endBytes n))

@@ -1,6 +1,7 @@
 -- What stands at an offset: a whole record by its parts, and what holds where there is none.
 use mathlib.Core.Path.{_≡_, refl, sym, ap, _∙_}
-use mathlib.Core.Bool.{Bool, true, false, cond, false≢true}
+use mathlib.Core.Bool.{Bool, true, false, cond, _||_, false≢true}
+use mathlib.Core.Logic.{_⊎_, inl, inr, ⊎-elim}
 use mathlib.Core.List.{List, [], _∷_}
 use Prim.Native.Nat.{ℕ, _+_, _-_, _≤_, _<_}
 use native.Mathlib.Omega.{arith}
@@ -11,7 +12,7 @@ use lib.Dec.{eqb, leb}
 use lib.ListN.{getD, length}
 use Rattle.files.specs.declared.records.Record.{Record}
 use Rattle.files.specs.declared.records.Record.the-variants.{Whole, Cut, Unknown, Missing}
-use Rattle.files.specs.Records.{bodyLength, recordAt, isKind, bodyOf, bodyStart}
+use Rattle.files.specs.Records.{bodyLength, recordLength, headLengthIn, recordAt, isKind, isHead, bodyOf, bodyStart, headKind, extendedHeadKind}
 use Rattle.files.proofs.records.Record.{the-type}
 
 -- a whole record: its kind, and that it ends within the file
@@ -72,3 +73,39 @@ kind-ends k bs at e = kind-stands k bs at e .within
 pub nothing-stands : (bs : List ℕ) (at : ℕ) → length bs ≤ at → recordAt bs at ≡ Missing
 unfolding recordAt
 nothing-stands bs at h = rw (le-leb (length bs) at h)
+
+-- a whole head is of one kind or of the other
+one-holds : (s t : Bool) → (s || t) ≡ true → (s ≡ true) ⊎ (t ≡ true)
+one-holds true t e = inl refl
+one-holds false t e = inr e
+
+module _ (bs : List ℕ) where
+  pub head-kinds : (at : ℕ) → isHead (recordAt bs at) ≡ true → (isKind headKind (recordAt bs at) ≡ true) ⊎ (isKind extendedHeadKind (recordAt bs at) ≡ true)
+  head-kinds at e = one-holds (isKind headKind (recordAt bs at)) _ e
+
+  -- the one that its first byte says
+  pub head-is-kind : (at : ℕ) → isHead (recordAt bs at) ≡ true → isKind (getD bs at 0) (recordAt bs at) ≡ true
+  head-is-kind at e = ⊎-elim (same headKind) (same extendedHeadKind) (head-kinds at e)
+    where
+      same : (k : ℕ) → isKind k (recordAt bs at) ≡ true → isKind (getD bs at 0) (recordAt bs at) ≡ true
+      same k h = ap (λ (j : ℕ). isKind j (recordAt bs at)) (sym (kind-stands k bs at h .kind)) ∙ h
+
+  pub head-inside : (at : ℕ) → isHead (recordAt bs at) ≡ true → at < length bs
+  head-inside at e = kind-stands (getD bs at 0) bs at (head-is-kind at e) .inside
+
+  -- one of kind 10 is longer than one of kind 1
+  pub plain-long : getD bs 0 0 ≡ headKind → headLengthIn bs ≡ recordLength headKind
+  unfolding headLengthIn
+  plain-long e = rw e
+
+  pub extended-long : getD bs 0 0 ≡ extendedHeadKind → headLengthIn bs ≡ recordLength extendedHeadKind
+  unfolding headLengthIn
+  extended-long e = rw e
+
+  -- and ends within the file
+  pub head-within : isHead (recordAt bs 0) ≡ true → headLengthIn bs ≤ length bs
+  head-within e =
+      ⊎-elim
+      (λ h. let s = kind-stands headKind bs 0 h in omega (arith, s .within, plain-long (sym (s .kind))))
+      (λ h. let s = kind-stands extendedHeadKind bs 0 h in omega (arith, s .within, extended-long (sym (s .kind))))
+      (head-kinds 0 e)

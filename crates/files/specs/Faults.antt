@@ -7,8 +7,8 @@ use Rattle.params.specs.declared.params.Params.{Params}
 use Rattle.params.specs.declared.answers.Refusal.{Refusal}
 use Rattle.params.specs.declared.answers.Refusal.the-variants.{Param, Length, Flow, Count, Damage, Range, Mismatch, Form, Fold}
 use Rattle.params.specs.Params.{size, goodParams, sameParams}
-use Rattle.files.specs.Records.{recordAt}
-use Rattle.files.specs.Heads.{paramsIn, isHead}
+use Rattle.files.specs.Records.{recordAt, isHead}
+use Rattle.files.specs.Heads.{paramsIn, goodHead}
 
 -- what is judged before the records, in this order: the head, the parameters in it and those that are given, whether they differ, and the lent lengths
 abbrev pub openingOrder : List Refusal
@@ -16,7 +16,7 @@ openingOrder = Form ∷ Param ∷ Mismatch ∷ Length ∷ []
 
 abbrev pub openingFault : Params → List ℕ → ℕ → ℕ → Refusal → Bool
 openingFault P bs c s Form = not (isHead (recordAt bs 0))
-openingFault P bs c s Param = not (goodParams (paramsIn bs) && goodParams P)
+openingFault P bs c s Param = not (goodHead bs && goodParams P)
 openingFault P bs c s Mismatch = not (sameParams P (paramsIn bs))
 openingFault P bs c s Length = not (eqb c (size P) && eqb s (size P))
 openingFault P bs c s Flow = false

@@ -40,7 +40,7 @@ recordsInBody = 0
 abbrev pub recordsField : ℕ
 recordsField = 1 + recordsInBody
 
--- a head: d, m, and pair i, counted from 0, a multiplier and an offset
+-- a head: d, m, and pair i, counted from 0, a multiplier and an offset; the fifth pair, of number 4, stands in a head of kind 10 alone
 abbrev pub arraysInBody : ℕ
 arraysInBody = 0
 

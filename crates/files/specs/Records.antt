@@ -1,5 +1,5 @@
 -- Records: one byte of kind, then a body whose length the kind fixes.
-use mathlib.Core.Bool.{Bool, false, cond}
+use mathlib.Core.Bool.{Bool, false, cond, _||_}
 use mathlib.Core.Path.{_≡_}
 use mathlib.Core.List.{List, []}
 use Prim.Native.Nat.{ℕ, _+_, _-_}
@@ -10,7 +10,7 @@ use Rattle.params.specs.Answers.{numberOf}
 use Rattle.files.specs.declared.records.Record.{Record}
 use Rattle.files.specs.declared.records.Record.the-variants.{Whole, Cut, Unknown, Missing}
 
--- the kinds
+-- the kinds: a head of the plain profile, packets, a bucket, an end, and a head with the fifth pair
 abbrev pub headKind : ℕ
 headKind = 1
 
@@ -23,20 +23,28 @@ bucketKind = 3
 abbrev pub endKind : ℕ
 endKind = 4
 
+abbrev pub extendedHeadKind : ℕ
+extendedHeadKind = 10
+
 -- how many bytes a body of a kind has; 0 for a kind that is not known
 abbrev pub bodyLength : ℕ → ℕ
 bodyLength k =
     cond (eqb k headKind) 37
     (cond (eqb k packetsKind) 8
     (cond (eqb k bucketKind) 12
-    (cond (eqb k endKind) 4 0)))
+    (cond (eqb k endKind) 4
+    (cond (eqb k extendedHeadKind) 45 0))))
 
 -- and a whole record
 abbrev pub recordLength : ℕ → ℕ
 recordLength k = 1 + bodyLength k
 
-abbrev pub headLength : ℕ
-headLength = recordLength headKind
+-- the kind of the head in a file, by its first byte, and its length
+abbrev pub headKindIn : List ℕ → ℕ
+headKindIn bs = cond (eqb (getD bs 0 0) extendedHeadKind) extendedHeadKind headKind
+
+unfoldable pub headLengthIn : List ℕ → ℕ
+headLengthIn bs = recordLength (headKindIn bs)
 
 abbrev pub packetsLength : ℕ
 packetsLength = recordLength packetsKind
@@ -61,6 +69,10 @@ isKind k (Whole j next) = eqb j k
 isKind k Cut = false
 isKind k Unknown = false
 isKind k Missing = false
+
+-- a whole head of either profile stands there
+abbrev pub isHead : Record → Bool
+isHead r = isKind headKind r || isKind extendedHeadKind r
 
 -- the offset that goes with a fault of a record: its kind byte, or the file's length where it is due and missing
 abbrev pub offsetOf : List ℕ → ℕ → ℕ

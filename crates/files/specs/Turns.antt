@@ -10,7 +10,7 @@ use Rattle.params.specs.declared.answers.Answer.the-variants.{Done, Refused}
 use Rattle.params.specs.Lists.{least}
 use Rattle.params.specs.Answers.{refuseIf, first}
 use Rattle.files.specs.Bytes.{word}
-use Rattle.files.specs.Records.{recordAt, isKind, offsetOf, endKind, headLength, packetsLength, bucketLength, endLength}
+use Rattle.files.specs.Records.{recordAt, isKind, offsetOf, endKind, headLengthIn, packetsLength, bucketLength, endLength}
 use Rattle.files.specs.Fields.{recordsField}
 
 -- a refusal with an offset in place of its index
@@ -28,11 +28,11 @@ abbrev pub packetFrom : ℕ → ℕ → ℕ
 packetFrom o k = o + packetsLength * k
 
 -- where the k-th record after the head stands, in a stream and in a sketch file
-abbrev pub packetOffset : ℕ → ℕ
-packetOffset k = packetFrom headLength k
+abbrev pub packetOffset : List ℕ → ℕ → ℕ
+packetOffset bs k = packetFrom (headLengthIn bs) k
 
-abbrev pub bucketOffset : ℕ → ℕ
-bucketOffset k = headLength + bucketLength * k
+abbrev pub bucketOffset : List ℕ → ℕ → ℕ
+bucketOffset bs k = headLengthIn bs + bucketLength * k
 
 -- how many whole records of a kind stand one after the other at these places
 unfoldable pub recordsOf : ℕ → (ℕ → ℕ) → List ℕ → ℕ

@@ -26,7 +26,7 @@ pub(crate) const IDSUM_IN_BODY: usize = COUNT_IN_BODY + 4;
 // An end: how many records stood since the head.
 pub(crate) const RECORDS_IN_BODY: usize = 0;
 
-// A head: d, m, and the multiplier and the offset of each pair.
+// A head: d, m, and the multiplier and the offset of each pair. The fifth stands in a head of kind 10 alone.
 pub(crate) const ARRAYS_IN_BODY: usize = 0;
 
 pub(crate) const BUCKETS_IN_BODY: usize = ARRAYS_IN_BODY + 1;
@@ -46,6 +46,10 @@ pub(crate) const OFFSET_3_IN_BODY: usize = MULTIPLIER_3_IN_BODY + 4;
 pub(crate) const MULTIPLIER_4_IN_BODY: usize = OFFSET_3_IN_BODY + 4;
 
 pub(crate) const OFFSET_4_IN_BODY: usize = MULTIPLIER_4_IN_BODY + 4;
+
+pub(crate) const MULTIPLIER_5_IN_BODY: usize = OFFSET_4_IN_BODY + 4;
+
+pub(crate) const OFFSET_5_IN_BODY: usize = MULTIPLIER_5_IN_BODY + 4;
 
 // A flow and a number of its packets, or no whole record of packets.
 pub enum Packets {

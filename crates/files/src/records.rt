@@ -3,7 +3,7 @@ ghost use mathlib.Core.Path.{_≡_};
 ghost use Prim.Native.Nat.{_+_, _≤_};
 ghost use lib.ListN.{length};
 ghost use Rattle.files.specs.Bytes.{word as «word-of»};
-ghost use Rattle.files.specs.Records.{bodyLength, recordAt, isKind, Body, KindBody};
+ghost use Rattle.files.specs.Records.{bodyLength, recordAt, isKind, isHead, Body, KindBody};
 
 // The kinds.
 pub const HEAD: u8 = 1;
@@ -14,8 +14,13 @@ pub const BUCKET: u8 = 3;
 
 pub const END: u8 = 4;
 
+// A head with the fifth pair.
+pub const EXTENDED_HEAD: u8 = 10;
+
 // How many bytes a body of each kind has.
 pub(crate) const HEAD_BODY: usize = 37;
+
+pub(crate) const EXTENDED_HEAD_BODY: usize = HEAD_BODY + 8;
 
 pub(crate) const PACKETS_BODY: usize = 8;
 
@@ -24,7 +29,9 @@ pub(crate) const BUCKET_BODY: usize = 12;
 pub(crate) const END_BODY: usize = 4;
 
 // And a whole record.
-pub const HEAD_LENGTH: usize = 1 + HEAD_BODY;
+pub(crate) const HEAD_LENGTH: usize = 1 + HEAD_BODY;
+
+pub(crate) const EXTENDED_HEAD_LENGTH: usize = 1 + EXTENDED_HEAD_BODY;
 
 pub const PACKETS_LENGTH: usize = 1 + PACKETS_BODY;
 
@@ -57,6 +64,9 @@ fn body_length(kind: u8) -> usize
     if kind == END {
         return END_BODY;
     }
+    if kind == EXTENDED_HEAD {
+        return EXTENDED_HEAD_BODY;
+    }
     0
 }
 
@@ -86,6 +96,16 @@ pub fn is_kind(bytes: &[u8], at: usize, kind: u8) -> bool
         return false;
     };
     k == kind
+}
+
+// Whether a whole head stands there, of either profile.
+pub fn is_head(bytes: &[u8], at: usize) -> bool
+    ensures { λ r. ⌜ r ≡ isHead (recordAt (now (bytes .entry)) at) ⌝ }
+{
+    if is_kind(bytes, at, HEAD) {
+        return true;
+    }
+    is_kind(bytes, at, EXTENDED_HEAD)
 }
 
 // The body of the record at an offset, a part of the lent bytes; an empty part at their start where no whole record stands there.

@@ -1,13 +1,14 @@
 // Records written into lent bytes, each whole or not at all.
 ghost use mathlib.Core.Path.{_≡_};
-ghost use mathlib.Core.Bool.{cond};
+ghost use mathlib.Core.Bool.{true, cond};
 ghost use mathlib.Core.List.{_++_};
 ghost use lib.Dec.{leb};
 ghost use Prim.Native.Nat.{_+_, _≤_, _<_};
 ghost use lib.ListN.{length};
 ghost use Rattle.params.specs.Params.{goodParams};
 ghost use Rattle.files.specs.Bytes.{wordBytes, countWord, overwritten};
-ghost use Rattle.files.specs.Layout.{headBytes, packetBytes, bucketBytes, endBytes};
+ghost use Rattle.files.specs.Layout.{arraysBytes, headBytes, packetBytes, bucketBytes, endBytes};
+ghost use Rattle.files.specs.Records.{recordLength, headKind};
 ghost use Rattle.files.specs.Writing.{written};
 use crate::fields::ARRAYS_IN_BODY;
 use crate::fields::BUCKETS_IN_BODY;
@@ -19,14 +20,15 @@ use crate::fields::MULTIPLIER_1_IN_BODY;
 use crate::fields::MULTIPLIER_2_IN_BODY;
 use crate::fields::MULTIPLIER_3_IN_BODY;
 use crate::fields::MULTIPLIER_4_IN_BODY;
+use crate::fields::MULTIPLIER_5_IN_BODY;
 use crate::fields::NUMBER_IN_BODY;
 use crate::fields::RECORDS_IN_BODY;
+use crate::heads::head_kind;
+use crate::heads::head_length;
 use crate::records::BUCKET;
 use crate::records::BUCKET_LENGTH;
 use crate::records::END;
 use crate::records::END_LENGTH;
-use crate::records::HEAD;
-use crate::records::HEAD_LENGTH;
 use crate::records::PACKETS;
 use crate::records::PACKETS_LENGTH;
 use params::Params;
@@ -56,6 +58,8 @@ const MULTIPLIER_2_AT: usize = 1 + MULTIPLIER_2_IN_BODY;
 const MULTIPLIER_3_AT: usize = 1 + MULTIPLIER_3_IN_BODY;
 
 const MULTIPLIER_4_AT: usize = 1 + MULTIPLIER_4_IN_BODY;
+
+const MULTIPLIER_5_AT: usize = 1 + MULTIPLIER_5_IN_BODY;
 
 // How many bytes were written, or the refusal.
 pub enum Written {
@@ -103,6 +107,22 @@ fn put_pair(out: &mut [u8], at: usize, a: u32, b: u32)
     put_word(out, at + 4, b);
 }
 
+// A head of a kind up to its fourth pair, at the start.
+fn put_arrays(out: &mut [u8], kind: u8, p: Params)
+    requires { ⌜ (goodParams p ≡ true) × (recordLength headKind ≤ length (now out)) ⌝ }
+    ensures { λ r. ⌜ now (out .exit) ≡ overwritten (now (out .entry)) 0 (arraysBytes kind p) ⌝ }
+{
+    let a = p.a;
+    let b = p.b;
+    out[0] = kind;
+    out[ARRAYS_AT] = p.d as u8;
+    put_word(out, BUCKETS_AT, p.m as u32);
+    put_pair(out, MULTIPLIER_1_AT, a[0], b[0]);
+    put_pair(out, MULTIPLIER_2_AT, a[1], b[1]);
+    put_pair(out, MULTIPLIER_3_AT, a[2], b[2]);
+    put_pair(out, MULTIPLIER_4_AT, a[3], b[3]);
+}
+
 // A head at the start; nothing where the parameters break a rule.
 pub fn put_head(out: &mut [u8], p: Params)
     ensures { λ r. ⌜ now (out .exit) ≡ cond (goodParams p) (written (now (out .entry)) 0 (headBytes p)) (now (out .entry)) ⌝ }
@@ -110,18 +130,13 @@ pub fn put_head(out: &mut [u8], p: Params)
     if !p.check() {
         return;
     }
-    if out.len() < HEAD_LENGTH {
+    if out.len() < head_length(p) {
         return;
     }
-    let a = p.a;
-    let b = p.b;
-    out[0] = HEAD;
-    out[ARRAYS_AT] = p.d as u8;
-    put_word(out, BUCKETS_AT, p.m as u32);
-    put_pair(out, MULTIPLIER_1_AT, a[0], b[0]);
-    put_pair(out, MULTIPLIER_2_AT, a[1], b[1]);
-    put_pair(out, MULTIPLIER_3_AT, a[2], b[2]);
-    put_pair(out, MULTIPLIER_4_AT, a[3], b[3]);
+    put_arrays(out, head_kind(p), p);
+    if p.fingerprinted() {
+        put_pair(out, MULTIPLIER_5_AT, p.a5, p.b5);
+    }
 }
 
 // n packets of flow f.

@@ -9,6 +9,7 @@ use Rattle.params.specs.declared.params.Params.{Params}
 use Rattle.params.specs.Lists.{below, least, from, padded}
 use Rattle.params.specs.Answers.{numberIn, indexIn, refuseAt, first, kept}
 use Rattle.params.specs.Params.{size, noParams, resized, pairAt, twins, goodDimensions, goodParams, lengthsAnswer, lentAnswer, obtained}
+use Rattle.params.specs.Sketched.{sketched}
 use Rattle.params.specs.Positions.{stand, standsIn}
 use Rattle.buckets.specs.Buckets.{inLimits}
 use Rattle.sketch.specs.Sketch.{Sketch, sketch, by, countAt, weightAt, sketchOf, zeros}
@@ -29,7 +30,11 @@ folding P m2 S =
 
 -- the bench's pairs, with m buckets in each of the two arrays
 abbrev arrays : ℕ → Params
-arrays m = record { d = 2; m = m; a = 1 ∷ 1073741824 ∷ 0 ∷ 0 ∷ []; b = 0 ∷ 0 ∷ 0 ∷ 0 ∷ [] }
+arrays m = record { d = 2; m = m; a = 1 ∷ 1073741824 ∷ 0 ∷ 0 ∷ []; b = 0 ∷ 0 ∷ 0 ∷ 0 ∷ []; a5 = 0; b5 = 0 }
+
+-- the same with fingerprints
+abbrev withFifth : ℕ → Params
+withFifth m = record { d = 2; m = m; a = 1 ∷ 1073741824 ∷ 0 ∷ 0 ∷ []; b = 0 ∷ 0 ∷ 0 ∷ 0 ∷ []; a5 = 1234567891; b5 = 5 }
 
 -- a fold to so many buckets, and one that is refused
 abbrev done : ℕ → Sketch → Row
@@ -45,6 +50,9 @@ counts cs = sketch cs (replicate 8 0)
 -- the sketch of flows 7 and 12 of the bench's first example
 abbrev listed : ℕ → Sketch
 listed m = sketchOf (arrays m) (by 7 (pos 1) ∷ by 12 (pos 2) ∷ [])
+
+abbrev listed-fifth : ℕ → Sketch
+listed-fifth m = sketchOf (withFifth m) (by 7 (pos 1) ∷ by 12 (pos 2) ∷ [])
 
 -- the greatest count, the least one, and 0
 abbrev most : ℤ
@@ -65,6 +73,8 @@ table =
     ∷ (folding (arrays 6) 2 (listed 6), done 2 (inSlices 12 (listed 2)))
     ∷ (folding (arrays 6) 1 (listed 6), done 1 (inSlices 12 (listed 1)))
     ∷ (folding (arrays 3) 1 (listed 3), done 1 (inSlices 6 (listed 1)))
+    -- so with fingerprints
+    ∷ (folding (withFifth 6) 3 (listed-fifth 6), record { number = 0; index = 0; params = withFifth 3; after = inSlices 12 (listed-fifth 3) })
     -- bucket by bucket, idsums modulo p, also where they add up to p
     ∷ (folding (arrays 2) 1 (sketch (o ∷ o ∷ o ∷ o ∷ []) (2147483646 ∷ 1 ∷ 0 ∷ 0 ∷ [])), done 1 (sketch (o ∷ o ∷ o ∷ o ∷ []) (0 ∷ 0 ∷ 0 ∷ 0 ∷ [])))
     ∷ (folding (arrays 2) 1 (sketch (pos 1 ∷ pos 2 ∷ negsuc 2 ∷ pos 4 ∷ []) (2147483646 ∷ 2 ∷ 3 ∷ 0 ∷ [])), done 1 (sketch (pos 3 ∷ pos 1 ∷ o ∷ o ∷ []) (1 ∷ 3 ∷ 0 ∷ 0 ∷ [])))
@@ -95,5 +105,5 @@ table =
     ∷ []
 
 pub examples : map (λ row. row .0) table ≡ map (λ row. row .1) table
-unfolding below least from refuseAt first kept residue pairAt twins goodDimensions goodParams lengthsAnswer lentAnswer stand standsIn inLimits zeros countAt weightAt sketchOf total target gathered wholeCount wholeIdsum folded inSlices padded leavesFolded foldBucketsAnswer foldAnswer
+unfolding below least from refuseAt first kept residue pairAt twins goodDimensions goodParams lengthsAnswer lentAnswer sketched stand standsIn inLimits zeros countAt weightAt sketchOf total target gathered wholeCount wholeIdsum folded inSlices padded leavesFolded foldBucketsAnswer foldAnswer
 examples = refl

@@ -12,7 +12,8 @@ use lib.IntN.{ℤ, pos, _+ℤ_, _*ℤ_}
 use Rattle.field.specs.Residue.{residue}
 use Rattle.params.specs.declared.params.Params.{Params}
 use Rattle.params.specs.Params.{primeOf, size, resized}
-use Rattle.params.specs.Positions.{stand, standsIn, stands}
+use Rattle.params.specs.Sketched.{sketched}
+use Rattle.params.specs.Positions.{stand, standsIn, sketchedStands, stands}
 use Rattle.params.proofs.Searches.{and-true}
 use Rattle.params.proofs.BucketNumbers.{stretch-within}
 use Rattle.params.proofs.Standing.{standing-in}
@@ -33,65 +34,66 @@ unfolding countAt brought
 count-brought P [] k = refl
 count-brought P (e ∷ es) k = ap (λ (z : ℤ). cond (stands P (e .flow) k) (e .number) (pos 0) +ℤ z) (count-brought P es k)
 
-weight-brought : (P : Params) (es : List Entry) (k : ℕ) → weightAt P es k ≡ brought (λ e. e .number *ℤ pos (e .flow)) P es k
+weight-brought : (P : Params) (es : List Entry) (k : ℕ) → weightAt P es k ≡ brought (λ e. e .number *ℤ pos (sketched P (e .flow))) P es k
 unfolding weightAt brought
 weight-brought P [] k = refl
-weight-brought P (e ∷ es) k = ap (λ (z : ℤ). cond (stands P (e .flow) k) (e .number *ℤ pos (e .flow)) (pos 0) +ℤ z) (weight-brought P es k)
+weight-brought P (e ∷ es) k = ap (λ (z : ℤ). cond (stands P (e .flow) k) (e .number *ℤ pos (sketched P (e .flow))) (pos 0) +ℤ z) (weight-brought P es k)
 
 module _ (P : Params) (m2 : ℕ) {c s : ℕ} (h : Foldable (P .d) (P .m) m2 c s) where
-  -- a flow's position with m2 buckets is its position with m, modulo m2, since m2 divides m
-  pub stand-folded : (i f : ℕ) → stand P i f % m2 ≡ stand (resized P m2) i f
+  -- a position with m2 buckets is the position with m, modulo m2, since m2 divides m
+  pub stand-folded : (i x : ℕ) → stand P i x % m2 ≡ stand (resized P m2) i x
   unfolding stand
-  stand-folded i f = mod-mod-of-dvd m2 _ (dvd-of-mod-eq-zero m2 (h .no-rest))
+  stand-folded i x = mod-mod-of-dvd m2 _ (dvd-of-mod-eq-zero m2 (h .no-rest))
 
   module _ (k : ℕ) (l : k < P .d * m2) where
-    -- the array of bucket k, and the bucket of the larger sketch where the flow stands in it
+    -- the array of bucket k, and the bucket of the larger sketch where what is sketched stands in it
     array : k / m2 < P .d
     array = array-below (P .m) m2 (h .m2-low) (h .m-low) (h .no-rest) (P .d) k l
 
-    abbrev bucketOf : ℕ → ℕ
-    bucketOf f = k / m2 * P .m + stand P (k / m2) f
+    abbrev bucketThere : ℕ → ℕ
+    bucketThere x = k / m2 * P .m + stand P (k / m2) x
 
-    stand-below : (f : ℕ) → stand P (k / m2) f < P .m
+    stand-below : (x : ℕ) → stand P (k / m2) x < P .m
     unfolding stand
-    stand-below f = mod-lt _ (h .m-low)
+    stand-below x = mod-lt _ (h .m-low)
 
-    bucket-inside : (f : ℕ) → bucketOf f < P .d * P .m
-    bucket-inside f = omega (arith, stand-below f, stretch-within (P .d) (P .m) (k / m2) array)
+    bucket-inside : (x : ℕ) → bucketThere x < P .d * P .m
+    bucket-inside x = omega (arith, stand-below x, stretch-within (P .d) (P .m) (k / m2) array)
 
-    stands-there : (f : ℕ) → stands P f (bucketOf f) ≡ true
-    stands-there f =
-        standing-in (P .d) (P .m) (λ i. stand P i f) (k / m2) (bucketOf f) array (omega arith) (omega (arith, stand-below f))
-        ∙ eq-eqb (bucketOf f) (bucketOf f) refl
+    stands-there : (x : ℕ) → sketchedStands P x (bucketThere x) ≡ true
+    stands-there x =
+        standing-in (P .d) (P .m) (λ i. stand P i x) (k / m2) (bucketThere x) array (omega arith) (omega (arith, stand-below x))
+        ∙ eq-eqb (bucketThere x) (bucketThere x) refl
 
-    -- it goes into bucket k exactly where the flow stands in k with m2 buckets
-    goes-where-stands : (f : ℕ) → eqb (target (P .m) m2 (bucketOf f)) k ≡ stands (resized P m2) f k
-    goes-where-stands f =
-        ap (λ (x : ℕ). eqb x k) (goes-to (P .m) m2 (h .m2-low) (h .m-low) (h .no-rest) (k / m2) (stand P (k / m2) f) (stand-below f) ∙ ap (λ (j : ℕ). k / m2 * m2 + j) (stand-folded (k / m2) f))
-        ∙ either-way (k / m2 * m2 + stand (resized P m2) (k / m2) f) k (ℕ-discrete _ k)
-        ∙ sym (standing-in (P .d) m2 (λ i. stand (resized P m2) i f) (k / m2) k array (omega (arith, mod-add-div' k m2)) (omega (arith, mod-add-div' k m2, mod-lt k (h .m2-low))))
+    -- it goes into bucket k exactly where it stands in k with m2 buckets
+    goes-where-stands : (x : ℕ) → eqb (target (P .m) m2 (bucketThere x)) k ≡ sketchedStands (resized P m2) x k
+    goes-where-stands x =
+        ap (λ (j : ℕ). eqb j k) (goes-to (P .m) m2 (h .m2-low) (h .m-low) (h .no-rest) (k / m2) (stand P (k / m2) x) (stand-below x) ∙ ap (λ (j : ℕ). k / m2 * m2 + j) (stand-folded (k / m2) x))
+        ∙ either-way (k / m2 * m2 + stand (resized P m2) (k / m2) x) k (ℕ-discrete _ k)
+        ∙ sym (standing-in (P .d) m2 (λ i. stand (resized P m2) i x) (k / m2) k array (omega (arith, mod-add-div' k m2)) (omega (arith, mod-add-div' k m2, mod-lt k (h .m2-low))))
       where
         either-way : (x y : ℕ) → Dec (x ≡ y) → eqb x y ≡ eqb y x
         either-way x y (yes p) = eq-eqb x y p ∙ sym (eq-eqb y x (sym p))
         either-way x y (no q) = ne-eqb x y q ∙ sym (ne-eqb y x (λ e. q (sym e)))
 
-    -- of the buckets that go into k the flow stands in no other
-    nowhere-else : (f i : ℕ) → target (P .m) m2 i ≡ k → stands P f i ≡ true → i ≡ bucketOf f
+    -- of the buckets that go into k it stands in no other
+    nowhere-else : (x i : ℕ) → target (P .m) m2 i ≡ k → sketchedStands P x i ≡ true → i ≡ bucketThere x
     unfolding target standsIn
-    nowhere-else f i e st =
+    nowhere-else x i e st =
         let same : i / P .m ≡ k / m2 = apart m2 (i / P .m) (i % P .m % m2) k (mod-lt (i % P .m) (h .m2-low)) e .0 in
-        let stood : stand P (i / P .m) f ≡ i % P .m = eqb-true _ _ (and-true (ltb (i / P .m) (P .d)) _ st .1) in
-        let moved : stand P (i / P .m) f ≡ stand P (k / m2) f = ap (λ (j : ℕ). stand P j f) same in
+        let stood : stand P (i / P .m) x ≡ i % P .m = eqb-true _ _ (and-true (ltb (i / P .m) (P .d)) _ st .1) in
+        let moved : stand P (i / P .m) x ≡ stand P (k / m2) x = ap (λ (j : ℕ). stand P j x) same in
         let multiples : i / P .m * P .m ≡ k / m2 * P .m = ap (λ (j : ℕ). j * P .m) same in
         omega (arith, mod-add-div' i (P .m))
 
     one-flow : (f : ℕ) (z : ℤ) → gathered (P .d * P .m) (target (P .m) m2) (λ i. cond (stands P f i) z (pos 0)) k ≡ cond (stands (resized P m2) f k) z (pos 0)
+    unfolding sketched
     one-flow f z =
-        gathered-one (P .d * P .m) (target (P .m) m2) _ k (bucketOf f) (bucket-inside f) (λ i m e d. at i e d (stands P f i) refl)
-        ∙ ap₂ (λ (a b : Bool). cond a (cond b z (pos 0)) (pos 0)) (goes-where-stands f) (stands-there f)
+        gathered-one (P .d * P .m) (target (P .m) m2) _ k (bucketThere (sketched P f)) (bucket-inside (sketched P f)) (λ i m e d. at i e d (stands P f i) refl)
+        ∙ ap₂ (λ (a b : Bool). cond a (cond b z (pos 0)) (pos 0)) (goes-where-stands (sketched P f)) (stands-there (sketched P f))
       where
-        at : (i : ℕ) → target (P .m) m2 i ≡ k → (i ≡ bucketOf f → ⊥) → (b : Bool) → stands P f i ≡ b → cond b z (pos 0) ≡ pos 0
-        at i e d true q = absurd (d (nowhere-else f i e q))
+        at : (i : ℕ) → target (P .m) m2 i ≡ k → (i ≡ bucketThere (sketched P f) → ⊥) → (b : Bool) → stands P f i ≡ b → cond b z (pos 0) ≡ pos 0
+        at i e d true q = absurd (d (nowhere-else (sketched P f) i e q))
         at i e d false q = refl
 
     brought-folded : (v : Entry → ℤ) (es : List Entry) → gathered (P .d * P .m) (target (P .m) m2) (brought v P es) k ≡ brought v (resized P m2) es k
@@ -102,7 +104,7 @@ module _ (P : Params) (m2 : ℕ) {c s : ℕ} (h : Foldable (P .d) (P .m) m2 c s)
         ∙ ap₂ _+ℤ_ (one-flow (e .flow) (v e)) (brought-folded v es)
 
   pub folded-list : (es : List Entry) → folded P m2 (sketchOf P es) ≡ sketchOf (resized P m2) es
-  unfolding folded wholeCount wholeIdsum sketchOf
+  unfolding folded wholeCount wholeIdsum sketchOf sketched
   folded-list es = ap₂ sketch (from-same 0 (P .d * m2) _ _ (λ k a b. counts k (omega arith))) (from-same 0 (P .d * m2) _ _ (λ k a b. idsums k (omega arith)))
     where
       counts : (k : ℕ) → k < P .d * m2 → wholeCount (P .d) (P .m) m2 (sketchOf P es .counts) k ≡ countAt (resized P m2) es k
@@ -116,5 +118,5 @@ module _ (P : Params) (m2 : ℕ) {c s : ℕ} (h : Foldable (P .d) (P .m) m2 c s)
           ap (residue (primeOf P))
           (gathered-same (P .d * P .m) (target (P .m) m2) _ _ k
           (λ i m. ap pos (from-at (size P) (λ j. residue (primeOf P) (weightAt P es j)) i 0 m ∙ ap (residue (primeOf P)) (weight-brought P es i))))
-          ∙ gathered-residues (P .d * P .m) (target (P .m) m2) (primeOf P) (brought (λ e. e .number *ℤ pos (e .flow)) P es) k prime-pos
-          ∙ ap (residue (primeOf P)) (brought-folded k l (λ e. e .number *ℤ pos (e .flow)) es ∙ sym (weight-brought (resized P m2) es k))
+          ∙ gathered-residues (P .d * P .m) (target (P .m) m2) (primeOf P) (brought (λ e. e .number *ℤ pos (sketched P (e .flow))) P es) k prime-pos
+          ∙ ap (residue (primeOf P)) (brought-folded k l (λ e. e .number *ℤ pos (sketched P (e .flow))) es ∙ sym (weight-brought (resized P m2) es k))

@@ -8,15 +8,14 @@ use lib.Seq.{drop-append-le}
 use Rattle.params.specs.declared.params.Params.{Params}
 use Rattle.params.specs.declared.answers.Answer.the-variants.{Done}
 use Rattle.sketch.specs.Sketch.{Sketch}
-use Rattle.files.specs.Records.{headLength}
+use Rattle.files.specs.Heads.{headLengthOf}
 use Rattle.desk.specs.declared.states.State.{State}
 use Rattle.desk.specs.Desk.{beginOf, started, offsetsFit, Feeds}
-use Rattle.desk.proofs.FirstHead.{begin-settled}
 use Rattle.desk.proofs.AnyPieces.{joined, InTurn, all-fed, next-fed, any-pieces}
 use Rattle.intake.specs.declared.turning.Turned.{Turned}
 use Rattle.intake.specs.Intake.{Moves, Turns}
 use Rattle.intake.proofs.OneTurn.{moved-first, held-then}
-use Rattle.intake.proofs.HeadSettled.{begun-whole}
+use Rattle.intake.proofs.HeadSettled.{head-begun, begun-whole}
 
 -- Reads one after another, of the pieces xs: from a buffer, how many of its bytes are held, a state and two sketches, to the last state and what is then in the sketches.
 -- A read leaves the bytes that are held as they are, with its piece behind them, and a turn follows.
@@ -42,11 +41,11 @@ module _ {P : Params} {up down up₁ down₁ up' down' : Sketch} {t : State} {r 
 
   -- The whole input: the first `got` bytes, among which the head is accepted and put aside, and the pieces that reads gave behind them.
   -- The head is that of the whole input, and the rest of the input is fed as at once.
-  pub whole-input : {bs bs₁ bs₂ : List ℕ} {got held : ℕ} → beginOf (take got bs) ≡ record { answer = Done; params = P } → Moves headLength got bs held bs₁ → Turns P bs₁ held up down started r up₁ down₁ bs₂
-      → Reads P bs₂ (r .held) xs (r .state) up₁ down₁ t up' down' → offsetsFit (drop headLength (take got bs ++ joined xs)) started ≡ true
+  pub whole-input : {bs bs₁ bs₂ : List ℕ} {got held : ℕ} → beginOf (take got bs) ≡ record { answer = Done; params = P } → Moves (headLengthOf P) got bs held bs₁ → Turns P bs₁ held up down (started P) r up₁ down₁ bs₂
+      → Reads P bs₂ (r .held) xs (r .state) up₁ down₁ t up' down' → offsetsFit (drop (headLengthOf P) (take got bs ++ joined xs)) (started P) ≡ true
       → (beginOf (take got bs ++ joined xs) ≡ record { answer = Done; params = P })
-      × Feeds P (drop headLength (take got bs ++ joined xs)) up down started record { state = t; used = t .at - headLength } up' down'
+      × Feeds P (drop (headLengthOf P) (take got bs ++ joined xs)) up down (started P) record { state = t; used = t .at - headLengthOf P } up' down'
   whole-input {bs} {bs₁} {got = got} {held = held} head aside turn more near =
       let whole = begun-whole (take got bs) head in
-      let behind : drop headLength (take got bs ++ joined xs) ≡ take held bs₁ ++ joined xs = drop-append-le headLength (take got bs) (joined xs) whole ∙ ap (λ (ys : List ℕ). ys ++ joined xs) (sym (moved-first aside)) in
-      (begin-settled (take got bs) (joined xs) whole ∙ head, rw behind (any-reads (rw behind at near) turn more))
+      let behind : drop (headLengthOf P) (take got bs ++ joined xs) ≡ take held bs₁ ++ joined xs = drop-append-le (headLengthOf P) (take got bs) (joined xs) whole ∙ ap (λ (ys : List ℕ). ys ++ joined xs) (sym (moved-first aside)) in
+      (head-begun (take got bs) head (joined xs), rw behind (any-reads (rw behind at near) turn more))

@@ -1,49 +1,49 @@
 -- A first head that is settled is judged for the whole input: whatever comes behind the bytes at hand, it is judged alike.
-use mathlib.Core.Path.{_≡_, refl, ap}
-use mathlib.Core.Bool.{Bool, true, false, not}
+use mathlib.Core.Path.{_≡_, refl, _∙_}
+use mathlib.Core.Bool.{Bool, true, false, not, _||_, true≢false}
 use mathlib.Core.List.{List, _++_}
-use Prim.Native.Nat.{ℕ, _≤_}
+use Prim.Native.Nat.{ℕ, _≤_, _<_}
 use native.Mathlib.Omega.{arith}
-use borrow.Author.Tests.{leb-true, leb-false, eqb-false, not-true, not-false}
+use borrow.Author.Tests.{lt-leb, leb-true, leb-false, eqb-false, not-true}
 use lib.Dec.{eqb, leb}
 use lib.ListN.{length, getD}
 use Rattle.params.specs.declared.params.Params.{Params}
-use Rattle.params.specs.declared.answers.Refusal.the-variants.{Form}
 use Rattle.params.specs.declared.answers.Answer.the-variants.{Done}
-use Rattle.params.specs.Answers.{first, kept}
 use Rattle.params.proofs.Searches.{and-true}
-use Rattle.params.proofs.Judging.{first-done, refuse-done}
-use Rattle.files.specs.Records.{recordAt, isKind, headKind, headLength}
-use Rattle.files.specs.Heads.{isHead, headAnswer}
+use Rattle.files.specs.Records.{headLengthIn, headKind, extendedHeadKind}
+use Rattle.files.specs.Heads.{headLengthOf}
 use Rattle.files.proofs.RecordTrips.{not-kind}
-use Rattle.desk.specs.Desk.{beginAnswer, beginOf}
-use Rattle.desk.proofs.Whole.{whole-record}
-use Rattle.desk.proofs.MoreBytes.{other-more}
-use Rattle.desk.proofs.FirstHead.{begin-settled}
+use Rattle.desk.specs.Desk.{beginOf, dueOf, dueHead}
+use Rattle.desk.proofs.MoreBytes.{notYet}
+use Rattle.desk.proofs.FirstHead.{begin-found, begin-settled}
+use Rattle.desk.proofs.Accepted.{begun, begun-length, input-long}
 use Rattle.intake.specs.Intake.{headSettled}
 
--- a first byte that no head has
-not-a-head : (xs ys : List ℕ) → isKind headKind (recordAt xs 0) ≡ false → isKind headKind (recordAt (xs ++ ys) 0) ≡ false → beginOf (xs ++ ys) ≡ beginOf xs
-unfolding beginAnswer headAnswer first kept
-not-a-head xs ys none still = rw (none, still)
+-- where a first byte stands that no head has, none is waited for
+no-head-byte : (xs : List ℕ) → 0 < length xs → (eqb (getD xs 0 0) headKind || eqb (getD xs 0 0) extendedHeadKind) ≡ false → notYet (dueHead xs) ≡ false
+unfolding dueHead dueOf
+no-head-byte xs some = at (eqb (getD xs 0 0) headKind) refl (eqb (getD xs 0 0) extendedHeadKind) refl
+  where
+    at : (x : Bool) → eqb (getD xs 0 0) headKind ≡ x → (y : Bool) → eqb (getD xs 0 0) extendedHeadKind ≡ y → (x || y) ≡ false → notYet (dueHead xs) ≡ false
+    at true e y f h = absurd (true≢false h)
+    at false e true f h = absurd (true≢false h)
+    at false e false f h = rw (f, lt-leb (length xs) 0 some, not-kind xs 0 headKind (eqb-false (getD xs 0 0) headKind e), e)
 
 pub head-settled-for-all : (xs ys : List ℕ) → headSettled xs ≡ true → beginOf (xs ++ ys) ≡ beginOf xs
 unfolding headSettled
-head-settled-for-all xs ys settled = at (eqb (getD xs 0 0) headKind) refl
+head-settled-for-all xs ys settled = at (leb (headLengthIn xs) (length xs)) refl
   where
     some : not (leb (length xs) 0) ≡ true
     some = and-true (not (leb (length xs) 0)) _ settled .0
 
-    at : (b : Bool) → eqb (getD xs 0 0) headKind ≡ b → beginOf (xs ++ ys) ≡ beginOf xs
-    at true e = begin-settled xs ys (leb-true headLength (length xs) (rw e at (and-true (not (leb (length xs) 0)) _ settled .1)))
-    at false e =
-        let present = leb-false (length xs) 0 (not-true _ some) in
-        not-a-head xs ys (not-kind xs 0 headKind (eqb-false (getD xs 0 0) headKind e)) (other-more xs ys headKind present e .1)
+    at : (b : Bool) → leb (headLengthIn xs) (length xs) ≡ b → beginOf (xs ++ ys) ≡ beginOf xs
+    at true e = begin-settled xs ys (leb-true (headLengthIn xs) (length xs) e)
+    at false e = begin-found xs ys (no-head-byte xs (leb-false (length xs) 0 (not-true _ some)) (not-true _ (rw e at (and-true (not (leb (length xs) 0)) _ settled .1))))
 
--- a head that is accepted is whole
-pub begun-whole : {P : Params} (xs : List ℕ) → beginOf xs ≡ record { answer = Done; params = P } → headLength ≤ length xs
-unfolding beginAnswer headAnswer
-begun-whole xs e =
-    let done : beginAnswer xs ≡ Done = ap (λ h. h .answer) e in
-    let head = refuse-done (not (isHead (recordAt xs 0))) Form 0 _ (first-done _ _ done .0) in
-    omega (arith, whole-record xs 0 headKind (not-false _ (head .0)) .1)
+-- a head that is accepted is whole, and so it is that of the whole input
+module _ {P : Params} (xs : List ℕ) (e : beginOf xs ≡ record { answer = Done; params = P }) where
+  pub begun-whole : headLengthOf P ≤ length xs
+  begun-whole = input-long P xs (begun P xs e)
+
+  pub head-begun : (ys : List ℕ) → beginOf (xs ++ ys) ≡ record { answer = Done; params = P }
+  head-begun ys = begin-settled xs ys (omega (arith, begun-length P xs (begun P xs e), begun-whole)) ∙ e

@@ -1,4 +1,4 @@
--- One turn: of what is held, the bytes behind those that were used are held then, in their order; where the input is not refused they are fewer than a head has.
+-- One turn: of what is held, the bytes behind those that were used are held then, in their order; where the input is not refused they are fewer than the longer head has.
 use mathlib.Core.Path.{_≡_, refl, sym, ap, _∙_}
 use mathlib.Core.Bool.{true}
 use mathlib.Core.List.{List}
@@ -8,11 +8,12 @@ use lib.ListN.{length, take, drop}
 use lib.Seq.{take-at}
 use Rattle.params.specs.declared.params.Params.{Params}
 use Rattle.sketch.specs.Sketch.{Sketch}
-use Rattle.files.specs.Records.{headLength}
+use Rattle.files.specs.Records.{recordLength, extendedHeadKind}
 use Rattle.desk.specs.declared.states.State.{State}
 use Rattle.desk.specs.declared.states.Fed.{Fed}
 use Rattle.desk.specs.Desk.{offsetsFit, Feeds}
 use Rattle.desk.proofs.Back.{live}
+use Rattle.desk.proofs.MoreBytes.{head-most}
 use Rattle.desk.proofs.Unfinished.{few-left}
 use Rattle.intake.specs.declared.turning.Turned.{Turned}
 use Rattle.intake.specs.Intake.{part, Moves, Turns}
@@ -40,5 +41,5 @@ module _ {P : Params} {bs bs' : List ℕ} {held : ℕ} {up down up' down' : Sket
   held-then = moved-first (t .left)
 
   -- so there is room for the next read
-  pub few-held : offsetsFit (take held bs) s ≡ true → live (r .state .stage) ≡ true → r .held < headLength
-  few-held near h = rw (t .left .number) (few-left near (t .fed) h)
+  pub few-held : offsetsFit (take held bs) s ≡ true → live (r .state .stage) ≡ true → r .held < recordLength extendedHeadKind
+  few-held near h = rw (t .left .number) (omega (arith, few-left near (t .fed) h, head-most (drop (r .state .at - s .at) (take held bs))))

@@ -7,14 +7,16 @@ use lib.Dec.{eqb, leb}
 use lib.ListN.{length, getD, take, drop}
 use Rattle.params.specs.declared.params.Params.{Params}
 use Rattle.sketch.specs.Sketch.{Sketch}
-use Rattle.files.specs.Records.{headKind, headLength}
+use Rattle.files.specs.Records.{headKind, extendedHeadKind, headLengthIn}
 use Rattle.desk.specs.declared.states.State.{State}
 use Rattle.desk.specs.Desk.{Feeds}
 use Rattle.intake.specs.declared.turning.Turned.{Turned}
 
 -- the first head is settled: all its bytes are at hand, or a first byte that no head has
 unfoldable pub headSettled : List ℕ → Bool
-headSettled bs = not (leb (length bs) 0) && (not (eqb (getD bs 0 0) headKind) || leb headLength (length bs))
+headSettled bs =
+    not (leb (length bs) 0)
+    && (leb (headLengthIn bs) (length bs) || not (eqb (getD bs 0 0) headKind || eqb (getD bs 0 0) extendedHeadKind))
 
 -- the bytes from one offset up to another
 abbrev pub part : ℕ → ℕ → List ℕ → List ℕ

@@ -5,10 +5,12 @@ use Prim.Native.Nat.{ℕ, zero, suc, _+_, _*_}
 use lib.IntN.{ℤ, pos}
 use lib.Dec.{eqb, leb}
 use lib.ListN.{length, getD}
+use Rattle.params.specs.declared.params.Params.{Params}
 use Rattle.buckets.specs.Buckets.{allZero}
 use Rattle.sketch.specs.Sketch.{Entry}
 use Rattle.walk.specs.declared.Ending.{Ending}
-use Rattle.walk.specs.Walk.{Outcome, closedTable, lostOf, extraOf}
+use Rattle.walk.specs.Walk.{Outcome, lostOf, extraOf}
+use Rattle.walk.specs.Shown.{shownTable}
 use Rattle.lines.specs.Lines.{lossLine, leftLine, endLine, lineRoom}
 
 -- a line for each of the table's first n entries
@@ -34,10 +36,10 @@ unfoldable pub entryLines : List Entry → List ℕ
 entryLines [] = []
 entryLines (e ∷ es) = lossLine (e .flow) (e .number) ++ entryLines es
 
--- the report of a walk: its table after the close, what it left, and its ending
-unfoldable pub walkText : Outcome → List ℕ
-walkText o =
-    entryLines (closedTable o)
+-- the report of a walk: the table that is shown, what it left, and its ending
+unfoldable pub walkText : Params → Outcome → List ℕ
+walkText P o =
+    entryLines (shownTable P o)
     ++ (leftLines (o .remainder .counts) (o .remainder .idsums) (length (o .remainder .counts))
     ++ endLine (o .ending) (o .pops) (lostOf o) (extraOf o))
 

@@ -1,4 +1,4 @@
--- A flow's buckets by their indexes: each lies within the sketch, and the flow stands in bucket k exactly where k is its index in some array from 1 to d.
+-- The buckets of what is sketched by their indexes: each lies within the sketch, and x stands in bucket k exactly where k is its bucket in some array from 1 to d.
 use mathlib.Core.Path.{_≡_, refl, _∙_}
 use mathlib.Core.Bool.{true}
 use Prim.Native.Nat.{ℕ, suc, _-_, _/_, _%_, _≤_, _<_}
@@ -8,32 +8,32 @@ use borrow.Author.Tests.{eq-eqb, ltb-true, eqb-true}
 use lib.Dec.{eqb, ltb}
 use Rattle.params.specs.declared.params.Params.{Params}
 use Rattle.params.specs.Params.{size, Dimensions}
-use Rattle.params.specs.Positions.{stand, position, index, standsIn, stands}
+use Rattle.params.specs.Positions.{stand, bucketOf, standsIn, sketchedStands}
 use Rattle.params.proofs.BucketNumbers.{stretch-within}
 use Rattle.params.proofs.Searches.{and-true}
 use Rattle.params.proofs.Standing.{standing-in}
 
 -- a position lies within its array
-pub position-below : (P : Params) (i f : ℕ) → Dimensions P → position P i f < P .m
+pub stand-below : (P : Params) (i x : ℕ) → Dimensions P → stand P i x < P .m
 unfolding stand
-position-below P i f h = mod-lt _ (h .m-low)
+stand-below P i x h = mod-lt _ (h .m-low)
 
 -- and so within the sketch
-pub index-below : (P : Params) (i f : ℕ) → Dimensions P → 1 ≤ i → i ≤ P .d → index P i f < size P
-index-below P i f h l u = omega (arith, position-below P i f h, stretch-within (P .d) (P .m) (i - 1) (omega arith))
+pub bucket-below : (P : Params) (i x : ℕ) → Dimensions P → 1 ≤ i → i ≤ P .d → bucketOf P i x < size P
+bucket-below P i x h l u = omega (arith, stand-below P (i - 1) x h, stretch-within (P .d) (P .m) (i - 1) (omega arith))
 
-pub stands-at-index : (P : Params) (f i : ℕ) → Dimensions P → 1 ≤ i → i ≤ P .d → stands P f (index P i f) ≡ true
-stands-at-index P f i h l u =
-    standing-in (P .d) (P .m) (λ j. stand P j f) (i - 1) (index P i f) (omega arith) (omega arith) (omega (arith, position-below P i f h))
-    ∙ eq-eqb (index P i f) (index P i f) refl
+pub stands-in-bucket : (P : Params) (x i : ℕ) → Dimensions P → 1 ≤ i → i ≤ P .d → sketchedStands P x (bucketOf P i x) ≡ true
+stands-in-bucket P x i h l u =
+    standing-in (P .d) (P .m) (λ j. stand P j x) (i - 1) (bucketOf P i x) (omega arith) (omega arith) (omega (arith, stand-below P (i - 1) x h))
+    ∙ eq-eqb (bucketOf P i x) (bucketOf P i x) refl
 
-pub index-where-stands : (P : Params) (f k : ℕ) → stands P f k ≡ true → (i : ℕ) × (1 ≤ i) × (i ≤ P .d) × (k ≡ index P i f)
+pub bucket-where-stands : (P : Params) (x k : ℕ) → sketchedStands P x k ≡ true → (i : ℕ) × (1 ≤ i) × (i ≤ P .d) × (k ≡ bucketOf P i x)
 unfolding standsIn
-index-where-stands P f k e =
-    let h = and-true (ltb (k / P .m) (P .d)) (eqb (stand P (k / P .m) f) (k % P .m)) e in
+bucket-where-stands P x k e =
+    let h = and-true (ltb (k / P .m) (P .d)) (eqb (stand P (k / P .m) x) (k % P .m)) e in
     let same : suc (k / P .m) - 1 ≡ k / P .m = omega arith in (
       suc (k / P .m),
       omega arith,
       omega (arith, ltb-true (k / P .m) (P .d) (h .0)),
-      rw same (omega (arith, mod-add-div' k (P .m), eqb-true (stand P (k / P .m) f) (k % P .m) (h .1))),
+      rw same (omega (arith, mod-add-div' k (P .m), eqb-true (stand P (k / P .m) x) (k % P .m) (h .1))),
     )

@@ -4,6 +4,7 @@ pub mod Changes
 pub mod Judging
 pub mod BucketNumbers
 pub mod Rules
+pub mod Extended
 pub mod Standing
 pub mod Indexes
 pub mod Lowest

@@ -1,22 +1,22 @@
--- Laws of the rules that parameters obey, of what follows where nothing was refused, and of a flow's positions.
-use mathlib.Core.Path.{_≡_, sym, ap, ap₂, _∙_}
+-- Laws of the rules that parameters obey, of what follows where nothing was refused, and of the positions that the code keeps.
+use mathlib.Core.Path.{_≡_, refl, sym, ap, ap₂, _∙_}
 use mathlib.Core.List.{List}
-use mathlib.Core.Bool.{Bool, true, false, not, _&&_}
+use mathlib.Core.Bool.{Bool, true, false, not, cond, _&&_}
 use Prim.Native.Nat.{ℕ, _+_, _-_, _*_, _≤_, _<_}
 use native.Mathlib.Omega.{arith}
-use borrow.Author.Tests.{le-leb, leb-true, lt-ltb, ltb-true, eq-eqb, eqb-true, not-false}
+use borrow.Author.Tests.{le-leb, leb-true, lt-ltb, eq-eqb, eqb-true, not-false}
 use lib.Dec.{eqb, ltb, leb}
 use lib.ListN.{length}
 use Rattle.params.specs.declared.params.Params.{Params}
 use Rattle.params.specs.declared.params.Obtained.{Obtained}
 use Rattle.params.specs.declared.answers.Refusal.{Refusal}
-use Rattle.params.specs.declared.answers.Refusal.the-variants.{Param, Length}
+use Rattle.params.specs.declared.answers.Refusal.the-variants.{Param, Length, Flow}
 use Rattle.params.specs.declared.answers.Answer.{Answer}
 use Rattle.params.specs.declared.answers.Answer.the-variants.{Done, Refused}
 use Rattle.params.specs.declared.answers.Located.the-variants.{At, Refused as NotLocated}
 use Rattle.params.specs.Answers.{refuseIf, locatedOf}
 use Rattle.params.specs.Lists.{below, touched}
-use Rattle.params.specs.Params.{primeOf, isFlow, size, Dimensions, goodDimensions, goodParams, samePair, sameParams, lengthsAnswer, dimensionsAnswer, lentAnswer, resized, noneObtained, obtained}
+use Rattle.params.specs.Params.{primeOf, fingerprinted, mostFlow, isFlow, size, Dimensions, pairOk, pairAt, twins, goodDimensions, goodParams, samePair, sameParams, lengthsAnswer, dimensionsAnswer, lentAnswer, resized, plain, noParams, noneObtained, obtained}
 use Rattle.params.specs.Positions.{stand, positionAnswer, positionsIn, Positioned}
 use Rattle.params.proofs.Searches.{and-true, below-fails}
 use Rattle.params.proofs.Changes.{length-touched, getD-touched, touched-none, upTo}
@@ -41,7 +41,12 @@ dimensions-small {P} h = small (P .d) (P .m) (h .d-high) (h .m-high)
 
 pub good-has-dimensions : (P : Params) → goodParams P ≡ true → goodDimensions P ≡ true
 unfolding goodParams
-good-has-dimensions P e = and-true (goodDimensions P) _ (and-true _ _ e .0) .0
+good-has-dimensions P e = and-true (goodDimensions P) _ (and-true _ _ (and-true _ _ e .0) .0) .0
+
+-- the fifth pair keeps the rule of its place
+pub good-fifth : (P : Params) → goodParams P ≡ true → pairOk (primeOf P) (fingerprinted P) (P .a5) (P .b5) ≡ true
+unfolding goodParams
+good-fifth P e = and-true (goodDimensions P && _ && _) _ e .1
 
 pub good-dimensions : (P : Params) → goodParams P ≡ true → Dimensions P
 good-dimensions P e = dimensions P (good-has-dimensions P e)
@@ -62,8 +67,12 @@ unfolding below
 last-apart t e e₁ h h₁ k k₁ l l₁ m m₁ n = simp (sym e ∙ e₁, sym h ∙ h₁, sym k ∙ k₁, sym l ∙ l₁, sym m ∙ m₁) (ap not n)
 
 -- a flow's number is below the prime, and is not 0
+below-prime : (b : Bool) (p : ℕ) → 8388606 < p → cond b 8388606 (p - 1) < p
+below-prime true p l = l
+below-prime false p l = omega arith
+
 pub flow-below : (P : Params) (f : ℕ) → isFlow P f ≡ true → f < primeOf P
-flow-below P f e = ltb-true f (primeOf P) (and-true (leb 1 f) _ e .1)
+flow-below P f e = omega (arith, leb-true f (mostFlow P) (and-true (leb 1 f) _ e .1), below-prime (fingerprinted P) (primeOf P) (omega arith))
 
 pub flow-above : (P : Params) (f : ℕ) → isFlow P f ≡ true → 1 ≤ f
 flow-above P f e = leb-true 1 f (and-true (leb 1 f) _ e .0)
@@ -77,9 +86,12 @@ pub dimensions-good : {P : Params} → Dimensions P → goodDimensions P ≡ tru
 dimensions-good {P} z = sym (last-size P (z .d-low) (z .d-high) (z .m-low)) ∙ le-leb _ _ (z .m-high)
 
 -- where the dimensions are the same, the pairs decide
-pub pairs-decide : (P Q : Params) → P .d ≡ Q .d → P .m ≡ Q .m → below 4 (samePair P Q) ≡ sameParams P Q
+pub pairs-decide : (P Q : Params) → P .d ≡ Q .d → P .m ≡ Q .m → (below 4 (samePair P Q) && (eqb (P .a5) (Q .a5) && eqb (P .b5) (Q .b5))) ≡ sameParams P Q
 unfolding sameParams
 pairs-decide P Q h k = simp (eq-eqb _ _ h, eq-eqb _ _ k)
+
+pub pair-differs : (P Q : Params) → P .d ≡ Q .d → P .m ≡ Q .m → below 4 (samePair P Q) ≡ false → false ≡ sameParams P Q
+pair-differs P Q h k e = ap (λ (b : Bool). b && (eqb (P .a5) (Q .a5) && eqb (P .b5) (Q .b5))) (sym e) ∙ pairs-decide P Q h k
 
 -- array i, counted from 1, is one of those that the parameters give, and lies within the sketch, which is small
 pub record Asked (P : Params) (i : ℕ) : Type 0 where
@@ -129,11 +141,12 @@ module _ (P : Params) where
   pub resized-good : (n : ℕ) → goodParams P ≡ true → 1 ≤ n → n ≤ 16384 → goodParams (resized P n) ≡ true
   unfolding goodParams
   resized-good n g l h =
-      let k = and-true _ _ g in
+      let i = and-true _ _ g in
+      let k = and-true _ _ (i .0) in
       let j = and-true _ _ (k .0) in
       let s = dimensions P (j .0) in
       let sized : goodDimensions (resized P n) ≡ true = dimensions-good (record { d-low = s .d-low; d-high = s .d-high; m-low = l; m-high = h }) in
-      rw (sized, j .1, k .1)
+      rw (sized, j .1, k .1, i .1)
 
   pub asked : (i : ℕ) → not (goodParams P && (leb 1 i && leb i (P .d))) ≡ false → Asked P i
   asked i e =
@@ -154,6 +167,10 @@ module _ (P : Params) where
   unfolding positionAnswer
   asked-done i f e = asked i (refuse-done (not (goodParams P && (leb 1 i && leb i (P .d)))) Param 0 _ e .0)
 
+  pub flow-done : (i f : ℕ) → positionAnswer P i f ≡ Done → isFlow P f ≡ true
+  unfolding positionAnswer
+  flow-done i f e = not-false (isFlow P f) (refuse-done (not (isFlow P f)) Flow 0 Done (refuse-done (not (goodParams P && (leb 1 i && leb i (P .d)))) Param 0 _ e .1) .0)
+
 -- a position or an index as it is given
 pub located-at : (r answer : Answer) (k j : ℕ) → r ≡ answer → r ≡ Done → k ≡ j → At k ≡ locatedOf answer j
 located-at r answer k j e h q = rw (← e, h, q)
@@ -162,7 +179,7 @@ pub not-located : (r answer : Answer) (w : Refusal) (i j : ℕ) → r ≡ answer
 not-located r answer w i j e h = rw (← e, h)
 
 module _ (P : Params) (f : ℕ) (ks : List ℕ) where
-  -- a flow's positions in a list that is as long as there can be arrays
+  -- the positions of what is sketched, f, in a list that is as long as there can be arrays
   pub positions-found : Dimensions P → length ks ≡ 4 → Positioned P f (positionsIn P f ks)
   unfolding positionsIn
   positions-found z e =
@@ -189,3 +206,18 @@ obtained-none {r} {judged} P e q = ap (λ p. record { answer = r; params = p }) 
 
 pub obtained-done : {r judged : Answer} (P : Params) → r ≡ judged → r ≡ Done → _≡_ {A = Obtained} (record { answer = r; params = P }) (obtained judged P)
 obtained-done {r} {judged} P e q = ap (λ p. record { answer = r; params = p }) (kept-new r _ P q) ∙ ap (λ (a : Answer). obtained a P) e
+
+-- parameters that stand for none break a rule
+pub none-bad : goodParams noParams ≡ false
+unfolding goodParams goodDimensions
+none-bad = refl
+
+-- without their fifth pair parameters that keep the rules keep them too
+pub plain-good : (P : Params) → goodParams P ≡ true → goodParams (plain P) ≡ true
+unfolding goodParams goodDimensions pairAt twins
+plain-good P g =
+    go (goodDimensions P && below 4 (pairAt (primeOf P) (P .d) (P .a) (P .b)) && below 4 (λ i. below i (λ j. not (twins (P .d) (P .a) (P .b) i j)))) (pairOk (primeOf P) (fingerprinted P) (P .a5) (P .b5)) g
+  where
+    go : (b c : Bool) → (b && c) ≡ true → (b && true) ≡ true
+    go true c e = refl
+    go false c e = e

@@ -9,7 +9,7 @@ use borrow.Author.Tests.{eq-eqb, ne-eqb, lt-ltb, le-ltb}
 use lib.Dec.{eqb}
 use Rattle.params.specs.declared.params.Params.{Params}
 use Rattle.params.specs.Params.{goodDimensions}
-use Rattle.params.specs.Positions.{stand, standsIn, stands}
+use Rattle.params.specs.Positions.{stand, standsIn, sketchedStands}
 use Rattle.params.proofs.Rules.{dimensions}
 
 -- the array of a bucket
@@ -33,14 +33,14 @@ pub standing-past : (d m : ℕ) (g : ℕ → ℕ) (k : ℕ) → 1 ≤ m → d * 
 unfolding standsIn
 standing-past d m g k low h = rw (le-ltb (k / m) d (le-div-iff-mul-le low .1 h))
 
--- the two as the code finds them, where the dimensions keep the rules: t is the bucket of flow f in the array that i others stand before
-module _ (P : Params) (f k i : ℕ) (good : goodDimensions P ≡ true) where
-  pub stands-in : {t : ℕ} → i < P .d → i * P .m ≤ k → k < i * P .m + P .m → t ≡ i * P .m + stand P i f → eqb k t ≡ (goodDimensions P && stands P f k)
-  stands-in low h l e = rw (good, e) (sym (standing-in (P .d) (P .m) (λ j. stand P j f) i k low h l))
+-- the two as the code finds them, where the dimensions keep the rules: t is the bucket of what is sketched, x in the array that i others stand before
+module _ (P : Params) (x k i : ℕ) (good : goodDimensions P ≡ true) where
+  pub stands-in : {t : ℕ} → i < P .d → i * P .m ≤ k → k < i * P .m + P .m → t ≡ i * P .m + stand P i x → eqb k t ≡ (goodDimensions P && sketchedStands P x k)
+  stands-in low h l e = rw (good, e) (sym (standing-in (P .d) (P .m) (λ j. stand P j x) i k low h l))
 
-  pub stands-nowhere : P .d ≤ i → i * P .m ≤ k → false ≡ (goodDimensions P && stands P f k)
+  pub stands-nowhere : P .d ≤ i → i * P .m ≤ k → false ≡ (goodDimensions P && sketchedStands P x k)
   stands-nowhere low h =
       rw good
       (sym
-      (standing-past (P .d) (P .m) (λ j. stand P j f) k (dimensions P good .m-low)
+      (standing-past (P .d) (P .m) (λ j. stand P j x) k (dimensions P good .m-low)
       (omega (arith, mul-le-mul-right {m = P .d} {n = i} (P .m) low))))

@@ -2,5 +2,6 @@
 pub mod Lists
 pub mod Answers
 pub mod Params
+pub mod Sketched
 pub mod Positions
 pub mod Faults

@@ -1,4 +1,4 @@
--- Where a flow stands.
+-- Where a flow stands: where what is sketched for it does.
 use mathlib.Core.Bool.{Bool, not, _&&_}
 use mathlib.Core.Path.{_≡_}
 use mathlib.Core.List.{List}
@@ -12,17 +12,22 @@ use Rattle.params.specs.declared.answers.Answer.the-variants.{Done}
 use Rattle.params.specs.Answers.{refuseIf}
 use Rattle.params.specs.Lists.{touched}
 use Rattle.params.specs.Params.{primeOf, isFlow, goodDimensions, goodParams}
+use Rattle.params.specs.Sketched.{sketched}
 
--- where flow f stands in the array that i others stand before
+-- where x, which is what is sketched for a flow, stands in the array that i others stand before
 unfoldable pub stand : Params → ℕ → ℕ → ℕ
-stand P i f = (getD (P .a) i 0 * f + getD (P .b) i 0) % primeOf P % P .m
+stand P i x = (getD (P .a) i 0 * x + getD (P .b) i 0) % primeOf P % P .m
 
--- its position in array i, and the index of its bucket there; arrays count from 1
+-- the index of its bucket in array i; arrays count from 1
+abbrev pub bucketOf : Params → ℕ → ℕ → ℕ
+bucketOf P i x = (i - 1) * P .m + stand P (i - 1) x
+
+-- the position of flow f in array i, and the index of its bucket there
 abbrev pub position : Params → ℕ → ℕ → ℕ
-position P i f = stand P (i - 1) f
+position P i f = stand P (i - 1) (sketched P f)
 
 abbrev pub index : Params → ℕ → ℕ → ℕ
-index P i f = (i - 1) * P .m + position P i f
+index P i f = bucketOf P i (sketched P f)
 
 -- what is judged before a position or an index is given
 unfoldable pub positionAnswer : Params → ℕ → ℕ → Answer
@@ -35,17 +40,21 @@ positionAnswer P i f =
 unfoldable pub standsIn : ℕ → ℕ → (ℕ → ℕ) → ℕ → Bool
 standsIn d m g k = ltb (k / m) d && eqb (g (k / m)) (k % m)
 
+-- x stands in bucket k
+abbrev pub sketchedStands : Params → ℕ → ℕ → Bool
+sketchedStands P x = standsIn (P .d) (P .m) (λ i. stand P i x)
+
 -- flow f stands in bucket k
 abbrev pub stands : Params → ℕ → ℕ → Bool
-stands P f = standsIn (P .d) (P .m) (λ i. stand P i f)
+stands P f = sketchedStands P (sketched P f)
 
--- the list ks with a flow's position in each array where the dimensions keep the rules; the rest is as it was
+-- the list ks with the position of x in each array where the dimensions keep the rules; the rest is as it was
 unfoldable pub positionsIn : Params → ℕ → List ℕ → List ℕ
-positionsIn P f ks = touched (λ i. goodDimensions P && ltb i (P .d)) (λ i k. stand P i f) ks
+positionsIn P x ks = touched (λ i. goodDimensions P && ltb i (P .d)) (λ i k. stand P i x) ks
 
--- the list ks has a flow's position in each array
-pub record Positioned (P : Params) (f : ℕ) (ks : List ℕ) : Type 0 where
-  pub at : (i : ℕ) → i < P .d → getD ks i 0 ≡ stand P i f
+-- the list ks has the position of x in each array
+pub record Positioned (P : Params) (x : ℕ) (ks : List ℕ) : Type 0 where
+  pub at : (i : ℕ) → i < P .d → getD ks i 0 ≡ stand P i x
 
 -- d arrays of m buckets, and a position within each, over slices of these lengths
 pub record WithinArrays (d m : ℕ) (ks : List ℕ) (counts idsums : ℕ) : Type 0 where

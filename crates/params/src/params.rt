@@ -4,8 +4,9 @@ ghost use mathlib.Core.Bool.{_&&_, not, cond};
 ghost use Prim.Native.Nat.{_+_, _-_, _*_, _%_, _<_, _≤_};
 ghost use lib.Dec.{eqb, leb};
 ghost use Rattle.params.specs.Lists.{below};
-ghost use Rattle.params.specs.Params.{prime, isFlow, size as «size-of», noParams, resized as «resized-of», noneObtained, Dimensions, pairOk, pairAt, twins, goodDimensions, goodParams, sameParams};
-ghost use Rattle.params.specs.Positions.{stand as «stand-of», stands as «stands-of», position as «position-of», index as «index-of», positionsIn};
+ghost use Rattle.params.specs.Params.{prime, fingerprinted as «fingerprinted-of», mostFlow, isFlow, size as «size-of», noParams, resized as «resized-of», noneObtained, Dimensions, pairOk, pairAt, twins, goodDimensions, goodParams, sameParams};
+ghost use Rattle.params.specs.Sketched.{sketched as «sketched-of», told as «told-of», isSketched};
+ghost use Rattle.params.specs.Positions.{stand as «stand-of», sketchedStands, position as «position-of», index as «index-of», positionsIn};
 ghost use Rattle.params.specs.Answers.{locatedOf};
 ghost use Rattle.params.specs.Params.{lengthsAnswer, dimensionsAnswer, lentAnswer};
 ghost use Rattle.params.specs.Positions.{positionAnswer};
@@ -16,12 +17,18 @@ use crate::answers::Refusal;
 // The prime of every sketch.
 pub const PRIME: u32 = field::P31;
 
-// d arrays of m buckets, and room for four pairs of a multiplier and an offset.
+// The greatest flow where flows have fingerprints: its extended number is below the prime, whatever its fingerprint is.
+const MOST_FINGERPRINTED: u32 = 8388606;
+
+// d arrays of m buckets, room for four pairs of a multiplier and an offset, and the fifth pair, which gives flows their fingerprints. Both
+// of its numbers are 0 in the plain profile.
 pub struct Params {
     pub d: usize,
     pub m: usize,
     pub a: [u32; 4],
     pub b: [u32; 4],
+    pub a5: u32,
+    pub b5: u32,
 }
 
 // The parameters that a call returns, or why there are none: they are all 0 then. An enum cannot hold an array, so that both come in one
@@ -105,17 +112,17 @@ fn pairs_apart(d: usize, a: [u32; 4], b: [u32; 4]) -> bool
     !twin(3 < d, a[3], b[3], a[2], b[2])
 }
 
-// The position of a flow in an array with the pair a, b.
-fn position_by(a: u32, b: u32, m: usize, f: u32) -> usize
+// A number's position among m by the pair a, b: in an array, or, among 256, the fingerprint of a flow.
+fn position_by(a: u32, b: u32, m: usize, x: u32) -> usize
     requires { ⌜ 1 ≤ m ⌝ }
-    ensures { λ r. ⌜ (r ≡ (a * f + b) % prime % m) × (r < m) ⌝ }
+    ensures { λ r. ⌜ (r ≡ (a * x + b) % prime % m) × (r < m) ⌝ }
 {
-    ((a as u64 * f as u64 + b as u64) % PRIME as u64) as usize % m
+    ((a as u64 * x as u64 + b as u64) % PRIME as u64) as usize % m
 }
 
 impl Params {
     // What stands for parameters where there are none.
-    fn none() -> Params
+    pub fn none() -> Params
         ensures { λ r. ⌜ r ≡ noParams ⌝ }
     {
         Params {
@@ -123,6 +130,8 @@ impl Params {
             m: 0,
             a: [0; 4],
             b: [0; 4],
+            a5: 0,
+            b5: 0,
         }
     }
 
@@ -132,7 +141,14 @@ impl Params {
     {
         let a = self.a;
         let b = self.b;
-        Params { d: self.d, m, a, b }
+        Params {
+            d: self.d,
+            m,
+            a,
+            b,
+            a5: self.a5,
+            b5: self.b5,
+        }
     }
 
     // Whether the dimensions keep the rules: what the code needs so that every index is one.
@@ -164,7 +180,10 @@ impl Params {
         if !pairs_ok(d, a, b) {
             return false;
         }
-        pairs_apart(d, a, b)
+        if !pairs_apart(d, a, b) {
+            return false;
+        }
+        pair_ok(self.fingerprinted(), self.a5, self.b5)
     }
 
     // Whether two sets of parameters are the same.
@@ -190,7 +209,10 @@ impl Params {
         if !same_pair(a[2], b[2], c[2], e[2]) {
             return false;
         }
-        same_pair(a[3], b[3], c[3], e[3])
+        if !same_pair(a[3], b[3], c[3], e[3]) {
+            return false;
+        }
+        same_pair(self.a5, self.b5, q.a5, q.b5)
     }
 
     // How many buckets there are; 0 for parameters that break a rule.
@@ -238,6 +260,23 @@ impl Params {
         self.lengths(counts, idsums)
     }
 
+    // Whether flows have fingerprints.
+    pub fn fingerprinted(self) -> bool
+        ensures { λ r. ⌜ r ≡ «fingerprinted-of» self ⌝ }
+    {
+        self.a5 != 0
+    }
+
+    // The greatest flow.
+    fn most_flow(self) -> u32
+        ensures { λ r. ⌜ r ≡ mostFlow self ⌝ }
+    {
+        if self.fingerprinted() {
+            return MOST_FINGERPRINTED;
+        }
+        PRIME - 1
+    }
+
     // Whether a number is that of a flow: switches send 0 for a header that they cannot parse.
     pub fn is_flow(self, f: u32) -> bool
         ensures { λ r. ⌜ r ≡ isFlow self f ⌝ }
@@ -245,7 +284,43 @@ impl Params {
         if f < 1 {
             return false;
         }
-        f < PRIME
+        f <= self.most_flow()
+    }
+
+    // What is sketched for a flow: itself, or its extended number. Of a number that is no flow it is taken modulo 2^32, so that no flow is
+    // judged twice: what is sketched for a flow is below the prime.
+    pub fn sketched(self, f: u32) -> u32
+        ensures { λ r. ⌜ r ≡ «sketched-of» self f % 4294967296 ⌝ }
+    {
+        if !self.fingerprinted() {
+            return f;
+        }
+        let fingerprint = position_by(self.a5, self.b5, 256, f);
+        ((f as u64 * 256 + fingerprint as u64) % 4294967296) as u32
+    }
+
+    // The flow that a sketched number tells.
+    pub fn told(self, x: u32) -> u32
+        ensures { λ r. ⌜ r ≡ «told-of» self x ⌝ }
+    {
+        if !self.fingerprinted() {
+            return x;
+        }
+        x / 256
+    }
+
+    // Whether a number is what is sketched for a flow. The plain profile comes first, so that a walk in it pays for one question more.
+    pub fn is_sketched(self, x: u32) -> bool
+        ensures { λ r. ⌜ r ≡ isSketched self x ⌝ }
+    {
+        if !self.fingerprinted() {
+            return self.is_flow(x);
+        }
+        let f = self.told(x);
+        if !self.is_flow(f) {
+            return false;
+        }
+        (x % 256) as usize == position_by(self.a5, self.b5, 256, f)
     }
 
     // The parameters, the array and the flow are right.
@@ -273,7 +348,7 @@ impl Params {
     {
         let asked = self.asked(i, f);
         match asked {
-            Answer::Done => Located::At(self.stand(i - 1, f)),
+            Answer::Done => Located::At(self.stand(i - 1, self.sketched(f))),
             Answer::Refused(refusal, index) => Located::Refused(refusal, index),
         }
     }
@@ -284,25 +359,25 @@ impl Params {
     {
         let asked = self.asked(i, f);
         match asked {
-            Answer::Done => Located::At((i - 1) * self.m + self.stand(i - 1, f)),
+            Answer::Done => Located::At((i - 1) * self.m + self.stand(i - 1, self.sketched(f))),
             Answer::Refused(refusal, index) => Located::Refused(refusal, index),
         }
     }
 
-    // Where a flow stands in the array that i others stand before: here, for the code's own use, arrays count from 0.
-    fn stand(self, i: usize, f: u32) -> usize
+    // Where what is sketched stands in the array that i others stand before: here, for the code's own use, arrays count from 0.
+    fn stand(self, i: usize, x: u32) -> usize
         requires { ⌜ Dimensions self × (i < self .d) ⌝ }
-        ensures { λ r. ⌜ (r ≡ «stand-of» self i f) × (r < self .m) ⌝ }
+        ensures { λ r. ⌜ (r ≡ «stand-of» self i x) × (r < self .m) ⌝ }
     {
         let a = self.a;
         let b = self.b;
-        position_by(a[i], b[i], self.m, f)
+        position_by(a[i], b[i], self.m, x)
     }
 
-    // Whether a flow stands in bucket k; in no bucket where the dimensions break a rule. Written out, as the checks are: with an index that
-    // is not a constant, both arrays of pairs would be copied at every call.
-    pub fn stands(self, f: u32, k: usize) -> bool
-        ensures { λ r. ⌜ r ≡ (goodDimensions self && «stands-of» self f k) ⌝ }
+    // Whether what is sketched stands in bucket k; in no bucket where the dimensions break a rule. Written out, as the checks are: with an
+    // index that is not a constant, both arrays of pairs would be copied at every call.
+    pub fn sketched_stands(self, x: u32, k: usize) -> bool
+        ensures { λ r. ⌜ r ≡ (goodDimensions self && sketchedStands self x k) ⌝ }
     {
         if !self.good_dimensions() {
             return false;
@@ -312,30 +387,30 @@ impl Params {
         let a = self.a;
         let b = self.b;
         if k < m {
-            return k == position_by(a[0], b[0], m, f);
+            return k == position_by(a[0], b[0], m, x);
         }
         if k < 2 * m {
-            return k == m + position_by(a[1], b[1], m, f);
+            return k == m + position_by(a[1], b[1], m, x);
         }
         if d <= 2 {
             return false;
         }
         if k < 3 * m {
-            return k == 2 * m + position_by(a[2], b[2], m, f);
+            return k == 2 * m + position_by(a[2], b[2], m, x);
         }
         if d <= 3 {
             return false;
         }
         if k < 4 * m {
-            return k == 3 * m + position_by(a[3], b[3], m, f);
+            return k == 3 * m + position_by(a[3], b[3], m, x);
         }
         false
     }
 
-    // A flow's position in each array, found once for all that a caller does with them. Where the dimensions break a rule nothing is written.
-    // Written out, as the checks are.
-    pub fn positions(self, f: u32, ks: &mut [usize; 4])
-        ensures { λ r. ⌜ now (ks .exit) ≡ positionsIn self f (now (ks .entry)) ⌝ }
+    // The position in each array of what is sketched, found once for all that a caller does with them. Where the dimensions break a rule
+    // nothing is written. Written out, as the checks are.
+    pub fn positions(self, x: u32, ks: &mut [usize; 4])
+        ensures { λ r. ⌜ now (ks .exit) ≡ positionsIn self x (now (ks .entry)) ⌝ }
     {
         if !self.good_dimensions() {
             return;
@@ -344,13 +419,13 @@ impl Params {
         let m = self.m;
         let a = self.a;
         let b = self.b;
-        ks[0] = position_by(a[0], b[0], m, f);
-        ks[1] = position_by(a[1], b[1], m, f);
+        ks[0] = position_by(a[0], b[0], m, x);
+        ks[1] = position_by(a[1], b[1], m, x);
         if 2 < d {
-            ks[2] = position_by(a[2], b[2], m, f);
+            ks[2] = position_by(a[2], b[2], m, x);
         }
         if 3 < d {
-            ks[3] = position_by(a[3], b[3], m, f);
+            ks[3] = position_by(a[3], b[3], m, x);
         }
     }
 }

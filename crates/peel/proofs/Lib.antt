@@ -17,6 +17,7 @@ pub mod RangeLoop
 pub mod Taken
 pub mod Turns
 pub mod Begins
+pub mod Telling
 pub mod Peeled
 pub mod Promised
 pub mod InOrder

@@ -2,13 +2,14 @@
 use mathlib.Core.Path.{_≡_, sym, ap, _∙_}
 use Prim.Native.Nat.{ℕ}
 use native.Mathlib.Omega.{arith}
-use lib.ListN.{length, replicate}
+use lib.ListN.{length, replicate, length-map}
 use Rattle.params.specs.declared.params.Params.{Params}
 use Rattle.params.specs.declared.answers.Refusal.{Refusal}
 use Rattle.params.specs.declared.answers.Answer.{Answer}
 use Rattle.params.specs.declared.answers.Answer.the-variants.{Done, Refused}
 use Rattle.params.specs.Answers.{kept}
 use Rattle.walk.specs.Walk.{Outcome, closedTable}
+use Rattle.walk.specs.Shown.{tell, shownTable}
 use Rattle.peel.specs.declared.peeling.Figures.{Figures}
 use Rattle.peel.specs.declared.peeling.Peeled.the-variants.{Ended, Refused as NotPeeled}
 use Rattle.peel.specs.Slices.{Slices, slices}
@@ -17,9 +18,9 @@ use Rattle.peel.specs.Peel.{figuresOf, peeledOf, closedSlices, judged, w
 use Rattle.peel.proofs.Padding.{all-zeros, entries-many, padded-flows, padded-numbers}
 use Rattle.peel.proofs.Judged.{judged-peelable}
 
-figures-are : {o : Outcome} {r : Figures} {L : Slices} → Leaves o r L → r ≡ figuresOf o
-figures-are {o} {r} {L} l =
-    let many = entries-many (L .flows) (L .numbers) (r .entries) (closedTable o) (l .table) in
+figures-are : {P : Params} {o : Outcome} {r : Figures} {L : Slices} → Leaves P o r L → r ≡ figuresOf o
+figures-are {P} {o} {r} {L} l =
+    let many = entries-many (L .flows) (L .numbers) (r .entries) (shownTable P o) (l .table) ∙ length-map (closedTable o) (tell P) in
     λ i. record { ending = l .ending i; entries = many i; lost = l .lost i; extra = l .extra i; pops = l .pops i }
 
 module _ (P : Params) (allowance : ℕ) (L : Slices) where
@@ -32,11 +33,11 @@ module _ (P : Params) (allowance : ℕ) (L : Slices) where
       }
 
   -- where nothing is refused, L' is what the walk and the close left
-  module _ (done : Done ≡ judged P L) (r : Figures) (L' : Slices) (l : Leaves (walked P allowance L) r L') (long : length (L' .flows) ≡ length (L .flows)) (long-numbers : length (L' .numbers) ≡ length (L .numbers)) (long-queue : length (L' .queue) ≡ length (L .queue)) (long-marks : length (L' .marks) ≡ length (L .marks)) where
+  module _ (done : Done ≡ judged P L) (r : Figures) (L' : Slices) (l : Leaves P (walked P allowance L) r L') (long : length (L' .flows) ≡ length (L .flows)) (long-numbers : length (L' .numbers) ≡ length (L .numbers)) (long-queue : length (L' .queue) ≡ length (L .queue)) (long-marks : length (L' .marks) ≡ length (L .marks)) where
     closed : L' ≡ closedSlices P (walked P allowance L) L
     closed =
         let s = judged-peelable P L (sym done) in
-        let T = closedTable (walked P allowance L) in
+        let T = shownTable P (walked P allowance L) in
         let flows = padded-flows (L' .flows) (L' .numbers) (r .entries) T (l .table) (length (L .flows)) long (omega (arith, l .room)) (l .past) in
         let numbers = padded-numbers (L' .flows) (L' .numbers) (r .entries) T (l .table) (length (L .numbers)) long-numbers (omega (arith, l .room, s .slots)) (l .past-numbers) in
         let queue = all-zeros 0 (L' .queue) (l .queue) ∙ ap (λ (n : ℕ). replicate n 0) (long-queue ∙ s .long) in

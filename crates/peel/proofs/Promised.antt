@@ -5,7 +5,7 @@ use mathlib.Core.List.{List, [], _∷_}
 use Prim.Native.Nat.{ℕ, _+_, _*_, _<_, _≤_}
 use native.Mathlib.Omega.{arith}
 use lib.IntN.{ℤ, pos, _+ℤ_, _-ℤ_}
-use lib.ListN.{length, getD, replicate}
+use lib.ListN.{length, getD, replicate, length-map}
 use Rattle.params.proofs.Changes.{padded-past}
 use Rattle.params.specs.Lists.{padded}
 use Rattle.field.specs.Parts.{up, down}
@@ -15,7 +15,8 @@ use Rattle.params.specs.declared.answers.Answer.{Answer}
 use Rattle.params.specs.declared.answers.Answer.the-variants.{Done, Refused}
 use Rattle.params.specs.Answers.{numberIn, indexIn, kept}
 use Rattle.params.specs.Params.{primeOf, size, isFlow}
-use Rattle.params.specs.Positions.{stands}
+use Rattle.params.specs.Sketched.{isSketched}
+use Rattle.params.specs.Positions.{sketchedStands}
 use Rattle.buckets.specs.Buckets.{inLimits}
 use Rattle.sketch.specs.Sketch.{Sketch, Entry, by, countIn, idsumIn, sketchOf}
 use Rattle.sums.specs.Sums.{combined}
@@ -23,8 +24,9 @@ use Rattle.sketch.proofs.Tables.{from-at}
 use Rattle.walk.specs.Endings.{endingNumber}
 use Rattle.walk.specs.Walk.{Outcome, firstQueue, walk, closedTable, lostBy, extraBy}
 use Rattle.walk.specs.Purity.{pureTest, foundNumber}
+use Rattle.walk.specs.Shown.{tell, shownTable}
 use Rattle.walk.proofs.Numbers.{pure-by-number, never-four as no-ending-four}
-use Rattle.walk.proofs.Figures.{allCounts, figures-differ as of-table}
+use Rattle.walk.proofs.Figures.{allCounts, told-summed, figures-differ as of-table}
 use Rattle.walk.proofs.ArrayTotals.{arrayTotal}
 use Rattle.walk.proofs.Promises as walks
 use Rattle.sketch.proofs.Whole.{Whole}
@@ -79,9 +81,9 @@ module _ {P : Params} {a : ℕ} {L : Slices} {r : Peeled} {L' : Slices} (h : Pee
   abbrev S' : Sketch
   S' = lentSketch L'
 
-  -- the walk's table after the close, and the table as the caller reads it
+  -- the walk's table as it is shown, and the table as the caller reads it
   abbrev closed : List Entry
-  closed = closedTable o
+  closed = shownTable P o
 
   abbrev pub listed : List Entry
   listed = tableOf (L' .flows) (L' .numbers) (peeledEntries r)
@@ -118,7 +120,7 @@ module _ {P : Params} {a : ℕ} {L : Slices} {r : Peeled} {L' : Slices} (h : Pee
     numbers-are = ap (λ (L : Slices). L .numbers) after-is
 
     entries-are : peeledEntries r ≡ length closed
-    entries-are = ap peeledEntries answer-is
+    entries-are = ap peeledEntries answer-is ∙ sym (length-map (closedTable o) (tell P))
 
     ending-is : peeledEnding r ≡ endingNumber (o .ending)
     ending-is = ap peeledEnding answer-is
@@ -163,12 +165,12 @@ module _ {P : Params} {a : ℕ} {L : Slices} {r : Peeled} {L' : Slices} (h : Pee
         walks.stuck-only P (length (L .flows)) a S sound-input (sym ending-is ∙ e) k _ l
         (pure-by-number _ (subst (λ (T : Sketch). foundNumber (pureTest P k (countIn T k) (idsumIn T k)) ≡ 1) remainder-is t))
 
-    -- so where a count remains, the one number of its bucket is 0 or does not stand there
-    pub stuck-stands : peeledEnding r ≡ 2 → (k : ℕ) → k < size P → (countIn S' k ≡ pos 0 → ⊥) → let f = flow (primeOf P) (countIn S' k) (idsumIn S' k) in (f ≡ 0 → ⊥) → stands P f k ≡ false
-    stuck-stands e k l d nonzero =
-        subst (λ (T : Sketch). stands P (flow (primeOf P) (countIn T k) (idsumIn T k)) k ≡ false) (sym remainder-is)
+    -- so where a count remains, the one number of its bucket is not sketched for any flow, or does not stand there
+    pub stuck-stands : peeledEnding r ≡ 2 → (k : ℕ) → k < size P → (countIn S' k ≡ pos 0 → ⊥) → let x = flow (primeOf P) (countIn S' k) (idsumIn S' k) in isSketched P x ≡ true → sketchedStands P x k ≡ false
+    stuck-stands e k l d of-flow =
+        subst (λ (T : Sketch). sketchedStands P (flow (primeOf P) (countIn T k) (idsumIn T k)) k ≡ false) (sym remainder-is)
         (walks.stuck-stands P (length (L .flows)) a S sound-input (sym ending-is ∙ e) k l (λ z. d (ap (λ (T : Sketch). countIn T k) remainder-is ∙ z))
-        (λ z. nonzero (ap (λ (T : Sketch). flow (primeOf P) (countIn T k) (idsumIn T k)) remainder-is ∙ z)))
+        (subst (λ (T : Sketch). isSketched P (flow (primeOf P) (countIn T k) (idsumIn T k)) ≡ true) remainder-is of-flow))
 
     -- the sketch of flow 0 alone is stuck where a pop of each bucket with a count is allowed: these are made, nothing is listed, and all of it remains
     pub flow-zero-stuck : (n : ℤ) → (n ≡ pos 0 → ⊥) → S ≡ sketchOf P (by 0 n ∷ []) → length (firstQueue 0 (S .counts)) ≤ a
@@ -219,10 +221,10 @@ module _ {P : Params} {a : ℕ} {L : Slices} {r : Peeled} {L' : Slices} (h : Pee
 
     -- lost is the sum of the table's positive counts, and extra that of its negative ones without their sign
     pub lost-is : peeledLost r ≡ lostBy listed
-    lost-is = ap peeledLost answer-is ∙ ap lostBy (sym listed-is)
+    lost-is = ap peeledLost answer-is ∙ sym (told-summed P up (closedTable o)) ∙ ap lostBy (sym listed-is)
 
     pub extra-is : peeledExtra r ≡ extraBy listed
-    extra-is = ap peeledExtra answer-is ∙ ap extraBy (sym listed-is)
+    extra-is = ap peeledExtra answer-is ∙ sym (told-summed P down (closedTable o)) ∙ ap extraBy (sym listed-is)
 
     -- lost less extra is the sum of all its counts
     pub figures-differ : pos (peeledLost r) -ℤ pos (peeledExtra r) ≡ allCounts listed
@@ -248,7 +250,7 @@ module _ {P : Params} {a : ℕ} {L : Slices} {r : Peeled} {L' : Slices} (h : Pee
 
     -- both together are at most as many times the limit as there are entries
     pub figures-small : peeledLost r + peeledExtra r ≤ peeledEntries r * 2147483646
-    figures-small = rw answer-is (walks.figures-small P (length (L .flows)) a S)
+    figures-small = rw (entries-are, ap peeledLost answer-is, ap peeledExtra answer-is) (walks.figures-small P (length (L .flows)) a S)
 
     -- table slots past the entries, the queue and the marks are all 0
     pub cleared-flows : (k : ℕ) → peeledEntries r ≤ k → getD (L' .flows) k 0 ≡ 0

@@ -15,7 +15,7 @@ use Rattle.field.proofs.Residues.{residue-below}
 use Rattle.params.specs.declared.params.Params.{Params}
 use Rattle.params.specs.Lists.{touched}
 use Rattle.params.specs.Params.{prime}
-use Rattle.params.specs.Positions.{index, standsIn, Positioned}
+use Rattle.params.specs.Positions.{bucketOf, standsIn, Positioned}
 use Rattle.buckets.specs.Buckets.{inLimits}
 use Rattle.sketch.specs.Sketch.{Sketch, Entry, sketch, changedIn}
 use Rattle.params.proofs.Searches.{and-true}
@@ -103,7 +103,7 @@ module _ {P : Params} {L : Slices} {head waiting nonzero entries : ℕ} {ks : Li
               same-state (applied-less (t .positions) a)
               (r .list
               ∙ ap (requeue (λ i. i * P .m + getD ks i 0) (sketch (L' .counts) []) 0 (P .d)) (ring-same (L .queue) q₁ long-queue (l .below) head waiting)
-              ∙ requeue-same _ (λ i. index P i f) (L' .counts) [] (L' .idsums) 0 (P .d) (λ i u. ap (λ (n : ℕ). i * P .m + n) (t .positions .at i (omega arith)) ∙ sym (index-next P i f)) _
-              ∙ ap (λ (S : Sketch). requeue (λ i. index P i f) S 1 (P .d) (ring (L .queue) head waiting)) (applied-less (t .positions) a))
+              ∙ requeue-same _ (λ i. bucketOf P i f) (L' .counts) [] (L' .idsums) 0 (P .d) (λ i u. ap (λ (n : ℕ). i * P .m + n) (t .positions .at i (omega arith)) ∙ sym (index-next P i f)) _
+              ∙ ap (λ (S : Sketch). requeue (λ i. bucketOf P i f) S 1 (P .d) (ring (L .queue) head waiting)) (applied-less (t .positions) a))
               (credit .table);
         }

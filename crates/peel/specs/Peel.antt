@@ -17,6 +17,7 @@ use Rattle.sketch.specs.Sketch.{Sketch, Entry, damagedAt}
 use Rattle.walk.specs.Endings.{endingNumber}
 use Rattle.walk.specs.Walk.{Outcome, walk, closedTable, lostOf, extraOf}
 use Rattle.walk.specs.Purity.{ruleOf}
+use Rattle.walk.specs.Shown.{shownTable}
 use Rattle.peel.specs.Slices.{Slices, slices, lentSketch}
 use Rattle.peel.specs.declared.peeling.Figures.{Figures}
 use Rattle.peel.specs.declared.peeling.Peeled.{Peeled}
@@ -88,13 +89,13 @@ unfoldable pub numbersOf : List Entry → List ℤ
 numbersOf [] = []
 numbersOf (e ∷ es) = e .number ∷ numbersOf es
 
--- what the slices L hold after, where nothing is refused: the remainder, the closed table with 0 in the slots past it, and zeros for the
--- queue and the marks
+-- what the slices L hold after, where nothing is refused: the remainder, the table that is shown with 0 in the slots past it, and zeros for
+-- the queue and the marks
 abbrev pub closedSlices : Params → Outcome → Slices → Slices
 closedSlices P o L =
     slices (o .remainder .counts) (o .remainder .idsums)
-    (padded (length (L .flows)) 0 (flowsOf (closedTable o)))
-    (padded (length (L .numbers)) (pos 0) (numbersOf (closedTable o)))
+    (padded (length (L .flows)) 0 (flowsOf (shownTable P o)))
+    (padded (length (L .numbers)) (pos 0) (numbersOf (shownTable P o)))
     (replicate (size P) 0)
     (replicate (size P) 0)
 

@@ -1,4 +1,4 @@
--- How the slices of the walk stand for the state of its definition.
+-- How the slices of the walk stand for the state of its definition. As in the walk, a flow here is what is sketched for it.
 use mathlib.Core.Path.{_≡_}
 use mathlib.Core.Bool.{Bool, true}
 use mathlib.Core.List.{List}
@@ -9,8 +9,9 @@ use Rattle.params.specs.declared.params.Params.{Params}
 use Rattle.params.specs.Params.{prime, Dimensions}
 use Rattle.params.specs.Positions.{Positioned}
 use Rattle.buckets.specs.Buckets.{inLimits}
-use Rattle.walk.specs.Walk.{State, Outcome, entryOf, taken, closedTable, lostOf, extraOf}
+use Rattle.walk.specs.Walk.{State, Outcome, entryOf, taken, lostOf, extraOf}
 use Rattle.walk.specs.Purity.{ruleOf}
+use Rattle.walk.specs.Shown.{shownTable}
 use Rattle.peel.specs.declared.take.Taken.{Taken}
 use Rattle.peel.specs.declared.walking.Walked.{Walked}
 use Rattle.peel.specs.declared.peeling.Figures.{Figures}
@@ -72,13 +73,13 @@ pub record Peelable (P : Params) (L : Slices) : Type 0 where
   pub long : length (L .queue) ≡ P .d * P .m
   pub long-marks : length (L .marks) ≡ P .d * P .m
 
-pub record Leaves (o : Outcome) (r : Figures) (L : Slices) : Type 0 where
+pub record Leaves (P : Params) (o : Outcome) (r : Figures) (L : Slices) : Type 0 where
   pub ending : r .ending ≡ o .ending
   pub pops : r .pops ≡ o .pops
   pub lost : r .lost ≡ lostOf o
   pub extra : r .extra ≡ extraOf o
   pub remainder : lentSketch L ≡ o .remainder
-  pub table : tableOf (L .flows) (L .numbers) (r .entries) ≡ closedTable o
+  pub table : tableOf (L .flows) (L .numbers) (r .entries) ≡ shownTable P o
   pub room : r .entries ≤ length (L .flows)
   pub past : (k : ℕ) → r .entries ≤ k → getD (L .flows) k 0 ≡ 0
   pub past-numbers : (k : ℕ) → r .entries ≤ k → getD (L .numbers) k (pos 0) ≡ pos 0

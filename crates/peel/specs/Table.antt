@@ -4,7 +4,10 @@ use mathlib.Core.List.{List}
 use Prim.Native.Nat.{ℕ, _<_, _≤_}
 use lib.IntN.{ℤ, pos}
 use lib.ListN.{getD, length}
-use Rattle.params.specs.Lists.{from}
+use lib.Dec.{ltb}
+use Rattle.params.specs.declared.params.Params.{Params}
+use Rattle.params.specs.Lists.{touched, from}
+use Rattle.params.specs.Sketched.{told}
 use Rattle.sketch.specs.Sketch.{Entry, by}
 use Rattle.walk.specs.Walk.{credited, close, lostBy, extraBy}
 use Rattle.peel.specs.declared.table.Listed.{Listed}
@@ -27,6 +30,10 @@ pub record FindsFrom (a : ℕ) (fs : List ℕ) (n f r : ℕ) : Type 0 where
   pub within : r ≤ n
   pub before : (j : ℕ) → j < r → a ≤ j → getD fs j 0 ≡ f → ⊥
   pub found : r < n → getD fs r 0 ≡ f
+
+-- the first n slots told: where they held what is sketched for a flow, they hold the flow
+abbrev pub toldSlots : Params → ℕ → List ℕ → List ℕ
+toldSlots P n fs = touched (λ i. ltb i n) (λ i x. told P x) fs
 
 -- what a take leaves in the table, and what the close does
 pub record Credited (f : ℕ) (c : ℤ) (fs : List ℕ) (ns : List ℤ) (n : ℕ) (fs' : List ℕ) (ns' : List ℤ) (r : ℕ) : Type 0 where

@@ -9,6 +9,7 @@ ghost use Rattle.peel.specs.Rep.{Peelable, Leaves};
 ghost use Rattle.peel.specs.Peel.{walkLentAnswer, peelAnswer, Peels};
 use crate::queue::clear;
 use crate::table::close;
+use crate::table::tell;
 use crate::walking::walk_whole;
 use buckets::first_damaged;
 use params::Answer;
@@ -86,7 +87,7 @@ fn judge(
     Answer::Done
 }
 
-// The walk and the close, where nothing is refused.
+// The walk and the close, where nothing is refused; then the flows are told.
 fn unravel(
     p: Params,
     counts: &mut [i32],
@@ -98,13 +99,14 @@ fn unravel(
     allowance: u32,
 ) -> Figures
     requires { ⌜ Peelable p (slices (now counts) (now idsums) (now flows) (now numbers) (now queue) (now marks)) ⌝ }
-    ensures { λ r. ⌜ Leaves («walk-of» (ruleOf p) (length (now (flows .entry))) allowance (sketch (now (counts .entry)) (now (idsums .entry)))) r (slices (now (counts .exit)) (now (idsums .exit)) (now (flows .exit)) (now (numbers .exit)) (now (queue .exit)) (now (marks .exit))) ⌝ }
+    ensures { λ r. ⌜ Leaves p («walk-of» (ruleOf p) (length (now (flows .entry))) allowance (sketch (now (counts .entry)) (now (idsums .entry)))) r (slices (now (counts .exit)) (now (idsums .exit)) (now (flows .exit)) (now (numbers .exit)) (now (queue .exit)) (now (marks .exit))) ⌝ }
 {
     let walked = walk_whole(p, counts, idsums, flows, numbers, queue, marks, allowance);
     let ending = walked.ending;
     let pops = walked.pops;
     let reached = walked.entries;
     let listed = close(flows, numbers, reached);
+    tell(p, flows, listed.entries);
     clear(queue, 0);
     clear(marks, 0);
     Figures {

@@ -1,4 +1,5 @@
-// The table of flows: the first n slots of two slices, in the order of first takes. Its slots stand in chains, as many as there are
+// The table of flows: the first n slots of two slices, in the order of first takes. In the walk a slot holds what is sketched for its flow; at
+// the end the flows are told. Its slots stand in chains, as many as there are
 // buckets, so that a flow is looked up along its own chain alone: `marks[k] / 2` is 1 + the newest slot of chain k, and
 // `queue[e] / 65536` is 1 + the next lower slot in the chain of slot e. A slot past the queue's end, in a table with more slots than
 // there are buckets, has no room for a link and is scanned: each take then compares as many flows more as there are entries past
@@ -6,6 +7,7 @@
 ghost use mathlib.Core.Path.{_≡_};
 ghost use mathlib.Core.Bool.{true};
 ghost use Prim.Native.Nat.{_/_, _<_, _≤_};
+ghost use lib.Dec.{ltb};
 ghost use lib.IntN.{pos, _+ℤ_};
 ghost use lib.ListN.{length, getD};
 ghost use Rattle.field.specs.Parts.{up, down};
@@ -13,8 +15,9 @@ ghost use Rattle.buckets.specs.Buckets.{inLimits};
 ghost use Rattle.walk.specs.Walk.{entryOf};
 ghost use Rattle.peel.specs.Ring.{Cleared};
 ghost use Rattle.params.specs.Params.{Dimensions};
+ghost use Rattle.params.specs.Lists.{touched};
 ghost use Rattle.peel.specs.Chains.{chainBy, chainKey, Chained, Linked, Relinked};
-ghost use Rattle.peel.specs.Table.{tableOf, Finds, FindsFrom, Credited, Lists};
+ghost use Rattle.peel.specs.Table.{tableOf, toldSlots, Finds, FindsFrom, Credited, Lists};
 use crate::queue::clear;
 use params::PRIME;
 use params::Params;
@@ -175,5 +178,27 @@ pub(crate) fn close(flows: &mut [u32], numbers: &mut [i32], n: usize) -> Listed
         entries,
         lost,
         extra,
+    }
+}
+
+// The first n slots without their last eight bits: the profile is asked for once, outside the loop.
+fn tell_each(flows: &mut [u32], n: usize)
+    requires { ⌜ n ≤ length (now flows) ⌝ }
+    ensures { λ _. ⌜ now (flows .exit) ≡ touched (λ i. ltb i n) (λ i x. x / 256) (now (flows .entry)) ⌝ }
+{
+    let mut i = 0;
+    while i < n {
+        flows[i] = flows[i] / 256;
+        i += 1;
+    }
+}
+
+// Tells the flows of the first n slots, which hold what is sketched for them. In the plain profile that is the flow itself.
+pub(crate) fn tell(p: Params, flows: &mut [u32], n: usize)
+    requires { ⌜ n ≤ length (now flows) ⌝ }
+    ensures { λ _. ⌜ now (flows .exit) ≡ toldSlots p n (now (flows .entry)) ⌝ }
+{
+    if p.fingerprinted() {
+        tell_each(flows, n);
     }
 }

@@ -5,7 +5,6 @@ ghost use Rattle.report.specs.Input.{came, ReadOn};
 use desk::states::Stage;
 use desk::states::State;
 use desk::states::start;
-use files::records::HEAD_LENGTH;
 use intake::moving::to_front;
 use intake::opening::head_settled;
 use intake::turning::turn;
@@ -57,8 +56,8 @@ pub(crate) fn take(
     buf: &mut [u8],
     got: usize,
 ) -> Taken {
-    let mut s = start();
-    let mut held = to_front(buf, HEAD_LENGTH, got);
+    let mut s = start(p);
+    let mut held = to_front(buf, s.at, got);
     let mut turns = TURNS;
     while turns > 0 {
         let turned = turn(

@@ -26,8 +26,7 @@ use Rattle.peel.specs.declared.peeling.Peeled.the-variants.{Ended}
 use Rattle.peel.specs.Slices.{Slices, slices}
 use Rattle.peel.specs.Peel.{figuresOf, unlessRefused, peeledOf, closedSlices, judged, walked, peelReturns}
 use Rattle.files.specs.Bytes.{overwritten}
-use Rattle.files.specs.Records.{headLength}
-use Rattle.files.specs.Heads.{paramsIn, headAnswer}
+use Rattle.files.specs.Heads.{headLengthOf, paramsIn, headAnswer}
 use Rattle.streamfile.specs.Streams.{streamAnswer, StreamRead}
 use Rattle.streamfile.proofs.FreshStreams.{fresh-grown}
 use Rattle.lines.specs.Lines.{refusedLine, Lined, lineRoom, lineFits}
@@ -64,24 +63,24 @@ module _ {P : Params} {input text : List ℕ} (r : Reported P input text) where
 
 -- two streams that are accepted into fresh sketches, with few enough buckets and all offsets within 64 bits
 module _ {a b : List ℕ} {S T : Sketch} (one : StreamRead (paramsIn a) a (zeros (paramsIn a)) Done S) (two : StreamRead (paramsIn a) b (zeros (paramsIn a)) Done T)
-    (few : fewEnough (paramsIn a) ≡ true) (near : offsetsFit (drop headLength (a ++ b)) started ≡ true) where
+    (few : fewEnough (paramsIn a) ≡ true) (near : offsetsFit (drop (headLengthOf (paramsIn a)) (a ++ b)) (started (paramsIn a)) ≡ true) where
   abbrev P : Params
   P = paramsIn a
 
   abbrev bytes : List ℕ
-  bytes = drop headLength (a ++ b)
+  bytes = drop (headLengthOf P) (a ++ b)
 
   abbrev fed : Fed
   fed =
-      let s = cond (offsetsFit bytes started) (fedState P bytes (zeros P) (zeros P) started) started in
-      record { state = s; used = s .at - started .at }
+      let s = cond (offsetsFit bytes (started P)) (fedState P bytes (zeros P) (zeros P) (started P)) (started P) in
+      record { state = s; used = s .at - started P .at }
 
   lent-right : lentBoth P (zeros P) (zeros P) ≡ Done
   lent-right = fresh-lent P (fresh-grown one .good)
 
-  feeds : Feeds P bytes (zeros P) (zeros P) started fed
-      (cond (offsetsFit bytes started) (packetsSketch false P bytes (zeros P) started) (zeros P))
-      (cond (offsetsFit bytes started) (packetsSketch true P (rest started (downstreamHeaded P bytes (zeros P) (zeros P) started) bytes) (zeros P) (downstreamHeaded P bytes (zeros P) (zeros P) started)) (zeros P))
+  feeds : Feeds P bytes (zeros P) (zeros P) (started P) fed
+      (cond (offsetsFit bytes (started P)) (packetsSketch false P bytes (zeros P) (started P)) (zeros P))
+      (cond (offsetsFit bytes (started P)) (packetsSketch true P (rest (started P) (downstreamHeaded P bytes (zeros P) (zeros P) (started P)) bytes) (zeros P) (downstreamHeaded P bytes (zeros P) (zeros P) (started P))) (zeros P))
   feeds = taken-fed lent-right (record { state = refl; used = refl; upstream = refl; downstream = refl })
 
   -- what the program lends for the walk
@@ -135,7 +134,7 @@ module _ {a b : List ℕ} {S T : Sketch} (one : StreamRead (paramsIn a) a (zeros
       }
 
   -- they have a report: that of the walk over their difference
-  pub has-report : Reported (paramsIn a) (a ++ b) (walkText (walk (ruleOf (paramsIn a)) (size (paramsIn a)) (8 * size (paramsIn a)) (combined true S T)))
+  pub has-report : Reported (paramsIn a) (a ++ b) (walkText (paramsIn a) (walk (ruleOf (paramsIn a)) (size (paramsIn a)) (8 * size (paramsIn a)) (combined true S T)))
   unfolding made
   has-report = subst (λ text. Reported P (a ++ b) text) (report-of-walk made) made
 
@@ -143,8 +142,8 @@ module _ {a b : List ℕ} {S T : Sketch} (one : StreamRead (paramsIn a) a (zeros
 -- input is refused
 pub data TurnedAway (input : List ℕ) (w : Refusal) (k : ℕ) : Type 0 where
   by-head : beginOf input .answer ≡ Refused w k → TurnedAway input w k
-  by-records : (P : Params) (r : Fed) (up down : Sketch) → beginOf input ≡ record { answer = Done; params = P } → offsetsFit (drop headLength input) started ≡ true
-      → Feeds P (drop headLength input) (zeros P) (zeros P) started r up down → finishAnswer (r .state .stage) (r .state .at) ≡ Refused w k → TurnedAway input w k
+  by-records : (P : Params) (r : Fed) (up down : Sketch) → beginOf input ≡ record { answer = Done; params = P } → offsetsFit (drop (headLengthOf P) input) (started P) ≡ true
+      → Feeds P (drop (headLengthOf P) input) (zeros P) (zeros P) (started P) r up down → finishAnswer (r .state .stage) (r .state .at) ≡ Refused w k → TurnedAway input w k
 
 -- why: any reader of a stream refuses the head so; its buckets are too many; the upstream stream's reader refuses it so; or the downstream's does
 pub data Reason (input : List ℕ) (w : Refusal) (k : ℕ) : Type 0 where

@@ -6,7 +6,7 @@ use Prim.Native.Nat.{ℕ, _+_, _*_, _≤_}
 use native.Mathlib.Omega.{arith}
 use borrow.Author.Tests.{leb-true, le-leb, eq-eqb}
 use lib.IntN.{ℤ, pos, _-ℤ_}
-use lib.ListN.{length, drop}
+use lib.ListN.{length, drop, length-map}
 use Rattle.params.specs.Lists.{padded}
 use Rattle.params.specs.declared.params.Params.{Params}
 use Rattle.params.specs.declared.answers.Answer.the-variants.{Done}
@@ -16,6 +16,7 @@ use Rattle.sums.specs.Sums.{combined}
 use Rattle.sums.specs.History.{negated}
 use Rattle.walk.specs.Walk.{Outcome, walk, closedTable, lostOf, extraOf}
 use Rattle.walk.specs.Purity.{ruleOf}
+use Rattle.walk.specs.Shown.{tell, shownTable}
 use Rattle.walk.specs.Endings.{endingNumber}
 use Rattle.walk.proofs.Figures.{allCounts, counts-less}
 use Rattle.peel.specs.declared.peeling.Figures.{Figures}
@@ -40,7 +41,7 @@ use Rattle.desk.proofs.Accepts.{accepts}
 use Rattle.settle.specs.Settling.{settleJudged, lessDownstream, Settles}
 use Rattle.settle.proofs.Settled.{settled-is-peeled, settled-ends}
 use Rattle.settle.proofs.TwoStreams.{streams-settle, packetsOf, netBetween, difference-packets, by-net-counts}
-use Rattle.files.specs.Records.{headLength}
+use Rattle.files.specs.Heads.{headLengthOf}
 
 -- slices that begin with a table have its lines
 table-lines : (es : List Entry) (fs : List ℕ) (ns : List ℤ) → lossLines (flowsOf es ++ fs) (numbersOf es ++ ns) (length es) ≡ entryLines es
@@ -50,12 +51,12 @@ table-lines (e ∷ es) fs ns =
     losses-first (e .flow) (e .number) (flowsOf es ++ fs) (numbersOf es ++ ns) (length es) ∙ ap (λ ys. lossLine (e .flow) (e .number) ++ ys) (table-lines es fs ns)
 
 -- the text that is written of a walk's figures, of its remainder and of the slices that hold its table
-walk-text : (o : Outcome) (n m : ℕ) → let es = closedTable o in let g = figuresOf o in
-    reportText (padded n 0 (flowsOf es)) (padded m (pos 0) (numbersOf es)) (g .entries) (o .remainder .counts) (o .remainder .idsums) (g .ending) (g .pops) (g .lost) (g .extra) ≡ walkText o
+walk-text : (P : Params) (o : Outcome) (n m : ℕ) → let es = shownTable P o in let g = figuresOf o in
+    reportText (padded n 0 (flowsOf es)) (padded m (pos 0) (numbersOf es)) (g .entries) (o .remainder .counts) (o .remainder .idsums) (g .ending) (g .pops) (g .lost) (g .extra) ≡ walkText P o
 unfolding reportText walkText padded
-walk-text o n m =
+walk-text P o n m =
     ap (λ ys. ys ++ (leftLines (o .remainder .counts) (o .remainder .idsums) (length (o .remainder .counts)) ++ endLine (o .ending) (o .pops) (lostOf o) (extraOf o)))
-    (table-lines (closedTable o) _ _)
+    (ap (lossLines _ _) (sym (length-map (closedTable o) (tell P))) ∙ table-lines (shownTable P o) _ _)
 
 abbrev figuresOr : Peeled → Figures → Figures
 figuresOr (Ended g) h = g
@@ -69,7 +70,7 @@ pub record Reported (P : Params) (input text : List ℕ) : Type 0 where
   pub down : Sketch
   pub fed : Fed
   pub head : beginOf input ≡ record { answer = Done; params = P }
-  pub feeding : Feeds P (drop headLength input) (zeros P) (zeros P) started fed (lentSketch lent) down
+  pub feeding : Feeds P (drop (headLengthOf P) input) (zeros P) (zeros P) (started P) fed (lentSketch lent) down
   pub finished : finishAnswer (fed .state .stage) (fed .state .at) ≡ Done
   pub long : (length (lent .flows) ≡ size P) × (length (lent .numbers) ≡ size P) × (length (lent .queue) ≡ size P) × (length (lent .marks) ≡ size P)
   pub figures : Figures
@@ -112,13 +113,13 @@ module _ {P : Params} {input text : List ℕ} (r : Reported P input text) where
   figures-are = ap (λ x. figuresOr x (r .figures)) (peels .answer ∙ ap (λ x. peeledOf x outcome) ends)
 
   -- the text is that of the walk over their difference, with 8 * d * m pops and d * m slots
-  pub report-of-walk : text ≡ walkText (walk (ruleOf P) (size P) (8 * size P) difference)
+  pub report-of-walk : text ≡ walkText P (walk (ruleOf P) (size P) (8 * size P) difference)
   report-of-walk =
       let g = r .figures in
-      let read : reportText (r .after .flows) (r .after .numbers) (g .entries) (r .after .counts) (r .after .idsums) (g .ending) (g .pops) (g .lost) (g .extra) ≡ walkText outcome =
-      rw (after-is, figures-are) (walk-text outcome (length (r .lent .flows)) (length (r .lent .numbers)))
+      let read : reportText (r .after .flows) (r .after .numbers) (g .entries) (r .after .counts) (r .after .idsums) (g .ending) (g .pops) (g .lost) (g .extra) ≡ walkText P outcome =
+      rw (after-is, figures-are) (walk-text P outcome (length (r .lent .flows)) (length (r .lent .numbers)))
       in
-      r .written ∙ read ∙ ap (λ n. walkText (walk (ruleOf P) n (8 * size P) difference)) (r .long .0)
+      r .written ∙ read ∙ ap (λ n. walkText P (walk (ruleOf P) n (8 * size P) difference)) (r .long .0)
 
   -- it fits where there is room for as many lines as twice the most buckets that a desk takes and one more, which is what the program lends
   pub report-fits : reportFits (lineRoom * (2 * mostBuckets + 1)) (length (r .after .flows)) (length (r .after .numbers)) (r .figures .entries) (length (r .after .counts)) (length (r .after .idsums)) ≡ true
@@ -127,9 +128,9 @@ module _ {P : Params} {input text : List ℕ} (r : Reported P input text) where
       let whole = remainder-whole peels refl in
       let few = leb-true (size P) mostBuckets (few-begun P input (r .head)) in
       let entries = listed-few peels refl in
-      let entries-are : r .figures .entries ≡ length (closedTable outcome) = ap (λ g. g .entries) figures-are in
-      let flows = ap (λ (L : Slices). length (L .flows)) after-is ∙ padded-long (length (r .lent .flows)) 0 _ (omega (arith, entries, entries-are, flows-many (closedTable outcome))) in
-      let numbers = ap (λ (L : Slices). length (L .numbers)) after-is ∙ padded-long (length (r .lent .numbers)) (pos 0) _ (omega (arith, entries, entries-are, numbers-many (closedTable outcome), r .long .0, r .long .1)) in
+      let entries-are : r .figures .entries ≡ length (shownTable P outcome) = ap (λ g. g .entries) figures-are ∙ sym (length-map (closedTable outcome) (tell P)) in
+      let flows = ap (λ (L : Slices). length (L .flows)) after-is ∙ padded-long (length (r .lent .flows)) 0 _ (omega (arith, entries, entries-are, flows-many (shownTable P outcome))) in
+      let numbers = ap (λ (L : Slices). length (L .numbers)) after-is ∙ padded-long (length (r .lent .numbers)) (pos 0) _ (omega (arith, entries, entries-are, numbers-many (shownTable P outcome), r .long .0, r .long .1)) in
       rw (le-leb (r .figures .entries) (length (r .after .flows)) (omega (arith, flows, entries)), le-leb (r .figures .entries) (length (r .after .numbers)) (omega (arith, numbers, entries, r .long .0, r .long .1)), eq-eqb (length (r .after .idsums)) (length (r .after .counts)) (omega (arith, whole .counts-long, whole .idsums-long)), le-leb (lineRoom * (r .figures .entries + length (r .after .counts) + 1)) (lineRoom * (2 * mostBuckets + 1)) (omega (arith, entries, few, r .long .0, whole .counts-long)))
 
   -- where the input is two streams, one directly after the other, the sketches are what their reader makes of them
@@ -151,5 +152,5 @@ pub same-report : {P : Params} {a b a' b' text text' : List ℕ} {S T S' T' : Sk
     → ((f : ℕ) → netBetween a b f ≡ netBetween a' b' f) → text ≡ text'
 same-report {P} r r' one two one' two' e =
     report-of-walk r
-    ∙ ap (λ D. walkText (walk (ruleOf P) (size P) (8 * size P) D)) (difference-is r refl one two ∙ by-net-counts one two one' two' e ∙ sym (difference-is r' refl one' two'))
+    ∙ ap (λ D. walkText P (walk (ruleOf P) (size P) (8 * size P) D)) (difference-is r refl one two ∙ by-net-counts one two one' two' e ∙ sym (difference-is r' refl one' two'))
     ∙ sym (report-of-walk r')

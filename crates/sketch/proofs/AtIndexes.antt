@@ -10,13 +10,14 @@ use Rattle.params.specs.declared.params.Params.{Params}
 use Rattle.params.specs.declared.answers.Answer.the-variants.{Done}
 use Rattle.params.specs.Answers.{kept}
 use Rattle.params.specs.Params.{primeOf, size}
+use Rattle.params.specs.Sketched.{sketched}
 use Rattle.params.specs.Positions.{index, stands}
 use Rattle.buckets.specs.Buckets.{plusMinus, weight}
 use Rattle.sketch.specs.Sketch.{Sketch, countIn, idsumIn, changedIn}
 use Rattle.sketch.specs.Packets.{changed, Moved}
 use Rattle.params.proofs.Searches.{cannot-hold}
 use Rattle.params.proofs.Changes.{getD-touched, untouched}
-use Rattle.params.proofs.Indexes.{index-below, stands-at-index, index-where-stands}
+use Rattle.params.proofs.Indexes.{bucket-below, stands-in-bucket, bucket-where-stands}
 use Rattle.sketch.proofs.Steps.{Let, move-done, step-done}
 
 -- n packets of f went in, or came out where `minus` holds
@@ -30,25 +31,25 @@ module _ {minus : Bool} {P : Params} {f n : ℕ} {S S' : Sketch} (h : Moved minu
 
   module _ (i : ℕ) (low : 1 ≤ i) (high : i ≤ P .d) where
     inside : index P i f < size P
-    inside = index-below P i f (let-in .dimensions) low high
+    inside = bucket-below P i (sketched P f) (let-in .dimensions) low high
 
     pub count-at-index : countIn S' (index P i f) ≡ plusMinus minus (countIn S (index P i f)) (pos n)
     unfolding changed changedIn
     count-at-index =
         rw changes
         (getD-touched (stands P f) (λ k x. plusMinus minus x (pos n)) (S .counts) (index P i f) (pos 0) (omega (arith, inside, let-in .counts))
-        ∙ rw (stands-at-index P f i (let-in .dimensions) low high))
+        ∙ rw (stands-in-bucket P (sketched P f) i (let-in .dimensions) low high))
 
-    pub idsum-at-index : idsumIn S' (index P i f) ≡ residue (primeOf P) (plusMinus minus (pos (idsumIn S (index P i f))) (pos (weight f n)))
+    pub idsum-at-index : idsumIn S' (index P i f) ≡ residue (primeOf P) (plusMinus minus (pos (idsumIn S (index P i f))) (pos (weight (sketched P f) n)))
     unfolding changed changedIn
     idsum-at-index =
         rw changes
-        (getD-touched (stands P f) (λ k x. residue (primeOf P) (plusMinus minus (pos x) (pos (weight f n)))) (S .idsums) (index P i f) 0 (omega (arith, inside, let-in .idsums))
-        ∙ rw (stands-at-index P f i (let-in .dimensions) low high))
+        (getD-touched (stands P f) (λ k x. residue (primeOf P) (plusMinus minus (pos x) (pos (weight (sketched P f) n)))) (S .idsums) (index P i f) 0 (omega (arith, inside, let-in .idsums))
+        ∙ rw (stands-in-bucket P (sketched P f) i (let-in .dimensions) low high))
 
   module _ (k : ℕ) (bucket : k < size P) (other : (i : ℕ) → 1 ≤ i → i ≤ P .d → k ≡ index P i f → ⊥) where
     not-there : stands P f k ≡ false
-    not-there = cannot-hold (stands P f k) (λ e. let w = index-where-stands P f k e in other (w .0) (w .1) (w .2) (w .3))
+    not-there = cannot-hold (stands P f k) (λ e. let w = bucket-where-stands P (sketched P f) k e in other (w .0) (w .1) (w .2) (w .3))
 
     pub count-elsewhere : countIn S' k ≡ countIn S k
     unfolding changed changedIn

@@ -1,9 +1,8 @@
 -- Laws of a step: what holds where nothing is refused, and the stages of its answer.
 use mathlib.Core.Path.{_≡_, refl, sym, ap, _∙_}
-use mathlib.Core.Bool.{Bool, true, false, not, _&&_}
+use mathlib.Core.Bool.{Bool, true, false, not}
 use mathlib.Core.List.{List}
-use Prim.Native.Nat.{ℕ, _+_, _*_, _%_, _≤_, _<_}
-use native.Mathlib.Nat.{mod-lt}
+use Prim.Native.Nat.{ℕ, _+_, _*_, _≤_, _<_}
 use native.Mathlib.Omega.{arith}
 use borrow.Author.Tests.{not-false, eq-eqb}
 use lib.IntN.{ℤ, pos, natAbs}
@@ -14,14 +13,16 @@ use Rattle.params.specs.declared.answers.Answer.{Answer}
 use Rattle.params.specs.declared.answers.Answer.the-variants.{Done, Refused}
 use Rattle.params.specs.Answers.{kept}
 use Rattle.params.specs.Lists.{below}
-use Rattle.params.specs.Params.{prime, primeOf, isFlow, size, Dimensions, goodParams, dimensionsAnswer}
-use Rattle.params.specs.Positions.{stand, standsIn, stands, Positioned, WithinArrays}
+use Rattle.params.specs.Params.{prime, isFlow, size, Dimensions, goodParams, dimensionsAnswer}
+use Rattle.params.specs.Sketched.{sketched}
+use Rattle.params.specs.Positions.{stand, standsIn, sketchedStands, stands, Positioned, WithinArrays}
 use Rattle.buckets.specs.Buckets.{inLimits, isNumber, damaged, plusMinus, weight}
 use Rattle.sketch.specs.Sketch.{Sketch, countIn, idsumIn, damagedAt, leavesAt, smallAt, damagedIn, leavesIn, flowBucketsAnswer, changedIn}
 use Rattle.sketch.specs.Packets.{packetAnswer, entryAnswer, stepAnswer, changed, Stepped, moveAnswer, Moved}
 use Rattle.params.proofs.Judging.{Refuses, first-refused, first-passed, first-done, kept-old, kept-new, refuse-done, refuse-none, refuse-at-done}
 use Rattle.params.proofs.Rules.{dimensions-done}
-use Rattle.params.proofs.Searches.{and-true, and-rest, below-at}
+use Rattle.params.proofs.Searches.{and-rest, below-at}
+use Rattle.params.proofs.Indexes.{stand-below}
 use Rattle.params.proofs.Standing.{standing-in}
 use Rattle.buckets.proofs.Limits.{number-within, whole, small-whole, small-size, small-stays}
 use Rattle.sketch.proofs.Standing.{standing-same, none-standing}
@@ -51,28 +52,24 @@ entry-done P c s f n e =
       high = m .1;
     }
 
--- a flow's position lies within its array
-pub stand-below : (P : Params) (i f : ℕ) → 1 ≤ P .m → stand P i f < P .m
-unfolding stand
-stand-below P i f h = mod-lt ((getD (P .a) i 0 * f + getD (P .b) i 0) % primeOf P) h
-
-pub reached : {P : Params} {f c s : ℕ} {ks : List ℕ} → Dimensions P → c ≡ P .d * P .m → s ≡ P .d * P .m → Positioned P f ks → WithinArrays (P .d) (P .m) ks c s
-reached {P} {f} h e q p =
+-- the positions that the code keeps lie within their arrays
+pub reached : {P : Params} {x c s : ℕ} {ks : List ℕ} → Dimensions P → c ≡ P .d * P .m → s ≡ P .d * P .m → Positioned P x ks → WithinArrays (P .d) (P .m) ks c s
+reached {P} {x} h e q p =
     record {
       d-high = h .d-high;
       m-low = h .m-low;
       m-high = h .m-high;
-      inside = λ i l. rw (p .at i l) (stand-below P i f (h .m-low));
+      inside = λ i l. rw (p .at i l) (stand-below P i x h);
       counts-long = e;
       idsums-long = q;
     }
 
 -- the positions that the code keeps are the flow's
-pub placed : {P : Params} {f : ℕ} {ks : List ℕ} → Positioned P f ks → standsIn (P .d) (P .m) (λ i. getD ks i 0) ≡ stands P f
-placed {P} {f} {ks} p = standing-same (P .d) (P .m) (λ i. getD ks i 0) (λ i. stand P i f) (p .at)
+pub placed : {P : Params} {x : ℕ} {ks : List ℕ} → Positioned P x ks → standsIn (P .d) (P .m) (λ i. getD ks i 0) ≡ sketchedStands P x
+placed {P} {x} {ks} p = standing-same (P .d) (P .m) (λ i. getD ks i 0) (λ i. stand P i x) (p .at)
 
 -- so is what is judged by them, and what is changed
-module _ {P : Params} {f : ℕ} {ks : List ℕ} (p : Positioned P f ks) (minus : Bool) (z : ℤ) (n : ℕ) (e : z ≡ pos n) (S : Sketch) where
+module _ {P : Params} (f : ℕ) {ks : List ℕ} (p : Positioned P (sketched P f) ks) (minus : Bool) (z : ℤ) (n : ℕ) (e : z ≡ pos n) (S : Sketch) where
   pub placed-answer : (r : Answer) → r ≡ flowBucketsAnswer (P .d * P .m) (standsIn (P .d) (P .m) (λ i. getD ks i 0)) minus z S → r ≡ flowBucketsAnswer (size P) (stands P f) minus (pos n) S
   placed-answer r h = h ∙ ap (λ (x : ℤ). flowBucketsAnswer (size P) (standsIn (P .d) (P .m) (λ i. getD ks i 0)) minus x S) e ∙ ap (λ (on : ℕ → Bool). flowBucketsAnswer (size P) on minus (pos n) S) (placed p)
 
@@ -157,7 +154,7 @@ module _ (minus : Bool) (P : Params) (f n : ℕ) (S : Sketch) (r : Answer) where
   not-stepped d e h = record { answer = judged d e; after = kept-old r S (changed P minus f n S) h }
 
   pub stepped : (S' : Sketch) → entryAnswer P (length (S .counts)) (length (S .idsums)) f n ≡ Done → r ≡ flowBucketsAnswer (size P) (stands P f) minus (pos n) S → r ≡ Done
-      → S' ≡ changedIn (stands P f) minus (pos n) (weight f n) S → Stepped minus P f n S r S'
+      → S' ≡ changedIn (stands P f) minus (pos n) (weight (sketched P f) n) S → Stepped minus P f n S r S'
   unfolding changed
   stepped S' d e done a = record { answer = judged d e; after = a ∙ kept-new r S (changed P minus f n S) done }
 

@@ -12,6 +12,7 @@ use Rattle.params.specs.declared.answers.Answer.{Answer}
 use Rattle.params.specs.declared.answers.Answer.the-variants.{Done}
 use Rattle.params.specs.Answers.{kept}
 use Rattle.params.specs.Params.{prime, size}
+use Rattle.params.specs.Sketched.{sketched}
 use Rattle.params.specs.Positions.{stands}
 use Rattle.buckets.specs.Buckets.{inLimits, damaged, plusMinus, weight}
 use Rattle.sketch.specs.Sketch.{Sketch, sketch, countIn, idsumIn, damagedIn, leavesIn, flowBucketsAnswer, changedIn}
@@ -30,8 +31,8 @@ unfolding changed changedIn
 changed-back P f n S sound =
     ap₂ sketch
     (touched-back (pos 0) (stands P f) (λ k x. x -ℤ pos n) (λ k x. x +ℤ pos n) (S .counts) (λ k l e. +ℤ-negℤ-cancel (countIn S k) (pos n)))
-    (touched-back 0 (stands P f) (λ k x. residue prime (pos x -ℤ pos (weight f n))) (λ k x. residue prime (pos x +ℤ pos (weight f n))) (S .idsums)
-    (λ k l e. idsum-plus-minus-back (idsumIn S k) (weight f n) (sound k l e)))
+    (touched-back 0 (stands P f) (λ k x. residue prime (pos x -ℤ pos (weight (sketched P f) n))) (λ k x. residue prime (pos x +ℤ pos (weight (sketched P f) n))) (S .idsums)
+    (λ k l e. idsum-plus-minus-back (idsumIn S k) (weight (sketched P f) n) (sound k l e)))
 
 -- a flow's buckets after a step
 pub count-changed : (P : Params) (minus : Bool) (f n : ℕ) (S : Sketch) (k : ℕ) → k < length (S .counts) → stands P f k ≡ true
@@ -40,9 +41,9 @@ unfolding changed changedIn
 count-changed P minus f n S k l s = rw (getD-touched (stands P f) (λ j x. plusMinus minus x (pos n)) (S .counts) k (pos 0) l, s)
 
 pub idsum-changed : (P : Params) (minus : Bool) (f n : ℕ) (S : Sketch) (k : ℕ) → k < length (S .idsums) → stands P f k ≡ true
-    → idsumIn (changed P minus f n S) k ≡ residue prime (plusMinus minus (pos (idsumIn S k)) (pos (weight f n)))
+    → idsumIn (changed P minus f n S) k ≡ residue prime (plusMinus minus (pos (idsumIn S k)) (pos (weight (sketched P f) n)))
 unfolding changed changedIn
-idsum-changed P minus f n S k l s = rw (getD-touched (stands P f) (λ j x. residue prime (plusMinus minus (pos x) (pos (weight f n)))) (S .idsums) k 0 l, s)
+idsum-changed P minus f n S k l s = rw (getD-touched (stands P f) (λ j x. residue prime (plusMinus minus (pos x) (pos (weight (sketched P f) n)))) (S .idsums) k 0 l, s)
 
 -- a step that is not refused is not refused when it is taken back, and leaves what was there
 pub step-back : (P : Params) (f n : ℕ) (S : Sketch) → stepAnswer P false f n S ≡ Done

@@ -12,6 +12,7 @@ use Rattle.params.specs.declared.answers.Answer.{Answer}
 use Rattle.params.specs.declared.answers.Answer.the-variants.{Done}
 use Rattle.params.specs.Answers.{refuseIf, first, kept}
 use Rattle.params.specs.Params.{isFlow, size, goodParams, dimensionsAnswer, lentAnswer}
+use Rattle.params.specs.Sketched.{sketched}
 use Rattle.params.specs.Positions.{stands}
 use Rattle.buckets.specs.Buckets.{isNumber, weight}
 use Rattle.sketch.specs.Sketch.{Sketch, Entry, by, flowBucketsAnswer, changedIn}
@@ -34,7 +35,7 @@ stepAnswer P minus f n S =
     (flowBucketsAnswer (size P) (stands P f) minus (pos n) S)
 
 unfoldable pub changed : Params → Bool → ℕ → ℕ → Sketch → Sketch
-changed P minus f n S = changedIn (stands P f) minus (pos n) (weight f n) S
+changed P minus f n S = changedIn (stands P f) minus (pos n) (weight (sketched P f) n) S
 
 pub record Stepped (minus : Bool) (P : Params) (f n : ℕ) (S : Sketch) (r : Answer) (S' : Sketch) : Type 0 where
   pub answer : r ≡ stepAnswer P minus f n S

@@ -13,6 +13,7 @@ use Rattle.params.specs.declared.answers.Answer.the-variants.{Done}
 use Rattle.params.specs.Lists.{touched, from}
 use Rattle.params.specs.Answers.{refuseAt, kept}
 use Rattle.params.specs.Params.{prime, primeOf, size, lentAnswer}
+use Rattle.params.specs.Sketched.{sketched}
 use Rattle.params.specs.Positions.{stands}
 use Rattle.buckets.specs.Buckets.{inLimits, damagedOf, isSmall, plusMinus}
 
@@ -49,14 +50,14 @@ pub record Entry : Type 0 where
 abbrev pub by : ℕ → ℤ → Entry
 by f z = record { flow = f; number = z }
 
--- the sum of the numbers of all entries whose flow stands in bucket k, and of number times flow over them
+-- the sum of the numbers of all entries whose flow stands in bucket k, and of number times what is sketched for the flow over them
 unfoldable pub countAt : Params → List Entry → ℕ → ℤ
 countAt P [] k = pos 0
 countAt P (e ∷ es) k = cond (stands P (e .flow) k) (e .number) (pos 0) +ℤ countAt P es k
 
 unfoldable pub weightAt : Params → List Entry → ℕ → ℤ
 weightAt P [] k = pos 0
-weightAt P (e ∷ es) k = cond (stands P (e .flow) k) (e .number *ℤ pos (e .flow)) (pos 0) +ℤ weightAt P es k
+weightAt P (e ∷ es) k = cond (stands P (e .flow) k) (e .number *ℤ pos (sketched P (e .flow))) (pos 0) +ℤ weightAt P es k
 
 -- the sketch of a list of entries
 unfoldable pub sketchOf : Params → List Entry → Sketch

@@ -1,12 +1,12 @@
 -- Sketches that can be written and files that can be read are each other's: the file of such a sketch is accepted and holds it, and such a file is that of the sketch that it holds.
 use mathlib.Core.Path.{_≡_, refl, sym, ap, ap₂, _∙_}
 use mathlib.Core.List.{List, _++_, append-assoc}
-use Prim.Native.Nat.{ℕ, _+_, _≤_, _<_}
+use Prim.Native.Nat.{ℕ, _+_, _*_, _≤_, _<_}
 use native.Mathlib.Nat.{zero-add}
 use native.Mathlib.Omega.{arith}
 use borrow.Author.Tests.{eq-eqb, le-ltb}
 use lib.IntN.{pos}
-use lib.ListN.{length, getD, length-append}
+use lib.ListN.{length, getD, take, length-append}
 use lib.Seq.{getD-at}
 use Rattle.params.specs.declared.params.Params.{Params}
 use Rattle.params.specs.declared.answers.Refusal.the-variants.{Damage}
@@ -19,8 +19,10 @@ use Rattle.files.specs.Bytes.{wordBytes}
 use Rattle.files.proofs.HeadStages.{openingAnswer}
 use Rattle.files.specs.Layout.{headBytes, endBytes}
 use Rattle.files.specs.Turns.{inTurn, bucketOffset, endAnswer}
-use Rattle.files.specs.Records.{bucketKind, headLength, endKind}
-use Rattle.files.proofs.HeadTrips.{headed-long, opening-written, opening-done, head-read}
+use Rattle.files.specs.Records.{bucketKind, endKind, bucketLength}
+use Rattle.files.specs.Heads.{headLengthOf}
+use Rattle.files.proofs.Profiles.{length-headBytes}
+use Rattle.files.proofs.HeadTrips.{headed-long, headed-length, opening-written, opening-done, opened-length, head-read}
 use Rattle.files.proofs.RecordTrips.{not-kind, end-written}
 use Rattle.files.proofs.Turning.{in-turn-done, done-in-turn, whole-within, records-are}
 use Rattle.sketchfile.specs.Reading.{bucketsIn, lowest, bucketJudged, bucketsJudged, sketchAnswer, stored, sketchIn}
@@ -56,25 +58,38 @@ module _ (P : Params) (S : Sketch) (able : Writable P S) where
   unfolding sketchBytes
   file-is = sym (append-assoc (headBytes P) (bucketsBytes 0 (size P) S) (endBytes number))
 
-  end-place : length before ≡ bucketOffset number
-  end-place = headed-long P (bucketsBytes 0 (size P) S) ∙ ap (λ (n : ℕ). headLength + n) (buckets-long S 0 (size P))
+  -- its head is as long as the profile says, so the places of its records are known
+  abbrev place : ℕ → ℕ
+  place k = headLengthOf P + bucketLength * k
+
+  place-is : (k : ℕ) → bucketOffset file k ≡ place k
+  unfolding sketchBytes
+  place-is k = ap (λ (o : ℕ). o + bucketLength * k) (headed-length P (bucketsBytes 0 (size P) S ++ endBytes number))
+
+  end-place : length before ≡ place number
+  end-place = headed-long P (bucketsBytes 0 (size P) S) ∙ ap (λ (n : ℕ). headLengthOf P + n) (buckets-long S 0 (size P))
 
   short : size P ≤ 65536
   short = dimensions-small (good-dimensions P (able .good))
 
   agrees : Agrees P file S number (size P)
-  unfolding sketchBytes headBytes wordBytes
-  agrees = rw (zero-add number) at (agrees-all P file S (endBytes number) short (able .undamaged) (size P) 0 0 (headBytes P) refl refl (zero-add (size P)) (agrees-none P file S))
+  unfolding sketchBytes
+  agrees =
+      let start : length (headBytes P) ≡ bucketOffset file 0 = omega (arith, length-headBytes P, place-is 0) in
+      rw (zero-add number) at (agrees-all P file S (endBytes number) short (able .undamaged) (size P) 0 0 (headBytes P) start refl (zero-add (size P)) (agrees-none P file S))
 
-  ended : endAnswer file (bucketOffset number) number ≡ Done
-  ended = rw file-is (end-written before (bucketOffset number) number end-place (omega (arith, short, left-few S 0 (size P))))
+  ended : endAnswer file (bucketOffset file number) number ≡ Done
+  ended =
+      ap₂ (λ (xs : List ℕ) (o : ℕ). endAnswer xs o number) file-is (place-is number)
+      ∙ end-written before (place number) number end-place (omega (arith, short, left-few S 0 (size P)))
 
   counted : bucketsIn file ≡ number
   unfolding endBytes
   counted =
-      let long : length file ≡ bucketOffset number + length (endBytes number) = ap length file-is ∙ length-append before (endBytes number) ∙ ap (λ (n : ℕ). n + length (endBytes number)) end-place in
-      let four : getD file (bucketOffset number) 0 ≡ endKind = rw file-is (getD-at before endKind (wordBytes number) 0 (bucketOffset number) end-place) in
-      records-are bucketKind bucketOffset file number (omega arith) (agrees .kinds) (not-kind file (bucketOffset number) bucketKind (λ q. omega arith))
+      let long : length file ≡ place number + length (endBytes number) = ap length file-is ∙ length-append before (endBytes number) ∙ ap (λ (n : ℕ). n + length (endBytes number)) end-place in
+      let four : getD file (bucketOffset file number) 0 ≡ endKind =
+      ap₂ (λ (xs : List ℕ) (o : ℕ). getD xs o 0) file-is (place-is number) ∙ getD-at before endKind (wordBytes number) 0 (place number) end-place in
+      records-are bucketKind (bucketOffset file) file number (omega arith) (agrees .kinds) (not-kind file (bucketOffset file number) bucketKind (λ q. omega arith))
 
   pub file-accepted : (c s : ℕ) → c ≡ size P → s ≡ size P → sketchAnswer P file c s ≡ Done
   unfolding sketchBytes bucketsJudged
@@ -100,8 +115,9 @@ accepted P bs c s small e =
     let n = bucketsIn bs in
     let h = first-done (openingAnswer P bs c s) (bucketsJudged (size P) bs) (sym (sketch-opening P bs c s) ∙ e) in
     let opened = opening-done P bs c s (h .0) in
-    let k = first-done (inTurn 0 n (bucketJudged (size P) bs)) (endAnswer bs (bucketOffset n) n) (h .1) in
-    let head = head-read bs small P (opened .head) (opened .same) in
-    let r = rewritten-all P bs small n head (whole-within bucketKind bucketOffset bs) (done-in-turn n (bucketJudged (size P) bs) (k .0)) in
+    let k = first-done (inTurn 0 n (bucketJudged (size P) bs)) (endAnswer bs (bucketOffset bs n) n) (h .1) in
+    let long = opened-length opened in
+    let head = head-read bs small P (opened .head) (opened .file-good) (opened .same) ∙ ap (λ (o : ℕ). take o bs) (sym long) in
+    let r = rewritten-all P bs small n head (whole-within bucketKind (bucketOffset bs) bs) (done-in-turn n (bucketJudged (size P) bs) (k .0)) in
     let able : Writable P (stored bs n (zeros P)) = record { good = opened .good; counts = counts-long P bs n; idsums = idsums-long P bs n; undamaged = λ x l. r .undamaged x } in
-    (able, same-bytes P bs small n (lowest bs n) (stored bs n (zeros P)) r (k .1))
+    (able, same-bytes P bs small n (lowest bs n) (stored bs n (zeros P)) long r (k .1))

@@ -34,7 +34,7 @@ use Rattle.sketchfile.proofs.InOrder.{bucket-number, BucketFault, Sketc
 pub record SketchDone (P : Params) (bs : List ℕ) (c s : ℕ) : Type 0 where
   pub opened : Opened P bs c s
   pub accepted : (j : ℕ) → j < bucketsIn bs → bucketJudged (size P) bs j ≡ Done
-  pub ended : endAnswer bs (bucketOffset (bucketsIn bs)) (bucketsIn bs) ≡ Done
+  pub ended : endAnswer bs (bucketOffset bs (bucketsIn bs)) (bucketsIn bs) ≡ Done
 
 pub sketch-done : (P : Params) (bs : List ℕ) (c s : ℕ) → sketchAnswer P bs c s ≡ Done → SketchDone P bs c s
 unfolding bucketsJudged
@@ -42,7 +42,7 @@ sketch-done P bs c s e =
     let n = bucketsIn bs in
     let judge = bucketJudged (size P) bs in
     let h = first-done (openingAnswer P bs c s) (bucketsJudged (size P) bs) (sym (sketch-opening P bs c s) ∙ e) in
-    let k = first-done (inTurn 0 n judge) (endAnswer bs (bucketOffset n) n) (h .1) in
+    let k = first-done (inTurn 0 n judge) (endAnswer bs (bucketOffset bs n) n) (h .1) in
     record { opened = opening-done P bs c s (h .0); accepted = done-in-turn n judge (k .0); ended = k .1 }
 
 -- What a reader returns: where it refuses nothing, nothing is at fault; a refusal has the number of the first fault, and its place.
@@ -66,19 +66,19 @@ module _ {P : Params} {bs : List ℕ} {S S' : Sketch} where
   -- the earliest bucket at fault decides: the number is that of the first of its faults, and its offset goes with it
   pub read-sketch-bucket : {r : Answer} → SketchRead P bs S r S' → firstOf openingOrder (openingFault P bs (length (S .counts)) (length (S .idsums))) ≡ 0
       → (k : ℕ) → k < bucketsIn bs → ((j : ℕ) → j < k → firstOf order (bucketFault (size P) bs j) ≡ 0) → (firstOf order (bucketFault (size P) bs k) ≡ 0 → ⊥)
-      → (numberIn r ≡ firstOf order (bucketFault (size P) bs k)) × (indexIn r ≡ bucketOffset k)
+      → (numberIn r ≡ firstOf order (bucketFault (size P) bs k)) × (indexIn r ≡ bucketOffset bs k)
   read-sketch-bucket {r} h right k l before n = go r (read-sketch-returns h)
     where
       faultless : (j : ℕ) → bucketJudged (size P) bs j ≡ Done → firstOf order (bucketFault (size P) bs j) ≡ 0
       faultless j e = sym (bucket-number (size P) bs j) ∙ ap numberIn e
 
       here : (w : Refusal) (at : ℕ) → (f : BucketFault P bs (length (S .counts)) (length (S .idsums)) w at) → Dec (f .which < k) → Dec (k < f .which)
-          → (numberOf w ≡ firstOf order (bucketFault (size P) bs k)) × (at ≡ bucketOffset k)
+          → (numberOf w ≡ firstOf order (bucketFault (size P) bs k)) × (at ≡ bucketOffset bs k)
       here w at f (yes lower) e = absurd (number-some w (f .number ∙ before (f .which) lower))
       here w at f (no lower) (yes higher) = absurd (n (faultless k (f .accepted k higher)))
-      here w at f (no lower) (no higher) = let same : f .which ≡ k = omega arith in (f .number ∙ ap (λ (j : ℕ). firstOf order (bucketFault (size P) bs j)) same, f .place ∙ ap bucketOffset same)
+      here w at f (no lower) (no higher) = let same : f .which ≡ k = omega arith in (f .number ∙ ap (λ (j : ℕ). firstOf order (bucketFault (size P) bs j)) same, f .place ∙ ap (bucketOffset bs) same)
 
-      go : (r : Answer) → SketchReturned P bs (length (S .counts)) (length (S .idsums)) r → (numberIn r ≡ firstOf order (bucketFault (size P) bs k)) × (indexIn r ≡ bucketOffset k)
+      go : (r : Answer) → SketchReturned P bs (length (S .counts)) (length (S .idsums)) r → (numberIn r ≡ firstOf order (bucketFault (size P) bs k)) × (indexIn r ≡ bucketOffset bs k)
       go Done (none-refused x) = absurd (n (faultless k (x .accepted k l)))
       go (Refused w at) (refused-for (in-opening e z)) = absurd (number-some w (e ∙ right))
       go (Refused w at) (refused-for (in-bucket o f)) = here w at f (decLt (f .which) k) (decLt k (f .which))

@@ -21,7 +21,7 @@ use Rattle.params.proofs.Judging.{Refuses, first-refused, first-passed, refuse-
 use Rattle.files.specs.declared.fields.Bucket.{Bucket}
 use Rattle.files.specs.declared.fields.Bucket.the-variants.{Of as BucketOf, No as NoBucket}
 use Rattle.files.specs.Bytes.{word, countOf}
-use Rattle.files.specs.Records.{recordAt, isKind, bucketKind, headLength, bucketLength}
+use Rattle.files.specs.Records.{recordAt, isKind, bucketKind, headLengthIn, bucketLength}
 use Rattle.files.specs.Heads.{parametersAnswer}
 use Rattle.files.specs.Layout.{bucketAt}
 use Rattle.files.specs.Turns.{bucketOffset, endAnswer}
@@ -82,11 +82,11 @@ done-sound N low at x c s e =
 
 -- a reader has come to bucket n of the file, which is due at an offset
 pub record Reader (bs : List ℕ) (n at : ℕ) : Type 0 where
-  pub place : at ≡ bucketOffset n
-  pub come : Come bucketKind bucketOffset bs n
+  pub place : at ≡ bucketOffset bs n
+  pub come : Come bucketKind (bucketOffset bs) bs n
 
-pub reader-start : (bs : List ℕ) → Reader bs 0 headLength
-reader-start bs = record { place = refl; come = come-start bucketKind bucketOffset bs }
+pub reader-start : (bs : List ℕ) {at : ℕ} → at ≡ headLengthIn bs → Reader bs 0 at
+reader-start bs e = record { place = omega arith; come = come-start bucketKind (bucketOffset bs) bs }
 
 -- it found bucket n there, whole
 pub record Found (bs : List ℕ) (n at k : ℕ) (c : ℤ) (s : ℕ) : Type 0 where
@@ -122,19 +122,19 @@ module _ {bs : List ℕ} {n at : ℕ} {found : Bucket} (r : Reader bs n at) (e :
   pub found-bucket : {k : ℕ} {c : ℤ} {s : ℕ} → found ≡ BucketOf k c s → Found bs n at k c s
   found-bucket {k} {c} {s} q =
       let f = rw (r .place) at (fields bs at k c s (sym q ∙ e)) in
-      let short = bucket-ends bs (bucketOffset n) (f .0) in
-      let come-on = come-next bucketKind bucketOffset bs n (omega arith) (f .0) (r .come) in
+      let short = bucket-ends bs (bucketOffset bs n) (f .0) in
+      let come-on = come-next bucketKind (bucketOffset bs) bs n (omega arith) (f .0) (r .come) in
       record {
         index = f .1;
         count = f .2;
         idsum = f .3;
         before-end = omega arith;
-        counted = omega (arith, come-within bucketKind bucketOffset bs (n + 1) come-on);
+        counted = omega (arith, come-within bucketKind (bucketOffset bs) bs (n + 1) come-on);
         next = record { place = omega arith; come = come-on };
       }
 
   pub none-left : found ≡ NoBucket → n ≡ bucketsIn bs
-  none-left q = come-end bucketKind bucketOffset bs n (rw (r .place) at (no-bucket bs at (sym q ∙ e))) (r .come)
+  none-left q = come-end bucketKind (bucketOffset bs) bs n (rw (r .place) at (no-bucket bs at (sym q ∙ e))) (r .come)
 
 -- the answers for the buckets in turn
 module _ (N : ℕ) {bs : List ℕ} {n at : ℕ} where

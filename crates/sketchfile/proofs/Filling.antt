@@ -67,7 +67,7 @@ module _ (P : Params) (bs : List ℕ) where
 
 -- the first j records of a file are sound and agree with the buckets of S below k
 pub record Agrees (P : Params) (bs : List ℕ) (S : Sketch) (j k : ℕ) : Type 0 where
-  pub kinds : (x : ℕ) → x < j → isKind bucketKind (recordAt bs (bucketOffset x)) ≡ true
+  pub kinds : (x : ℕ) → x < j → isKind bucketKind (recordAt bs (bucketOffset bs x)) ≡ true
   pub judged : (x : ℕ) → x < j → bucketJudged (size P) bs x ≡ Done
   pub low : lowest bs j ≤ k
   pub counts : Filled (pos 0) (S .counts) (stored bs j (zeros P) .counts) k
@@ -96,14 +96,14 @@ module _ (P : Params) (bs : List ℕ) (S : Sketch) where
         idsums = filled-skip 0 (S .idsums) (z .1) (t .idsums);
       }
 
-  agrees-next : (j k : ℕ) → k < size P → damagedAt S k ≡ false → zeroAt S k ≡ false → Bucketed bs (bucketOffset j) k (countIn S k) (idsumIn S k)
+  agrees-next : (j k : ℕ) → k < size P → damagedAt S k ≡ false → zeroAt S k ≡ false → Bucketed bs (bucketOffset bs j) k (countIn S k) (idsumIn S k)
       → Agrees P bs S j k → Agrees P bs S (suc j) (suc k)
   unfolding lowest stored bucketJudged
   agrees-next j k h intact some b t =
       let sound : SoundBucket (size P) (lowest bs j) k (countIn S k) (idsumIn S k) = record { undamaged = intact; rising = t .low; inside = h; not-zero = some } in
-      let here : bucketJudged (size P) bs j ≡ Done = rw (b .index, b .count, b .idsum) (sound-done (bucketOffset j) sound) in
+      let here : bucketJudged (size P) bs j ≡ Done = rw (b .index, b .count, b .idsum) (sound-done (bucketOffset bs j) sound) in
       record {
-        kinds = λ x l. below-more (λ x. isKind bucketKind (recordAt bs (bucketOffset x)) ≡ true) j (t .kinds) (b .kind) x (omega arith);
+        kinds = λ x l. below-more (λ x. isKind bucketKind (recordAt bs (bucketOffset bs x)) ≡ true) j (t .kinds) (b .kind) x (omega arith);
         judged = λ x l. below-more (λ x. bucketJudged (size P) bs x ≡ Done) j (t .judged) here x (omega arith);
         low = omega (arith, b .index);
         counts = filled-next (pos 0) (S .counts) (b .index) (b .count) (omega (arith, counts-long P bs j)) (t .counts);
@@ -115,9 +115,9 @@ module _ (P : Params) (bs : List ℕ) (S : Sketch) where
 
   -- the records of the buckets from k on, after others
   module _ (rest : List ℕ) (small : size P ≤ 65536) (undamaged : (x : ℕ) → x < size P → damagedAt S x ≡ false) where
-    agrees-step : (n k j : ℕ) (before : List ℕ) (b : Bool) → zeroAt S k ≡ b → length before ≡ bucketOffset j
+    agrees-step : (n k j : ℕ) (before : List ℕ) (b : Bool) → zeroAt S k ≡ b → length before ≡ bucketOffset bs j
         → bs ≡ before ++ ((cond b [] (bucketBytes k (countIn S k) (idsumIn S k)) ++ bucketsBytes (suc k) n S) ++ rest) → k < size P → Agrees P bs S j k
-        → ((j : ℕ) (before : List ℕ) → length before ≡ bucketOffset j → bs ≡ before ++ (bucketsBytes (suc k) n S ++ rest) → Agrees P bs S j (suc k)
+        → ((j : ℕ) (before : List ℕ) → length before ≡ bucketOffset bs j → bs ≡ before ++ (bucketsBytes (suc k) n S ++ rest) → Agrees P bs S j (suc k)
         → Agrees P bs S (j + nonzeroFrom (suc k) n S) (size P))
         → Agrees P bs S (j + (cond b 0 1 + nonzeroFrom (suc k) n S)) (size P)
     unfolding bucketBytes wordBytes
@@ -128,12 +128,12 @@ module _ (P : Params) (bs : List ℕ) (S : Sketch) where
         let form : bs ≡ before ++ (this ++ other-counts) = q ∙ ap (λ (xs : List ℕ). before ++ xs) (append-assoc this (bucketsBytes (suc k) n S) rest) in
         let limits = whole (countIn S k) (idsumIn S k) (undamaged k l) in
         let fits = limits-fit (countIn S k) (limits .0) in
-        let b = bucket-written bs before other-counts (bucketOffset j) k (countIn S k) (idsumIn S k) form e (omega arith) fits (omega (arith, limits .1)) in
+        let b = bucket-written bs before other-counts (bucketOffset bs j) k (countIn S k) (idsumIn S k) form e (omega arith) fits (omega (arith, limits .1)) in
         agrees-same (omega arith) refl
         (ih (suc j) (before ++ this) (length-append before this ∙ omega arith) (form ∙ sym (append-assoc before this other-counts))
         (agrees-next j k l (undamaged k l) z b t))
 
-    pub agrees-all : (n k j : ℕ) (before : List ℕ) → length before ≡ bucketOffset j → bs ≡ before ++ (bucketsBytes k n S ++ rest) → k + n ≡ size P → Agrees P bs S j k
+    pub agrees-all : (n k j : ℕ) (before : List ℕ) → length before ≡ bucketOffset bs j → bs ≡ before ++ (bucketsBytes k n S ++ rest) → k + n ≡ size P → Agrees P bs S j k
         → Agrees P bs S (j + nonzeroFrom k n S) (size P)
     unfolding bucketsBytes nonzeroFrom
     agrees-all zero k j before e q l t = agrees-same (omega arith) (omega arith) t

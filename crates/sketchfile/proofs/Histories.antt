@@ -1,22 +1,22 @@
 -- A history may go through a sketch file: a sketch that was written, and what was written read without a refusal, has the history that it had.
-use mathlib.Core.Path.{_≡_, refl, sym, ap, ap₂, _∙_}
+use mathlib.Core.Path.{_≡_, refl, sym, ap, _∙_}
 use mathlib.Core.Bool.{true}
 use mathlib.Core.List.{List}
-use Prim.Native.Nat.{ℕ, _<_}
+use Prim.Native.Nat.{ℕ}
 use native.Mathlib.Omega.{arith}
-use lib.ListN.{length, getD, take}
+use lib.ListN.{length, take}
 use lib.Seq.{ext-getD}
 use Rattle.params.specs.declared.params.Params.{Params}
 use Rattle.params.specs.declared.answers.Answer.the-variants.{Done}
 use Rattle.params.specs.Params.{size, sameParams}
 use Rattle.params.proofs.Judging.{kept-new}
-use Rattle.params.proofs.SameParams.{dimensions-same, size-same, pair-same}
+use Rattle.params.proofs.SameParams.{dimensions-same, fifth-same, size-same, pair-same}
 use Rattle.sketch.specs.Sketch.{Sketch, Entry, zeros}
 use Rattle.sums.specs.History.{History}
 use Rattle.files.specs.declared.writing.Written.the-variants.{Bytes}
 use Rattle.files.proofs.HeadTrips.{same-written}
 use Rattle.files.proofs.Overwriting.{written-front}
-use Rattle.sketchfile.specs.Reading.{bucketsIn, sketchAnswer, stored, sketchIn, SketchRead}
+use Rattle.sketchfile.specs.Reading.{sketchAnswer, sketchIn, SketchRead}
 use Rattle.sketchfile.specs.Writing.{sketchBytes, sketchWriteAnswer, SketchWritten}
 use Rattle.sketchfile.proofs.Written.{writing-done}
 use Rattle.sketchfile.proofs.Accepting.{file-content}
@@ -50,9 +50,10 @@ pub record FourPairs (P : Params) : Type 0 where
 equal-params : (P Q : Params) → FourPairs P → FourPairs Q → sameParams P Q ≡ true → P ≡ Q
 equal-params P Q f g e =
     let dimensions = dimensions-same P Q e in
+    let fifth = fifth-same P Q e in
     let a-same : P .a ≡ Q .a = ext-getD 0 (P .a) (Q .a) (f .multipliers ∙ sym (g .multipliers)) (λ i l. pair-same P Q e i (omega (arith, f .multipliers)) .0) in
     let b-same : P .b ≡ Q .b = ext-getD 0 (P .b) (Q .b) (f .offsets ∙ sym (g .offsets)) (λ i l. pair-same P Q e i (omega (arith, f .offsets)) .1) in
-    λ i. record { d = dimensions .0 i; m = dimensions .1 i; a = a-same i; b = b-same i }
+    λ i. record { d = dimensions .0 i; m = dimensions .1 i; a = a-same i; b = b-same i; a5 = fifth .0 i; b5 = fifth .1 i }
 
 -- so the history goes on under the reader's own parameters
 pub history-by-equal : {P Q : Params} {S T T' : Sketch} {out out' : List ℕ} {n : ℕ} {es : List Entry} → FourPairs P → FourPairs Q

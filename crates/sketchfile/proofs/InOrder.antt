@@ -42,11 +42,11 @@ module _ (N : ℕ) (bs : List ℕ) (j : ℕ) where
   unfolding bucketJudged bucketAnswer
   bucket-number = simp (refuse-number, cond-either)
 
-  bucket-place : (w : Refusal) (k : ℕ) → bucketJudged N bs j ≡ Refused w k → k ≡ bucketOffset j
+  bucket-place : (w : Refusal) (k : ℕ) → bucketJudged N bs j ≡ Refused w k → k ≡ bucketOffset bs j
   unfolding bucketJudged bucketAnswer
   bucket-place w k = go (damaged (bucketCount bs j) (bucketIdsum bs j)) (tooLarge N (bucketIndex bs j)) (notRising (lowest bs j) (bucketIndex bs j)) (allZero (bucketCount bs j) (bucketIdsum bs j))
     where
-      go : (x y z v : Bool) → refuseIf x Damage (bucketOffset j) (refuseIf y Form (bucketOffset j) (refuseIf z Form (bucketOffset j) (refuseIf v Form (bucketOffset j) Done))) ≡ Refused w k → k ≡ bucketOffset j
+      go : (x y z v : Bool) → refuseIf x Damage (bucketOffset bs j) (refuseIf y Form (bucketOffset bs j) (refuseIf z Form (bucketOffset bs j) (refuseIf v Form (bucketOffset bs j) Done))) ≡ Refused w k → k ≡ bucketOffset bs j
       go true y z v e = cc
       go false true z v e = cc
       go false false true v e = cc
@@ -60,13 +60,13 @@ module _ (P : Params) (bs : List ℕ) (c s : ℕ) (w : Refusal) (k : ℕ) where
     pub one : which < bucketsIn bs
     pub accepted : (j : ℕ) → j < which → bucketJudged (size P) bs j ≡ Done
     pub number : numberOf w ≡ firstOf order (bucketFault (size P) bs which)
-    pub place : k ≡ bucketOffset which
+    pub place : k ≡ bucketOffset bs which
 
   pub data SketchFault : Type 0 where
     in-opening : numberOf w ≡ firstOf openingOrder (openingFault P bs c s) → k ≡ 0 → SketchFault
     in-bucket : Opened P bs c s → BucketFault → SketchFault
     in-end : Opened P bs c s → ((j : ℕ) → j < bucketsIn bs → bucketJudged (size P) bs j ≡ Done) → w ≡ Form
-        → EndFault bs (bucketOffset (bucketsIn bs)) (bucketsIn bs) k → SketchFault
+        → EndFault bs (bucketOffset bs (bucketsIn bs)) (bucketsIn bs) k → SketchFault
 
   bucket-fault : Earliest (bucketsIn bs) (bucketJudged (size P) bs) (Refused w k) → BucketFault
   bucket-fault r =
@@ -85,8 +85,8 @@ module _ (P : Params) (bs : List ℕ) (c s : ℕ) (w : Refusal) (k : ℕ) where
       let judge = bucketJudged (size P) bs in
       ⊎-elim
       (λ h. in-bucket opened (bucket-fault (in-turn-earliest n judge w k h)))
-      (λ h. let end = end-fault bs (bucketOffset n) n w k (h .1) in in-end opened (done-in-turn n judge (h .0)) (end .0) (end .1))
-      (first-either (inTurn 0 n judge) (endAnswer bs (bucketOffset n) n) w k e)
+      (λ h. let end = end-fault bs (bucketOffset bs n) n w k (h .1) in in-end opened (done-in-turn n judge (h .0)) (end .0) (end .1))
+      (first-either (inTurn 0 n judge) (endAnswer bs (bucketOffset bs n) n) w k e)
 
   pub sketch-fault : sketchAnswer P bs c s ≡ Refused w k → SketchFault
   sketch-fault e =

@@ -14,7 +14,8 @@ use Rattle.params.specs.declared.answers.Answer.the-variants.{Done}
 use Rattle.params.specs.Params.{size}
 use Rattle.buckets.specs.Buckets.{allZero, inLimits, damaged}
 use Rattle.sketch.specs.Sketch.{Sketch, sketch, countIn, idsumIn, damagedAt, zeros}
-use Rattle.files.specs.Records.{recordAt, isKind, bucketKind, headLength, bucketLength}
+use Rattle.files.specs.Records.{recordAt, isKind, bucketKind, headLengthIn, bucketLength}
+use Rattle.files.specs.Heads.{headLengthOf}
 use Rattle.files.specs.Layout.{headBytes, bucketBytes, endBytes}
 use Rattle.files.specs.Turns.{bucketOffset, endAnswer}
 use Rattle.files.proofs.HeadTrips.{headed-long}
@@ -78,22 +79,23 @@ pub record Rewritten (P : Params) (bs : List ℕ) (j k : ℕ) (T : Sketch) : Typ
   pub inside : k ≤ size P
   pub undamaged : (x : ℕ) → damagedAt T x ≡ false
   pub rest-zero : (x : ℕ) → k ≤ x → zeroAt T x ≡ true
-  pub bytes : headBytes P ++ bucketsBytes 0 k T ≡ take (bucketOffset j) bs
+  pub bytes : headBytes P ++ bucketsBytes 0 k T ≡ take (bucketOffset bs j) bs
 
 module _ (P : Params) (bs : List ℕ) (small : (k : ℕ) → getD bs k 0 < 256) where
-  rewritten-none : headBytes P ≡ take headLength bs → Rewritten P bs 0 (lowest bs 0) (stored bs 0 (zeros P))
+  rewritten-none : headBytes P ≡ take (headLengthIn bs) bs → Rewritten P bs 0 (lowest bs 0) (stored bs 0 (zeros P))
   unfolding lowest stored zeros bucketsBytes inLimits
   rewritten-none e =
+      let start : headLengthIn bs ≡ bucketOffset bs 0 = omega arith in
       let blank : Filled (pos 0) [] (replicate (size P) (pos 0)) 0 = filled-none (pos 0) [] (size P) in
       let none : Filled {A = ℕ} 0 [] (replicate (size P) 0) 0 = filled-none 0 [] (size P) in
       record {
         inside = omega arith;
         undamaged = λ x. rw (blank .after x (omega arith), none .after x (omega arith));
         rest-zero = λ x l. rw (blank .after x (omega arith), none .after x (omega arith));
-        bytes = append-nil (headBytes P) ∙ e;
+        bytes = append-nil (headBytes P) ∙ e ∙ ap (λ (o : ℕ). take o bs) start;
       }
 
-  rewritten-next : (j : ℕ) → isKind bucketKind (recordAt bs (bucketOffset j)) ≡ true → bucketJudged (size P) bs j ≡ Done
+  rewritten-next : (j : ℕ) → isKind bucketKind (recordAt bs (bucketOffset bs j)) ≡ true → bucketJudged (size P) bs j ≡ Done
       → Rewritten P bs j (lowest bs j) (stored bs j (zeros P)) → Rewritten P bs (suc j) (lowest bs (suc j)) (stored bs (suc j) (zeros P))
   unfolding lowest stored bucketJudged
   rewritten-next j kind e r =
@@ -101,9 +103,9 @@ module _ (P : Params) (bs : List ℕ) (small : (k : ℕ) → getD bs k 0 < 256) 
       let x = bucketIndex bs j in
       let c = bucketCount bs j in
       let s = bucketIdsum bs j in
-      let h = done-sound (size P) (lowest bs j) (bucketOffset j) x c s e in
+      let h = done-sound (size P) (lowest bs j) (bucketOffset bs j) x c s e in
       let inside-both : Inside T x = (omega (arith, h .inside, counts-long P bs j), omega (arith, h .inside, idsums-long P bs j)) in
-      let after-it : bucketOffset j + bucketLength ≡ bucketOffset (suc j) = omega arith in
+      let after-it : bucketOffset bs j + bucketLength ≡ bucketOffset bs (suc j) = omega arith in
       record {
         inside = omega (arith, h .inside);
         undamaged = still-undamaged T x c s inside-both (h .undamaged) (r .undamaged);
@@ -111,25 +113,25 @@ module _ (P : Params) (bs : List ℕ) (small : (k : ℕ) → getD bs k 0 < 256) 
         bytes =
             ap (λ (xs : List ℕ). headBytes P ++ xs) (one-more T x c s (lowest bs j) (h .rising) (r .rest-zero) inside-both (h .not-zero))
             ∙ sym (append-assoc (headBytes P) (bucketsBytes 0 (lowest bs j) T) (bucketBytes x c s))
-            ∙ ap₂ {C = List ℕ} _++_ (r .bytes) (bucket-read bs (bucketOffset j) small kind)
-            ∙ sym (take-add (bucketOffset j) bucketLength bs) ∙ ap (λ (n : ℕ). take n bs) after-it;
+            ∙ ap₂ {C = List ℕ} _++_ (r .bytes) (bucket-read bs (bucketOffset bs j) small kind)
+            ∙ sym (take-add (bucketOffset bs j) bucketLength bs) ∙ ap (λ (n : ℕ). take n bs) after-it;
       }
 
-  pub rewritten-all : (n : ℕ) → headBytes P ≡ take headLength bs → ((x : ℕ) → x < n → isKind bucketKind (recordAt bs (bucketOffset x)) ≡ true) → ((x : ℕ) → x < n → bucketJudged (size P) bs x ≡ Done)
+  pub rewritten-all : (n : ℕ) → headBytes P ≡ take (headLengthIn bs) bs → ((x : ℕ) → x < n → isKind bucketKind (recordAt bs (bucketOffset bs x)) ≡ true) → ((x : ℕ) → x < n → bucketJudged (size P) bs x ≡ Done)
       → Rewritten P bs n (lowest bs n) (stored bs n (zeros P))
   rewritten-all zero e kinds judged = rewritten-none e
   rewritten-all (suc n) e kinds judged =
       rewritten-next n (kinds n (omega arith)) (judged n (omega arith)) (rewritten-all n e (λ x l. kinds x (omega arith)) (λ x l. judged x (omega arith)))
 
   -- with the end, that is the file
-  pub same-bytes : (n k : ℕ) (T : Sketch) → Rewritten P bs n k T → endAnswer bs (bucketOffset n) n ≡ Done → sketchBytes P T ≡ bs
+  pub same-bytes : (n k : ℕ) (T : Sketch) → headLengthIn bs ≡ headLengthOf P → Rewritten P bs n k T → endAnswer bs (bucketOffset bs n) n ≡ Done → sketchBytes P T ≡ bs
   unfolding sketchBytes
-  same-bytes n k T r e =
-      let end = end-read bs (bucketOffset n) n small e in
+  same-bytes n k T h r e =
+      let end = end-read bs (bucketOffset bs n) n small e in
       let records = bucketsBytes 0 (size P) T in
       let isSmall = rest-silent T k (size P) (r .inside) (r .rest-zero) in
-      let before : headBytes P ++ records ≡ take (bucketOffset n) bs = ap (λ (xs : List ℕ). headBytes P ++ xs) isSmall ∙ r .bytes in
-      let long : headLength + length records ≡ bucketOffset n = sym (headed-long P records) ∙ ap length before ∙ length-take-le (bucketOffset n) bs (omega (arith, end .0)) in
+      let before : headBytes P ++ records ≡ take (bucketOffset bs n) bs = ap (λ (xs : List ℕ). headBytes P ++ xs) isSmall ∙ r .bytes in
+      let long : headLengthOf P + length records ≡ bucketOffset bs n = sym (headed-long P records) ∙ ap length before ∙ length-take-le (bucketOffset bs n) bs (omega (arith, end .0)) in
       let left : nonzeroFrom 0 (size P) T ≡ n = omega (arith, buckets-long T 0 (size P)) in
       sym (append-assoc (headBytes P) records (endBytes (nonzeroFrom 0 (size P) T)))
-      ∙ ap₂ {C = List ℕ} _++_ before (ap endBytes left ∙ end .1) ∙ take-append-drop (bucketOffset n) bs
+      ∙ ap₂ {C = List ℕ} _++_ before (ap endBytes left ∙ end .1) ∙ take-append-drop (bucketOffset bs n) bs

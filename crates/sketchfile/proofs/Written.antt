@@ -18,7 +18,8 @@ use Rattle.params.proofs.Judging.{first-done, first-passed, refuse-done, refuse
 use Rattle.params.proofs.Rules.{good-dimensions, dimensions-small, lent-done}
 use Rattle.files.specs.Bytes.{wordBytes}
 use Rattle.files.specs.Layout.{bucketBytes}
-use Rattle.files.specs.Records.{headLength, bucketLength, endLength}
+use Rattle.files.specs.Records.{bucketLength, endLength}
+use Rattle.files.specs.Heads.{headLengthOf}
 use Rattle.files.proofs.Overwriting.{length-file}
 use Rattle.sketchfile.specs.Writing.{zeroAt, bucketsBytes, nonzeroFrom, sketchBytes, sketchWriteAnswer}
 
@@ -63,20 +64,20 @@ module _ (S : Sketch) where
         → bucketsBytes k (n - k) S ≡ bucketBytes k (countIn S k) (idsumIn S k) ++ bucketsBytes (k + 1) (n - (k + 1)) S
     nonzero-next k h e = rw e at (next-left k h)
 
-pub sketch-long : (P : Params) (S : Sketch) → length (sketchBytes P S) ≡ headLength + bucketLength * nonzeroFrom 0 (size P) S + endLength
+pub sketch-long : (P : Params) (S : Sketch) → length (sketchBytes P S) ≡ headLengthOf P + bucketLength * nonzeroFrom 0 (size P) S + endLength
 unfolding sketchBytes
 sketch-long P S = omega (arith, length-file P (bucketsBytes 0 (size P) S) (nonzeroFrom 0 (size P) S), buckets-long S 0 (size P))
 
 -- where the parameters and the lengths of the slices are right
 module _ (P : Params) (S : Sketch) (o : ℕ) (lent-right : lentAnswer P (length (S .counts)) (length (S .idsums)) ≡ Done) where
-  long : length (sketchBytes P S) ≡ headLength + bucketLength * nonzeroFrom 0 (length (S .counts)) S + endLength
+  long : length (sketchBytes P S) ≡ headLengthOf P + bucketLength * nonzeroFrom 0 (length (S .counts)) S + endLength
   long = rw (lent-done P _ _ lent-right .1) (sketch-long P S)
 
-  pub sketch-short : o < headLength + bucketLength * nonzeroFrom 0 (length (S .counts)) S + endLength → Refused Length 0 ≡ sketchWriteAnswer P S o
+  pub sketch-short : o < headLengthOf P + bucketLength * nonzeroFrom 0 (length (S .counts)) S + endLength → Refused Length 0 ≡ sketchWriteAnswer P S o
   unfolding sketchWriteAnswer
   sketch-short h = rw (lt-ltb o (length (sketchBytes P S)) (omega (arith, long))) (sym (first-passed _ _ lent-right))
 
-  pub sketch-passed : headLength + bucketLength * nonzeroFrom 0 (length (S .counts)) S + endLength ≤ o → refuseAt (length (S .counts)) (damagedAt S) Damage Done ≡ sketchWriteAnswer P S o
+  pub sketch-passed : headLengthOf P + bucketLength * nonzeroFrom 0 (length (S .counts)) S + endLength ≤ o → refuseAt (length (S .counts)) (damagedAt S) Damage Done ≡ sketchWriteAnswer P S o
   unfolding sketchWriteAnswer
   sketch-passed h =
       let passed : refuseAt (size P) (damagedAt S) Damage Done ≡ sketchWriteAnswer P S o = rw (le-ltb o (length (sketchBytes P S)) (omega (arith, long))) (sym (first-passed _ _ lent-right)) in
@@ -94,7 +95,7 @@ pub writable-few : {P : Params} {S : Sketch} → Writable P S → length (S .cou
 writable-few {P} able = omega (arith, able .counts, dimensions-small (good-dimensions P (able .good)))
 
 -- where nothing is refused it is one, and the output has room for its file
-pub writing-done : (P : Params) (S : Sketch) (o : ℕ) → sketchWriteAnswer P S o ≡ Done → Writable P S × (headLength + bucketLength * nonzeroFrom 0 (length (S .counts)) S + endLength ≤ o)
+pub writing-done : (P : Params) (S : Sketch) (o : ℕ) → sketchWriteAnswer P S o ≡ Done → Writable P S × (headLengthOf P + bucketLength * nonzeroFrom 0 (length (S .counts)) S + endLength ≤ o)
 unfolding sketchWriteAnswer lentAnswer
 writing-done P S o e =
     let h = first-done (lentAnswer P (length (S .counts)) (length (S .idsums))) _ e in

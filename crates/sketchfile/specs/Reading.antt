@@ -22,16 +22,16 @@ use Rattle.files.specs.Fields.{indexField, countField, idsumField}
 
 -- how many bucket records there are, and the index, the count and the idsum in the k-th, counted from 0
 abbrev pub bucketsIn : List ℕ → ℕ
-bucketsIn bs = recordsOf bucketKind bucketOffset bs
+bucketsIn bs = recordsOf bucketKind (bucketOffset bs) bs
 
 abbrev pub bucketIndex : List ℕ → ℕ → ℕ
-bucketIndex bs k = word bs (bucketOffset k + indexField)
+bucketIndex bs k = word bs (bucketOffset bs k + indexField)
 
 abbrev pub bucketCount : List ℕ → ℕ → ℤ
-bucketCount bs k = countOf (word bs (bucketOffset k + countField))
+bucketCount bs k = countOf (word bs (bucketOffset bs k + countField))
 
 abbrev pub bucketIdsum : List ℕ → ℕ → ℕ
-bucketIdsum bs k = word bs (bucketOffset k + idsumField)
+bucketIdsum bs k = word bs (bucketOffset bs k + idsumField)
 
 -- the lowest index that the k-th record may have: above that of the record before it
 unfoldable pub lowest : List ℕ → ℕ → ℕ
@@ -56,13 +56,13 @@ bucketAnswer N low at x c s =
     Done)))
 
 unfoldable pub bucketJudged : ℕ → List ℕ → ℕ → Answer
-bucketJudged N bs k = bucketAnswer N (lowest bs k) (bucketOffset k) (bucketIndex bs k) (bucketCount bs k) (bucketIdsum bs k)
+bucketJudged N bs k = bucketAnswer N (lowest bs k) (bucketOffset bs k) (bucketIndex bs k) (bucketCount bs k) (bucketIdsum bs k)
 
 -- the records after the head: the earliest at fault decides
 unfoldable pub bucketsJudged : ℕ → List ℕ → Answer
 bucketsJudged N bs =
     first (inTurn 0 (bucketsIn bs) (bucketJudged N bs))
-    (endAnswer bs (bucketOffset (bucketsIn bs)) (bucketsIn bs))
+    (endAnswer bs (bucketOffset bs (bucketsIn bs)) (bucketsIn bs))
 
 -- the head and the parameters, the lengths of the lent slices, c and s, then the records
 unfoldable pub sketchAnswer : Params → List ℕ → ℕ → ℕ → Answer

@@ -8,9 +8,9 @@ use buckets::undamaged;
 use files::ends::judge_end;
 use files::fields::Bucket;
 use files::fields::bucket_at;
+use files::heads::head_length_in;
 use files::heads::judge_parameters;
 use files::records::BUCKET_LENGTH;
-use files::records::HEAD_LENGTH;
 use params::Answer;
 use params::Params;
 use params::Refusal;
@@ -53,7 +53,7 @@ fn judge_bucket(size: usize, low: usize, at: usize, index: usize, c: i32, s: u32
 fn judge_records(size: usize, bytes: &[u8]) -> Answer
     ensures { λ r. ⌜ r ≡ bucketsJudged size (now (bytes .entry)) ⌝ }
 {
-    let mut at = HEAD_LENGTH;
+    let mut at = head_length_in(bytes);
     let mut n = 0;
     let mut low = 0;
     loop {
@@ -90,7 +90,7 @@ fn store(counts: &mut [i32], idsums: &mut [u32], bytes: &[u8])
     requires { ⌜ length (now counts) ≡ length (now idsums) ⌝ }
     ensures { λ r. ⌜ sketch (now (counts .exit)) (now (idsums .exit)) ≡ stored (now (bytes .entry)) (bucketsIn (now (bytes .entry))) (sketch (now (counts .entry)) (now (idsums .entry))) ⌝ }
 {
-    let mut at = HEAD_LENGTH;
+    let mut at = head_length_in(bytes);
     loop {
         let found = bucket_at(bytes, at);
         let Bucket::Of(index, c, s) = found else {

@@ -4,13 +4,13 @@ ghost use Prim.Native.Nat.{_+_, _*_, _≤_};
 ghost use lib.ListN.{length};
 ghost use Rattle.sketch.specs.Sketch.{sketch};
 ghost use Rattle.files.specs.Bytes.{overwritten};
-ghost use Rattle.files.specs.Records.{headLength, bucketLength};
+ghost use Rattle.files.specs.Records.{bucketLength};
 ghost use Rattle.sketchfile.specs.Writing.{bucketsBytes, nonzeroFrom, sketchWriteAnswer, SketchWritten};
 use buckets::all_zero;
 use buckets::first_damaged;
+use files::heads::head_length;
 use files::records::BUCKET_LENGTH;
 use files::records::END_LENGTH;
-use files::records::HEAD_LENGTH;
 use files::writing::Written;
 use files::writing::put_bucket;
 use files::writing::put_end;
@@ -43,7 +43,7 @@ fn judge(p: Params, counts: &[i32], idsums: &[u32], room: usize) -> Answer
     let Answer::Done = r else {
         return r;
     };
-    if room < HEAD_LENGTH + BUCKET_LENGTH * nonzero_buckets(counts, idsums) + END_LENGTH {
+    if room < head_length(p) + BUCKET_LENGTH * nonzero_buckets(counts, idsums) + END_LENGTH {
         return Answer::Refused(Refusal::Length, 0);
     }
     let x = first_damaged(counts, idsums);
@@ -53,14 +53,14 @@ fn judge(p: Params, counts: &[i32], idsums: &[u32], room: usize) -> Answer
     Answer::Done
 }
 
-// The bucket records, after the head; gives the offset after them.
-fn put_all(out: &mut [u8], counts: &[i32], idsums: &[u32]) -> usize
+// The bucket records, from an offset on; gives the offset after them.
+fn put_all(out: &mut [u8], first: usize, counts: &[i32], idsums: &[u32]) -> usize
     requires { ⌜ (length (now counts) ≡ length (now idsums)) × (length (now counts) ≤ 65536) ⌝ }
-    requires { ⌜ headLength + bucketLength * nonzeroFrom 0 (length (now counts)) (sketch (now counts) (now idsums)) ≤ length (now out) ⌝ }
-    ensures { λ r. ⌜ r ≡ headLength + bucketLength * nonzeroFrom 0 (length (now (counts .entry))) (sketch (now (counts .entry)) (now (idsums .entry))) ⌝ }
-    ensures { λ r. ⌜ now (out .exit) ≡ overwritten (now (out .entry)) headLength (bucketsBytes 0 (length (now (counts .entry))) (sketch (now (counts .entry)) (now (idsums .entry)))) ⌝ }
+    requires { ⌜ first + bucketLength * nonzeroFrom 0 (length (now counts)) (sketch (now counts) (now idsums)) ≤ length (now out) ⌝ }
+    ensures { λ r. ⌜ r ≡ first + bucketLength * nonzeroFrom 0 (length (now (counts .entry))) (sketch (now (counts .entry)) (now (idsums .entry))) ⌝ }
+    ensures { λ r. ⌜ now (out .exit) ≡ overwritten (now (out .entry)) first (bucketsBytes 0 (length (now (counts .entry))) (sketch (now (counts .entry)) (now (idsums .entry)))) ⌝ }
 {
-    let mut at = HEAD_LENGTH;
+    let mut at = first;
     let mut k = 0;
     while k < counts.len() {
         if !all_zero(counts[k], idsums[k]) {
@@ -79,9 +79,10 @@ pub fn write_sketch(p: Params, counts: &[i32], idsums: &[u32], out: &mut [u8]) -
     let r = judge(p, counts, idsums, out.len());
     match r {
         Answer::Done => {
+            let first = head_length(p);
             put_head(out, p);
-            let at = put_all(out, counts, idsums);
-            let n = (at - HEAD_LENGTH) / BUCKET_LENGTH;
+            let at = put_all(out, first, counts, idsums);
+            let n = (at - first) / BUCKET_LENGTH;
             put_end(out, at, n as u32);
             Written::Bytes(at + END_LENGTH)
         }

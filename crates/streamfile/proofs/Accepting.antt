@@ -15,7 +15,7 @@ use Rattle.sketch.specs.Packets.{Accepted}
 use Rattle.params.proofs.Judging.{first-done, refuse-at-done}
 use Rattle.files.proofs.HeadStages.{openingAnswer}
 use Rattle.files.specs.Turns.{atOffset, inTurn, packetOffset, endAnswer}
-use Rattle.files.specs.Records.{headLength}
+use Rattle.files.specs.Records.{headLengthIn}
 use Rattle.files.proofs.HeadTrips.{Opened, opening-done}
 use Rattle.files.proofs.Turning.{done-in-turn}
 use Rattle.streamfile.specs.Streams.{packetsIn, flowsIn, numbersIn, packetJudged, packetsJudged, streamAnswer}
@@ -33,14 +33,14 @@ module _ (P : Params) (bs : List ℕ) (S : Sketch) where
   unfolding packetJudged
   judged-accepted i h judged j l =
       let one : j < packetsIn bs = omega arith in
-      rw (← flow-is headLength bs j one, ← number-is headLength bs j one) (at-offset-done (packetOffset j) _ (judged j l))
+      rw (← flow-is (headLengthIn bs) bs j one, ← number-is (headLengthIn bs) bs j one) (at-offset-done (packetOffset bs j) _ (judged j l))
 
   pub record StreamDone : Type 0 where
     pub opened : Opened P bs (length (S .counts)) (length (S .idsums))
     pub undamaged : (k : ℕ) → k < size P → damagedAt S k ≡ false
     pub in-turn : inTurn 0 (packetsIn bs) (packetJudged P bs S) ≡ Done
     pub accepted : Accepted P (flowsIn bs) (numbersIn bs) S (packetsIn bs)
-    pub ended : endAnswer bs (packetOffset (packetsIn bs)) (packetsIn bs) ≡ Done
+    pub ended : endAnswer bs (packetOffset bs (packetsIn bs)) (packetsIn bs) ≡ Done
 
   pub stream-done : streamAnswer P bs S ≡ Done → StreamDone
   unfolding packetsJudged

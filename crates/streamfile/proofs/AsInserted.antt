@@ -20,7 +20,7 @@ use Rattle.sums.specs.History.{History, inserting-all}
 use Rattle.params.proofs.Judging.{number-done}
 use Rattle.sketch.proofs.ManyPackets.{after-more, packets-end, all-in-turn}
 use Rattle.files.specs.Turns.{atOffset, inTurn, packetOffset}
-use Rattle.files.specs.Records.{headLength}
+use Rattle.files.specs.Records.{headLengthIn}
 use Rattle.streamfile.specs.Streams.{packetsIn, flowsIn, numbersIn, afterFirst, packetJudged, StreamRead}
 use Rattle.streamfile.proofs.Found.{length-flows, length-numbers, flow-is, number-is}
 use Rattle.streamfile.proofs.Accepting.{stream-done}
@@ -43,29 +43,29 @@ module _ (P : Params) (bs : List ℕ) (S : Sketch) where
     abbrev next : Sketch
     next = changed P false flow number T
 
-    judged-so : packetJudged P bs S i ≡ atOffset (packetOffset i) (stepAnswer P false flow number T)
+    judged-so : packetJudged P bs S i ≡ atOffset (packetOffset bs i) (stepAnswer P false flow number T)
     unfolding packetJudged
-    judged-so = rw (flow-is headLength bs i one, number-is headLength bs i one, made)
+    judged-so = rw (flow-is (headLengthIn bs) bs i one, number-is (headLengthIn bs) bs i one, made)
 
     opened : packetsAnswer P (drop i (flowsIn bs)) (drop i (numbersIn bs)) T
         ≡ first (stepAnswer P false flow number T) (packetsAnswer P (drop (suc i) (flowsIn bs)) (drop (suc i) (numbersIn bs)) next)
     unfolding packetsAnswer
-    opened = rw (drop-cons (flowsIn bs) i 0 (rw (length-flows headLength bs) one), drop-cons (numbersIn bs) i 0 (rw (length-numbers headLength bs) one))
+    opened = rw (drop-cons (flowsIn bs) i 0 (rw (length-flows (headLengthIn bs) bs) one), drop-cons (numbersIn bs) i 0 (rw (length-numbers (headLengthIn bs) bs) one))
 
     made-next : next ≡ afterFirst P bs (suc i) S
     made-next =
-        after-more P (flowsIn bs) (numbersIn bs) S i T next (rw (length-flows headLength bs) one) (rw (length-numbers headLength bs) one) made refl
+        after-more P (flowsIn bs) (numbersIn bs) S i T next (rw (length-flows (headLengthIn bs) bs) one) (rw (length-numbers (headLengthIn bs) bs) one) made refl
         ∙ ap (λ (j : ℕ). afterFirst P bs j S) (add-one i)
 
   -- from there on, the records are judged as the packets are, save for the offset
   judged-from : (n i : ℕ) (T : Sketch) → i + n ≡ packetsIn bs → T ≡ afterFirst P bs i S
       → numberIn (inTurn i n (packetJudged P bs S)) ≡ numberIn (packetsAnswer P (drop i (flowsIn bs)) (drop i (numbersIn bs)) T)
   unfolding inTurn
-  judged-from zero i T e made = sym (ap numberIn (packets-end P (flowsIn bs) (numbersIn bs) i T (omega (arith, length-flows headLength bs))))
+  judged-from zero i T e made = sym (ap numberIn (packets-end P (flowsIn bs) (numbersIn bs) i T (omega (arith, length-flows (headLengthIn bs) bs))))
   judged-from (suc n) i T e made =
       let one : i < packetsIn bs = omega arith in
       ap (λ (r : Answer). numberIn (first r (inTurn (suc i) n (packetJudged P bs S)))) (judged-so i T one made)
-      ∙ first-at-offset (packetOffset i) _ _ _ (judged-from n (suc i) (next i T one made) (omega arith) (made-next i T one made))
+      ∙ first-at-offset (packetOffset bs i) _ _ _ (judged-from n (suc i) (next i T one made) (omega arith) (made-next i T one made))
       ∙ sym (ap numberIn (opened i T one made))
 
   pub packets-judged : numberIn (inTurn 0 (packetsIn bs) (packetJudged P bs S)) ≡ numberIn (packetsAnswer P (flowsIn bs) (numbersIn bs) S)
@@ -77,7 +77,7 @@ pub reads-as-inserted : {P : Params} {bs : List ℕ} {S S' : Sketch} → StreamR
 unfolding lentAnswer
 reads-as-inserted {P} {bs} {S} {S'} r =
     let done = stream-done P bs S (sym (r .answer)) in
-    all-in-turn P (flowsIn bs) (numbersIn bs) S Done S' (rw (done .opened .good) (done .opened .lengths)) (length-flows headLength bs ∙ sym (length-numbers headLength bs))
+    all-in-turn P (flowsIn bs) (numbersIn bs) S Done S' (rw (done .opened .good) (done .opened .lengths)) (length-flows (headLengthIn bs) bs ∙ sym (length-numbers (headLengthIn bs) bs))
     (record { answer = sym (number-done _ (sym (packets-judged P bs S) ∙ ap numberIn (done .in-turn))); after-all = r .after-all })
 
 -- and a history goes on with it

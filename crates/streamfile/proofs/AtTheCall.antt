@@ -22,7 +22,7 @@ use Rattle.sketch.proofs.Steps.{move-good}
 use Rattle.sketch.proofs.InOrder.{move-number}
 use Rattle.files.specs.declared.writing.Written.{Written}
 use Rattle.files.specs.declared.writing.Written.the-variants.{Bytes}
-use Rattle.files.specs.Records.{headLength}
+use Rattle.files.specs.Records.{headLengthIn}
 use Rattle.files.specs.Turns.{packetOffset}
 use Rattle.files.specs.Faults.{openingOrder, openingFault}
 use Rattle.files.proofs.InOrder.{WriterGoesBy, opening-decides}
@@ -73,22 +73,22 @@ module _ (P : Params) (bs : List ℕ) (S : Sketch) where
   faultless : goodParams P ≡ true → (i : ℕ) → i ≤ packetsIn bs → Accepted P (flowsIn bs) (numbersIn bs) S i → (j : ℕ) → j < i → packetFault P bs S j ≡ 0
   faultless good i h accepted j l =
       let one : j < packetsIn bs = omega arith in
-      let done : stepAnswer P false (packetFlow bs j) (packetNumber bs j) (afterFirst P bs j S) ≡ Done = rw (flow-is headLength bs j one, number-is headLength bs j one) (accepted j l) in
+      let done : stepAnswer P false (packetFlow bs j) (packetNumber bs j) (afterFirst P bs j S) ≡ Done = rw (flow-is (headLengthIn bs) bs j one, number-is (headLengthIn bs) bs j one) (accepted j l) in
       sym (move-number P false (packetFlow bs j) (packetNumber bs j) (afterFirst P bs j S)) ∙ ap numberIn (move-good P false (packetFlow bs j) (packetNumber bs j) (afterFirst P bs j S) good ∙ done)
 
 module _ {P : Params} {bs : List ℕ} {S S' : Sketch} where
   -- the earliest packet at fault decides: the number is that of the first of its faults, and its offset goes with it
   pub read-stream-packet : {r : Answer} → StreamRead P bs S r S' → firstOf openingOrder (openingFault P bs (length (S .counts)) (length (S .idsums))) ≡ 0
       → ((j : ℕ) → j < size P → damagedAt S j ≡ false) → (k : ℕ) → k < packetsIn bs → Accepted P (flowsIn bs) (numbersIn bs) S k
-      → (packetFault P bs S k ≡ 0 → ⊥) → (numberIn r ≡ packetFault P bs S k) × (indexIn r ≡ packetOffset k)
+      → (packetFault P bs S k ≡ 0 → ⊥) → (numberIn r ≡ packetFault P bs S k) × (indexIn r ≡ packetOffset bs k)
   read-stream-packet {r} h right undamaged k l accepted n = go r (read-stream-returns h)
     where
-      here : (w : Refusal) (at : ℕ) → goodParams P ≡ true → (f : PacketFault P bs S w at) → Dec (f .which < k) → Dec (k < f .which) → (numberOf w ≡ packetFault P bs S k) × (at ≡ packetOffset k)
+      here : (w : Refusal) (at : ℕ) → goodParams P ≡ true → (f : PacketFault P bs S w at) → Dec (f .which < k) → Dec (k < f .which) → (numberOf w ≡ packetFault P bs S k) × (at ≡ packetOffset bs k)
       here w at good f (yes lower) e = absurd (number-some w (f .number ∙ faultless P bs S good k (omega arith) accepted (f .which) lower))
       here w at good f (no lower) (yes higher) = absurd (n (faultless P bs S good (f .which) (omega (arith, f .one)) (f .accepted) k higher))
-      here w at good f (no lower) (no higher) = let same : f .which ≡ k = omega arith in (f .number ∙ ap (packetFault P bs S) same, f .place ∙ ap packetOffset same)
+      here w at good f (no lower) (no higher) = let same : f .which ≡ k = omega arith in (f .number ∙ ap (packetFault P bs S) same, f .place ∙ ap (packetOffset bs) same)
 
-      go : (r : Answer) → StreamReturned P bs S r → (numberIn r ≡ packetFault P bs S k) × (indexIn r ≡ packetOffset k)
+      go : (r : Answer) → StreamReturned P bs S r → (numberIn r ≡ packetFault P bs S k) × (indexIn r ≡ packetOffset bs k)
       go Done (none-refused x) = absurd (n (faultless P bs S (x .opened .good) (packetsIn bs) (omega arith) (x .accepted) k l))
       go (Refused w at) (refused-for (in-opening e z)) = absurd (number-some w (e ∙ right))
       go (Refused w at) (refused-for (in-sketch o e low)) = absurd (false≢true (sym (undamaged at (low .inside)) ∙ low .here))

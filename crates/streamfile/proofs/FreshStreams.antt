@@ -24,7 +24,7 @@ use Rattle.sketch.proofs.Whole.{count-stays, step-long, step-whole}
 use Rattle.streamfile.specs.Streams.{packetsIn, flowsIn, numbersIn, StreamRead}
 use Rattle.streamfile.proofs.Found.{length-flows, length-numbers}
 use Rattle.streamfile.proofs.Accepting.{stream-done}
-use Rattle.files.specs.Records.{headLength}
+use Rattle.files.specs.Records.{headLengthIn}
 
 -- good parameters, and a sketch of their size, undamaged, in which no count is below 0
 pub record Grown (P : Params) (S : Sketch) : Type 0 where
@@ -105,5 +105,5 @@ fresh-grown {P} {bs} {S} r =
     }
     in
     subst (λ (U : Sketch). Grown P U)
-    (after-end P (flowsIn bs) (numbersIn bs) (packetsIn bs) (zeros P) (omega (arith, length-flows headLength bs)) (omega (arith, length-numbers headLength bs)) ∙ sym (r .after-all))
-    (after-grown P (flowsIn bs) (numbersIn bs) (zeros P) start (packetsIn bs) (omega (arith, length-flows headLength bs)) (omega (arith, length-numbers headLength bs)) (done .accepted))
+    (after-end P (flowsIn bs) (numbersIn bs) (packetsIn bs) (zeros P) (omega (arith, length-flows (headLengthIn bs) bs)) (omega (arith, length-numbers (headLengthIn bs) bs)) ∙ sym (r .after-all))
+    (after-grown P (flowsIn bs) (numbersIn bs) (zeros P) start (packetsIn bs) (omega (arith, length-flows (headLengthIn bs) bs)) (omega (arith, length-numbers (headLengthIn bs) bs)) (done .accepted))

@@ -46,14 +46,14 @@ module _ (P : Params) (bs : List ℕ) (S : Sketch) (w : Refusal) (k : ℕ) where
     pub one : which < packetsIn bs
     pub accepted : Accepted P (flowsIn bs) (numbersIn bs) S which
     pub number : numberOf w ≡ firstOf order (moveFault P false (packetFlow bs which) (packetNumber bs which) (afterFirst P bs which S))
-    pub place : k ≡ packetOffset which
+    pub place : k ≡ packetOffset bs which
 
   pub data StreamFault : Type 0 where
     in-opening : numberOf w ≡ firstOf openingOrder (openingFault P bs (length (S .counts)) (length (S .idsums))) → k ≡ 0 → StreamFault
     in-sketch : Opened P bs (length (S .counts)) (length (S .idsums)) → w ≡ Damage → Lowest (size P) (damagedAt S) k → StreamFault
     in-packet : Opened P bs (length (S .counts)) (length (S .idsums)) → ((j : ℕ) → j < size P → damagedAt S j ≡ false) → PacketFault → StreamFault
     in-end : Opened P bs (length (S .counts)) (length (S .idsums)) → ((j : ℕ) → j < size P → damagedAt S j ≡ false)
-        → Accepted P (flowsIn bs) (numbersIn bs) S (packetsIn bs) → w ≡ Form → EndFault bs (packetOffset (packetsIn bs)) (packetsIn bs) k → StreamFault
+        → Accepted P (flowsIn bs) (numbersIn bs) S (packetsIn bs) → w ≡ Form → EndFault bs (packetOffset bs (packetsIn bs)) (packetsIn bs) k → StreamFault
 
   refused-there : (at : ℕ) (r : Answer) → atOffset at r ≡ Refused w k → (numberOf w ≡ numberIn r) × (k ≡ at)
   unfolding atOffset
@@ -64,7 +64,7 @@ module _ (P : Params) (bs : List ℕ) (S : Sketch) (w : Refusal) (k : ℕ) where
   unfolding packetJudged
   packet-fault good r =
       let j = r .which in
-      let there = refused-there (packetOffset j) (stepAnswer P false (packetFlow bs j) (packetNumber bs j) (afterFirst P bs j S)) (r .here) in
+      let there = refused-there (packetOffset bs j) (stepAnswer P false (packetFlow bs j) (packetNumber bs j) (afterFirst P bs j S)) (r .here) in
       let moved = move-good P false (packetFlow bs j) (packetNumber bs j) (afterFirst P bs j S) good in
       record {
         which = j;
@@ -81,8 +81,8 @@ module _ (P : Params) (bs : List ℕ) (S : Sketch) (w : Refusal) (k : ℕ) where
       let judge = packetJudged P bs S in
       ⊎-elim
       (λ h. in-packet opened undamaged (packet-fault (opened .good) (in-turn-earliest n judge w k h)))
-      (λ h. let end = end-fault bs (packetOffset n) n w k (h .1) in in-end opened undamaged (judged-accepted P bs S n (omega arith) (done-in-turn n judge (h .0))) (end .0) (end .1))
-      (first-either (inTurn 0 n judge) (endAnswer bs (packetOffset n) n) w k e)
+      (λ h. let end = end-fault bs (packetOffset bs n) n w k (h .1) in in-end opened undamaged (judged-accepted P bs S n (omega arith) (done-in-turn n judge (h .0))) (end .0) (end .1))
+      (first-either (inTurn 0 n judge) (endAnswer bs (packetOffset bs n) n) w k e)
 
   past-opening : Opened P bs (length (S .counts)) (length (S .idsums)) → refuseAt (size P) (damagedAt S) Damage (packetsJudged P bs S) ≡ Refused w k → StreamFault
   past-opening opened e =

@@ -13,7 +13,7 @@ use Rattle.sketch.specs.Sketch.{Sketch}
 use Rattle.sketch.specs.Packets.{stepAnswer, changed, after, Accepted}
 use Rattle.params.proofs.Judging.{Refuses, first-refused, first-passed}
 use Rattle.sketch.proofs.ManyPackets.{after-more, after-end}
-use Rattle.files.specs.Records.{recordAt, isKind, packetsKind, headLength, packetsLength}
+use Rattle.files.specs.Records.{recordAt, isKind, packetsKind, headLengthIn, packetsLength}
 use Rattle.files.specs.Turns.{atOffset, packetFrom, packetOffset, endAnswer}
 use Rattle.files.proofs.Standing.{kind-ends}
 use Rattle.files.proofs.Turning.{Come, come-start, come-next, come-end, come-within, in-turn-refused, in-turn-done}
@@ -78,28 +78,28 @@ module _ (P : Params) (o : ℕ) (bs : List ℕ) (S : Sketch) where
           g .made ∙ after-end P (flowsFrom o bs) (numbersFrom o bs) n S (rw (length-flows o bs) long) (rw (length-numbers o bs) long)
 
 -- a stream's packets, after its head, and its end
-module _ (P : Params) (bs : List ℕ) (S : Sketch) (n : ℕ) (T : Sketch) (g : Gone P headLength bs S n T) where
+module _ (P : Params) (bs : List ℕ) (S : Sketch) (n : ℕ) (T : Sketch) (g : Gone P (headLengthIn bs) bs S n T) where
   -- every packet before was accepted
   passed : (j : ℕ) → j < n → packetJudged P bs S j ≡ Done
   unfolding packetJudged atOffset
   passed j l =
-      let one : j < packetsIn bs = omega (arith, gone-within P headLength bs S n T g) in
-      rw (flow-is headLength bs j one, number-is headLength bs j one, g .accepted j l)
+      let one : j < packetsIn bs = omega (arith, gone-within P (headLengthIn bs) bs S n T g) in
+      rw (flow-is (headLengthIn bs) bs j one, number-is (headLengthIn bs) bs j one, g .accepted j l)
 
-  module _ (f k : ℕ) (there : There bs (packetOffset n) f k) (r : Answer) (e : r ≡ stepAnswer P false f k T) (h : Refuses r) where
-    judged-so : atOffset (packetOffset n) r ≡ packetJudged P bs S n
+  module _ (f k : ℕ) (there : There bs (packetOffset bs n) f k) (r : Answer) (e : r ≡ stepAnswer P false f k T) (h : Refuses r) where
+    judged-so : atOffset (packetOffset bs n) r ≡ packetJudged P bs S n
     unfolding packetJudged
-    judged-so = ap (atOffset (packetOffset n)) (e ∙ rw (← there .flow, ← there .number, ← g .made))
+    judged-so = ap (atOffset (packetOffset bs n)) (e ∙ rw (← there .flow, ← there .number, ← g .made))
 
-    pub packet-refused : atOffset (packetOffset n) r ≡ packetsJudged P bs S
+    pub packet-refused : atOffset (packetOffset bs n) r ≡ packetsJudged P bs S
     unfolding packetsJudged
     packet-refused =
-        let refuses = at-offset-refuses (packetOffset n) r h in
-        first-refused _ _ _ (in-turn-refused (packetsIn bs) n (packetJudged P bs S) _ (one-of-them P headLength bs S n T g f k there) passed judged-so refuses) refuses
+        let refuses = at-offset-refuses (packetOffset bs n) r h in
+        first-refused _ _ _ (in-turn-refused (packetsIn bs) n (packetJudged P bs S) _ (one-of-them P (headLengthIn bs) bs S n T g f k there) passed judged-so refuses) refuses
 
-  pub end-judged : isKind packetsKind (recordAt bs (packetOffset n)) ≡ false → endAnswer bs (packetOffset n) n ≡ packetsJudged P bs S
+  pub end-judged : isKind packetsKind (recordAt bs (packetOffset bs n)) ≡ false → endAnswer bs (packetOffset bs n) n ≡ packetsJudged P bs S
   unfolding packetsJudged
   end-judged none =
-      let all = all-gone P headLength bs S n T g none in
-      ap (λ (j : ℕ). endAnswer bs (packetOffset j) j) all
+      let all = all-gone P (headLengthIn bs) bs S n T g none in
+      ap (λ (j : ℕ). endAnswer bs (packetOffset bs j) j) all
       ∙ sym (first-passed _ _ (in-turn-done (packetsIn bs) (packetJudged P bs S) (λ j l. passed j (omega (arith, all)))))

@@ -19,8 +19,8 @@ use Rattle.files.specs.declared.writing.Written.the-variants.{Bytes}
 use Rattle.files.specs.Writing.{writtenOf}
 use Rattle.files.specs.Layout.{endBytes}
 use Rattle.files.specs.Turns.{packetOffset}
-use Rattle.files.specs.Records.{packetsKind, headLength, packetsLength}
-use Rattle.files.proofs.HeadTrips.{head-read}
+use Rattle.files.specs.Records.{packetsKind, headLengthIn, packetsLength}
+use Rattle.files.proofs.HeadTrips.{head-read, opened-length}
 use Rattle.files.proofs.RecordTrips.{end-read}
 use Rattle.files.proofs.Turning.{whole-within}
 use Rattle.files.proofs.Overwriting.{written-front}
@@ -59,10 +59,12 @@ unfolding streamBytes flowsFrom numbersFrom
 written-read-stream {P} {bs} {S} small read =
     let n = packetsIn bs in
     let done = stream-done P bs S (sym (read .answer)) in
-    let head = head-read bs small P (done .opened .head) (done .opened .same) in
-    let packets = packets-read bs 0 n small (λ j l. whole-within packetsKind packetOffset bs j (omega arith)) in
-    let end = ap endBytes (length-flows headLength bs) ∙ end-read bs (packetOffset n) n small (done .ended) .1 in
-    ap₂ {C = List ℕ} _++_ head (ap₂ {C = List ℕ} _++_ packets (end ∙ sym (drop-drop (packetsLength * n) headLength bs)) ∙ take-append-drop (packetsLength * n) (drop headLength bs)) ∙ take-append-drop headLength bs
+    let first : ℕ = headLengthIn bs in
+    let start : packetOffset bs 0 ≡ first = omega arith in
+    let head = head-read bs small P (done .opened .head) (done .opened .file-good) (done .opened .same) ∙ ap (λ (o : ℕ). take o bs) (sym (opened-length (done .opened))) in
+    let packets = packets-read bs 0 n small (λ j l. whole-within packetsKind (packetOffset bs) bs j (omega arith)) ∙ ap (λ (o : ℕ). take (packetsLength * n) (drop o bs)) start in
+    let end = ap endBytes (length-flows (headLengthIn bs) bs) ∙ end-read bs (packetOffset bs n) n small (done .ended) .1 in
+    ap₂ {C = List ℕ} _++_ head (ap₂ {C = List ℕ} _++_ packets (end ∙ sym (drop-drop (packetsLength * n) first bs)) ∙ take-append-drop (packetsLength * n) (drop first bs)) ∙ take-append-drop first bs
 
 -- and writing them gives it again
 pub written-again : {P : Params} {bs : List ℕ} {S S' : Sketch} {out out' : List ℕ} {r : Written} → ((k : ℕ) → getD bs k 0 < 256) → StreamRead P bs S Done S' → packetsIn bs ≤ 65536

@@ -45,13 +45,13 @@ packet-among (f ∷ fs) (n ∷ ns) (suc k) h l =
     ap (λ (xs : List ℕ). packetBytes f n ++ xs) (packet-among fs ns k (omega arith) (omega arith)) ∙ sym (append-assoc (packetBytes f n) _ _)
 
 -- whole records one after the other are written as they stand
-pub packets-read : (bs : List ℕ) (k n : ℕ) → ((j : ℕ) → getD bs j 0 < 256) → ((j : ℕ) → j < k + n → isKind packetsKind (recordAt bs (packetOffset j)) ≡ true)
-    → packetsBytes (from k n (packetFlow bs)) (from k n (packetNumber bs)) ≡ take (packetsLength * n) (drop (packetOffset k) bs)
+pub packets-read : (bs : List ℕ) (k n : ℕ) → ((j : ℕ) → getD bs j 0 < 256) → ((j : ℕ) → j < k + n → isKind packetsKind (recordAt bs (packetOffset bs j)) ≡ true)
+    → packetsBytes (from k n (packetFlow bs)) (from k n (packetNumber bs)) ≡ take (packetsLength * n) (drop (packetOffset bs k) bs)
 unfolding packetsBytes from
 packets-read bs k zero small whole = refl
 packets-read bs k (suc n) small whole =
-    let next : packetOffset (suc k) ≡ packetOffset k + packetsLength = omega arith in
+    let next : packetOffset bs (suc k) ≡ packetOffset bs k + packetsLength = omega arith in
     let bytes : packetsLength + packetsLength * n ≡ packetsLength * suc n = omega arith in
-    ap₂ {C = List ℕ} _++_ (packet-read bs (packetOffset k) small (whole k (omega arith)))
-    (packets-read bs (suc k) n small (λ j l. whole j (omega arith)) ∙ ap (λ (i : ℕ). take (packetsLength * n) (drop i bs)) next ∙ ap (take (packetsLength * n)) (sym (drop-drop packetsLength (packetOffset k) bs)))
-    ∙ sym (take-add packetsLength (packetsLength * n) (drop (packetOffset k) bs)) ∙ ap (λ (i : ℕ). take i (drop (packetOffset k) bs)) bytes
+    ap₂ {C = List ℕ} _++_ (packet-read bs (packetOffset bs k) small (whole k (omega arith)))
+    (packets-read bs (suc k) n small (λ j l. whole j (omega arith)) ∙ ap (λ (i : ℕ). take (packetsLength * n) (drop i bs)) next ∙ ap (take (packetsLength * n)) (sym (drop-drop packetsLength (packetOffset bs k) bs)))
+    ∙ sym (take-add packetsLength (packetsLength * n) (drop (packetOffset bs k) bs)) ∙ ap (λ (i : ℕ). take i (drop (packetOffset bs k) bs)) bytes

@@ -5,7 +5,7 @@ use mathlib.Core.List.{List, _++_, append-assoc}
 use Prim.Native.Nat.{ℕ, suc, _+_, _*_, _≤_, _<_}
 use native.Mathlib.Omega.{arith}
 use borrow.Author.Tests.{eq-eqb, not-false}
-use lib.Dec.{eqb, leb}
+use lib.Dec.{eqb}
 use lib.ListN.{length, getD, take, drop, length-append}
 use lib.Seq.{ext-getD, getD-at, length-take-le}
 use Rattle.params.specs.declared.params.Params.{Params}
@@ -25,9 +25,10 @@ use Rattle.params.proofs.Judging.{first-end, first-number, refuse-done, refuse-
 use Rattle.files.specs.Bytes.{wordBytes}
 use Rattle.files.proofs.HeadStages.{openingAnswer}
 use Rattle.files.specs.Layout.{headBytes, packetBytes, endBytes}
-use Rattle.files.specs.Turns.{packetOffset, inTurn, endAnswer}
-use Rattle.files.specs.Records.{packetsKind, headLength, packetsLength}
-use Rattle.files.proofs.HeadTrips.{headed-long, opening-written}
+use Rattle.files.specs.Turns.{packetFrom, packetOffset, inTurn, endAnswer}
+use Rattle.files.specs.Heads.{headLengthOf}
+use Rattle.files.specs.Records.{packetsKind, headLengthIn, packetsLength}
+use Rattle.files.proofs.HeadTrips.{headed-long, headed-length, opening-written}
 use Rattle.files.proofs.RecordTrips.{not-kind, end-written}
 use Rattle.files.proofs.Turning.{records-are}
 use Rattle.streamfile.specs.Streams.{packetsIn, flowsIn, numbersIn, afterFirst, packetJudged, packetsJudged, streamAnswer}
@@ -74,11 +75,11 @@ pub read-sendable : {P : Params} {bs : List ℕ} {S : Sketch} → StreamDone P b
 read-sendable {P} {bs} {S} done few =
     record {
       good = done .opened .good;
-      same = length-flows headLength bs ∙ sym (length-numbers headLength bs);
-      few = rw (length-flows headLength bs) few;
-      flows = λ k l. step-done P false _ _ (afterFirst P bs k S) (done .accepted k (rw (length-flows headLength bs) at l)) .let-in .flow;
+      same = length-flows (headLengthIn bs) bs ∙ sym (length-numbers (headLengthIn bs) bs);
+      few = rw (length-flows (headLengthIn bs) bs) few;
+      flows = λ k l. step-done P false _ _ (afterFirst P bs k S) (done .accepted k (rw (length-flows (headLengthIn bs) bs) at l)) .let-in .flow;
       numbers = λ k l.
-          let in-order = step-done P false _ _ (afterFirst P bs k S) (done .accepted k (rw (length-numbers headLength bs) at l)) .let-in in
+          let in-order = step-done P false _ _ (afterFirst P bs k S) (done .accepted k (rw (length-numbers (headLengthIn bs) bs) at l)) .let-in in
           (in-order .low, in-order .high);
     }
 
@@ -97,11 +98,19 @@ module _ (P : Params) (fs ns : List ℕ) (able : Sendable P fs ns) where
   unfolding streamBytes
   file-is = sym (append-assoc (headBytes P) (packetsBytes fs ns) end)
 
-  end-place : length before ≡ packetOffset (length fs)
-  end-place = headed-long P (packetsBytes fs ns) ∙ ap (λ (n : ℕ). headLength + n) (packets-long fs ns (able .same))
+  -- its head is as long as the profile says, so the places of its packets are known
+  abbrev place : ℕ → ℕ
+  place k = packetFrom (headLengthOf P) k
+
+  place-is : (k : ℕ) → packetOffset file k ≡ place k
+  unfolding streamBytes
+  place-is k = ap (λ (o : ℕ). packetFrom o k) (headed-length P (packetsBytes fs ns ++ end))
+
+  end-place : length before ≡ place (length fs)
+  end-place = headed-long P (packetsBytes fs ns) ∙ ap (λ (n : ℕ). headLengthOf P + n) (packets-long fs ns (able .same))
 
   -- packet k stands at its place
-  there : (k : ℕ) → k < length fs → There file (packetOffset k) (getD fs k 0) (getD ns k 0)
+  there : (k : ℕ) → k < length fs → There file (packetOffset file k) (getD fs k 0) (getD ns k 0)
   unfolding streamBytes
   there k l =
       let m : k < length ns = omega (arith, able .same) in
@@ -111,31 +120,35 @@ module _ (P : Params) (fs ns : List ℕ) (able : Sendable P fs ns) where
       let form : file ≡ (headBytes P ++ sofar) ++ (this ++ (rest ++ end)) = ap (λ (xs : List ℕ). headBytes P ++ (xs ++ end)) (packet-among fs ns k l m) ∙ simp append-assoc in
       let fl : length (take k fs) ≡ k = length-take-le k fs (omega arith) in
       let nl : length (take k ns) ≡ k = length-take-le k ns (omega arith) in
-      let long : length (headBytes P ++ sofar) ≡ packetOffset k = headed-long P sofar ∙ ap (λ (n : ℕ). headLength + n) (packets-long (take k fs) (take k ns) (fl ∙ sym nl) ∙ ap (λ (n : ℕ). packetsLength * n) fl) in
-      packet-written file (headBytes P ++ sofar) (rest ++ end) (packetOffset k) _ _ form long (omega (arith, flow-below P (getD fs k 0) (able .flows k l))) (omega (arith, able .numbers k m .1))
+      let long : length (headBytes P ++ sofar) ≡ packetOffset file k = headed-long P sofar ∙ ap (λ (n : ℕ). headLengthOf P + n) (packets-long (take k fs) (take k ns) (fl ∙ sym nl) ∙ ap (λ (n : ℕ). packetsLength * n) fl) ∙ sym (place-is k) in
+      packet-written file (headBytes P ++ sofar) (rest ++ end) (packetOffset file k) _ _ form long (omega (arith, flow-below P (getD fs k 0) (able .flows k l))) (omega (arith, able .numbers k m .1))
 
   counted : packetsIn file ≡ length fs
   unfolding endBytes
   counted =
-      let long : length file ≡ packetOffset (length fs) + length end = ap length file-is ∙ length-append before end ∙ ap (λ (n : ℕ). n + length end) end-place in
-      let four : getD file (packetOffset (length fs)) 0 ≡ 4 = rw file-is (getD-at before 4 (wordBytes (length fs)) 0 (packetOffset (length fs)) end-place) in
-      records-are packetsKind packetOffset file (length fs) (omega arith) (λ k l. there k l .whole) (not-kind file (packetOffset (length fs)) packetsKind (λ q. omega arith))
+      let long : length file ≡ place (length fs) + length end = ap length file-is ∙ length-append before end ∙ ap (λ (n : ℕ). n + length end) end-place in
+      let four : getD file (packetOffset file (length fs)) 0 ≡ 4 =
+      ap (λ (o : ℕ). getD file o 0) (place-is (length fs)) ∙ ap (λ (xs : List ℕ). getD xs (place (length fs)) 0) file-is ∙ getD-at before 4 (wordBytes (length fs)) 0 (place (length fs)) end-place in
+      records-are packetsKind (packetOffset file) file (length fs) (omega arith) (λ k l. there k l .whole) (not-kind file (packetOffset file (length fs)) packetsKind (λ q. omega arith))
 
-  ended : endAnswer file (packetOffset (packetsIn file)) (packetsIn file) ≡ Done
-  ended = rw (counted, file-is) (end-written before (packetOffset (length fs)) (length fs) end-place (omega (arith, able .few)))
+  ended : endAnswer file (packetOffset file (packetsIn file)) (packetsIn file) ≡ Done
+  ended =
+      ap (λ (n : ℕ). endAnswer file (packetOffset file n) n) counted
+      ∙ ap₂ (λ (xs : List ℕ) (o : ℕ). endAnswer xs o (length fs)) file-is (place-is (length fs))
+      ∙ end-written before (place (length fs)) (length fs) end-place (omega (arith, able .few))
 
   -- so its flows and numbers are those that were given
   pub flows-back : flowsIn file ≡ fs
-  flows-back = ext-getD 0 (flowsIn file) fs (length-flows headLength file ∙ counted) (λ k l. sym (there k (at k l) .flow ∙ flow-is headLength file k (rw (length-flows headLength file) at l)))
+  flows-back = ext-getD 0 (flowsIn file) fs (length-flows (headLengthIn file) file ∙ counted) (λ k l. sym (there k (at k l) .flow ∙ flow-is (headLengthIn file) file k (rw (length-flows (headLengthIn file) file) at l)))
     where
       at : (k : ℕ) → k < length (flowsIn file) → k < length fs
-      at k l = omega (arith, length-flows headLength file, counted)
+      at k l = omega (arith, length-flows (headLengthIn file) file, counted)
 
   pub numbers-back : numbersIn file ≡ ns
-  numbers-back = ext-getD 0 (numbersIn file) ns (length-numbers headLength file ∙ counted ∙ able .same) (λ k l. sym (there k (at k l) .number ∙ number-is headLength file k (rw (length-numbers headLength file) at l)))
+  numbers-back = ext-getD 0 (numbersIn file) ns (length-numbers (headLengthIn file) file ∙ counted ∙ able .same) (λ k l. sym (there k (at k l) .number ∙ number-is (headLengthIn file) file k (rw (length-numbers (headLengthIn file) file) at l)))
     where
       at : (k : ℕ) → k < length (numbersIn file) → k < length fs
-      at k l = omega (arith, length-numbers headLength file, counted)
+      at k l = omega (arith, length-numbers (headLengthIn file) file, counted)
 
   -- and reading it into a sketch without damage answers as inserting them does, save for the place
   opening-is : (c s : ℕ) → openingAnswer P file c s ≡ lentAnswer P c s

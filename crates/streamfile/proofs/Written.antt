@@ -19,7 +19,8 @@ use Rattle.params.proofs.Searches.{and-true}
 use Rattle.params.proofs.Judging.{refuse-done}
 use Rattle.files.specs.Bytes.{wordBytes}
 use Rattle.files.specs.Layout.{packetBytes}
-use Rattle.files.specs.Records.{headLength, packetsLength, endLength}
+use Rattle.files.specs.Records.{packetsLength, endLength}
+use Rattle.files.specs.Heads.{headLengthOf}
 use Rattle.files.proofs.Overwriting.{length-file}
 use Rattle.streamfile.specs.Writing.{packetsBytes, streamBytes, isFlowAt, isNumberAt, streamWriteAnswer}
 
@@ -36,7 +37,7 @@ packets-long [] ns e = refl
 packets-long (f ∷ fs) [] e = absurd (omega arith)
 packets-long (f ∷ fs) (n ∷ ns) e = omega (arith, packets-long fs ns (omega arith))
 
-pub stream-long : (P : Params) (fs ns : List ℕ) → length fs ≡ length ns → length (streamBytes P fs ns) ≡ headLength + packetsLength * length fs + endLength
+pub stream-long : (P : Params) (fs ns : List ℕ) → length fs ≡ length ns → length (streamBytes P fs ns) ≡ headLengthOf P + packetsLength * length fs + endLength
 unfolding streamBytes
 stream-long P fs ns e = omega (arith, length-file P (packetsBytes fs ns) (length fs), packets-long fs ns e)
 
@@ -45,7 +46,7 @@ pub record Passed (P : Params) (fs ns : List ℕ) (o : ℕ) : Type 0 where
   pub good : goodParams P ≡ true
   pub same : length fs ≡ length ns
   pub few : length fs ≤ 65536
-  pub room : headLength + packetsLength * length fs + endLength ≤ o
+  pub room : headLengthOf P + packetsLength * length fs + endLength ≤ o
 
 pub writing-passed : (P : Params) (fs ns : List ℕ) (o : ℕ) → streamWriteAnswer P fs ns o ≡ Done → Passed P fs ns o
 unfolding streamWriteAnswer

@@ -15,7 +15,7 @@ use Rattle.sketch.specs.Packets.{stepAnswer, after}
 use Rattle.files.specs.Bytes.{word}
 use Rattle.files.specs.Heads.{parametersAnswer}
 use Rattle.files.specs.Turns.{atOffset, inTurn, packetFrom, packetOffset, recordsOf, endAnswer}
-use Rattle.files.specs.Records.{packetsKind, headLength}
+use Rattle.files.specs.Records.{packetsKind, headLengthIn}
 use Rattle.files.specs.Fields.{flowField, numberField}
 
 -- how many packet records stand from an offset o on, and the flow and the number in the k-th, counted from 0
@@ -37,32 +37,32 @@ numbersFrom o bs = from 0 (packetsFrom o bs) (numberFrom o bs)
 
 -- in a stream they stand after the head
 abbrev pub packetsIn : List ℕ → ℕ
-packetsIn bs = packetsFrom headLength bs
+packetsIn bs = packetsFrom (headLengthIn bs) bs
 
 abbrev pub packetFlow : List ℕ → ℕ → ℕ
-packetFlow bs k = flowFrom headLength bs k
+packetFlow bs k = flowFrom (headLengthIn bs) bs k
 
 abbrev pub packetNumber : List ℕ → ℕ → ℕ
-packetNumber bs k = numberFrom headLength bs k
+packetNumber bs k = numberFrom (headLengthIn bs) bs k
 
 abbrev pub flowsIn : List ℕ → List ℕ
-flowsIn bs = flowsFrom headLength bs
+flowsIn bs = flowsFrom (headLengthIn bs) bs
 
 abbrev pub numbersIn : List ℕ → List ℕ
-numbersIn bs = numbersFrom headLength bs
+numbersIn bs = numbersFrom (headLengthIn bs) bs
 
 -- the sketch that the first k records leave, and what is refused of the k-th, which goes into it
 abbrev pub afterFirst : Params → List ℕ → ℕ → Sketch → Sketch
 afterFirst P bs k S = after P (take k (flowsIn bs)) (take k (numbersIn bs)) S
 
 unfoldable pub packetJudged : Params → List ℕ → Sketch → ℕ → Answer
-packetJudged P bs S k = atOffset (packetOffset k) (stepAnswer P false (packetFlow bs k) (packetNumber bs k) (afterFirst P bs k S))
+packetJudged P bs S k = atOffset (packetOffset bs k) (stepAnswer P false (packetFlow bs k) (packetNumber bs k) (afterFirst P bs k S))
 
 -- the records after the head: the earliest at fault decides
 unfoldable pub packetsJudged : Params → List ℕ → Sketch → Answer
 packetsJudged P bs S =
     first (inTurn 0 (packetsIn bs) (packetJudged P bs S))
-    (endAnswer bs (packetOffset (packetsIn bs)) (packetsIn bs))
+    (endAnswer bs (packetOffset bs (packetsIn bs)) (packetsIn bs))
 
 -- the head and the parameters, the lengths, damage anywhere in the sketch, the records
 unfoldable pub streamAnswer : Params → List ℕ → Sketch → Answer

@@ -9,8 +9,8 @@ use buckets::first_damaged;
 use files::ends::judge_end;
 use files::fields::Packets;
 use files::fields::packets_at;
+use files::heads::head_length_in;
 use files::heads::judge_parameters;
-use files::records::HEAD_LENGTH;
 use files::records::PACKETS_LENGTH;
 use params::Answer;
 use params::Params;
@@ -33,10 +33,11 @@ fn withdraw_packets(p: Params, counts: &mut [i32], idsums: &mut [u32], bytes: &[
     requires { ⌜ n ≤ packetsIn (now bytes) ⌝ }
     ensures { λ r. ⌜ Unwound p (flowsIn (now (bytes .entry))) (numbersIn (now (bytes .entry))) n (sketch (now (counts .entry)) (now (idsums .entry))) (sketch (now (counts .exit)) (now (idsums .exit))) ⌝ }
 {
+    let first = head_length_in(bytes);
     let mut i = n;
     while 0 < i {
         i -= 1;
-        let found = packets_at(bytes, HEAD_LENGTH + PACKETS_LENGTH * i);
+        let found = packets_at(bytes, first + PACKETS_LENGTH * i);
         let Packets::Of(flow, number) = found else {
             return;
         };
@@ -48,7 +49,7 @@ fn withdraw_packets(p: Params, counts: &mut [i32], idsums: &mut [u32], bytes: &[
 fn read_records(p: Params, counts: &mut [i32], idsums: &mut [u32], bytes: &[u8]) -> Answer
     ensures { λ r. ⌜ RecordsRead p (now (bytes .entry)) (sketch (now (counts .entry)) (now (idsums .entry))) r (sketch (now (counts .exit)) (now (idsums .exit))) ⌝ }
 {
-    let mut at = HEAD_LENGTH;
+    let mut at = head_length_in(bytes);
     let mut n = 0;
     loop {
         let found = packets_at(bytes, at);

@@ -4,11 +4,11 @@ ghost use Prim.Native.Nat.{_+_, _*_, _≤_};
 ghost use lib.ListN.{length};
 ghost use Rattle.params.specs.Lists.{below};
 ghost use Rattle.files.specs.Bytes.{overwritten};
-ghost use Rattle.files.specs.Records.{headLength, packetsLength};
+ghost use Rattle.files.specs.Records.{packetsLength};
 ghost use Rattle.streamfile.specs.Writing.{packetsBytes, isFlowAt, isNumberAt, streamWriteAnswer, StreamWritten};
 use buckets::is_number;
+use files::heads::head_length;
 use files::records::END_LENGTH;
-use files::records::HEAD_LENGTH;
 use files::records::PACKETS_LENGTH;
 use files::writing::Written;
 use files::writing::put_end;
@@ -60,7 +60,7 @@ fn judge(p: Params, flows: &[u32], numbers: &[u32], room: usize) -> Answer
     if 65536 < n {
         return Answer::Refused(Refusal::Length, 0);
     }
-    if room < HEAD_LENGTH + PACKETS_LENGTH * n + END_LENGTH {
+    if room < head_length(p) + PACKETS_LENGTH * n + END_LENGTH {
         return Answer::Refused(Refusal::Length, 0);
     }
     if !all_flows(p, flows) {
@@ -72,13 +72,13 @@ fn judge(p: Params, flows: &[u32], numbers: &[u32], room: usize) -> Answer
     Answer::Done
 }
 
-// The packet records, after the head.
-fn put_all(out: &mut [u8], flows: &[u32], numbers: &[u32])
+// The packet records, from an offset on.
+fn put_all(out: &mut [u8], first: usize, flows: &[u32], numbers: &[u32])
     requires { ⌜ length (now flows) ≡ length (now numbers) ⌝ }
-    requires { ⌜ headLength + packetsLength * length (now flows) ≤ length (now out) ⌝ }
-    ensures { λ r. ⌜ now (out .exit) ≡ overwritten (now (out .entry)) headLength (packetsBytes (now (flows .entry)) (now (numbers .entry))) ⌝ }
+    requires { ⌜ first + packetsLength * length (now flows) ≤ length (now out) ⌝ }
+    ensures { λ r. ⌜ now (out .exit) ≡ overwritten (now (out .entry)) first (packetsBytes (now (flows .entry)) (now (numbers .entry))) ⌝ }
 {
-    let mut at = HEAD_LENGTH;
+    let mut at = first;
     let mut i = 0;
     while i < flows.len() {
         put_packets(out, at, flows[i], numbers[i]);
@@ -95,9 +95,10 @@ pub fn write_stream(p: Params, flows: &[u32], numbers: &[u32], out: &mut [u8]) -
     match r {
         Answer::Done => {
             let n = flows.len();
+            let first = head_length(p);
             put_head(out, p);
-            put_all(out, flows, numbers);
-            let at = HEAD_LENGTH + PACKETS_LENGTH * n;
+            put_all(out, first, flows, numbers);
+            let at = first + PACKETS_LENGTH * n;
             put_end(out, at, n as u32);
             Written::Bytes(at + END_LENGTH)
         }

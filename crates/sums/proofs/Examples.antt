@@ -11,6 +11,7 @@ use Rattle.params.specs.declared.answers.Answer.{Answer}
 use Rattle.params.specs.Lists.{below, least}
 use Rattle.params.specs.Answers.{numberIn, indexIn, refuseAt, first}
 use Rattle.params.specs.Params.{pairAt, twins, goodDimensions, goodParams, samePair, sameParams, lengthsAnswer, dimensionsAnswer}
+use Rattle.params.specs.Sketched.{sketched}
 use Rattle.params.specs.Positions.{stand, positionAnswer, standsIn}
 use Rattle.buckets.specs.Buckets.{inLimits, isNumber}
 use Rattle.sketch.specs.Sketch.{Sketch, sketch, zeros, damagedIn, leavesIn, flowBucketsAnswer}
@@ -31,11 +32,15 @@ returned r = answer (numberIn r) (indexIn r)
 
 -- d arrays of m buckets
 abbrev params : ℕ → ℕ → List ℕ → List ℕ → Params
-params d m xs ys = record { d = d; m = m; a = xs; b = ys }
+params d m xs ys = record { d = d; m = m; a = xs; b = ys; a5 = 0; b5 = 0 }
 
 -- the bench's parameters
 abbrev pub K : Params
 K = params 2 5 (1 ∷ 1073741824 ∷ 0 ∷ 0 ∷ []) (0 ∷ 0 ∷ 0 ∷ 0 ∷ [])
+
+-- the same with fingerprints, by this fifth pair
+abbrev withFifth : ℕ → ℕ → Params
+withFifth a b = record { d = 2; m = 5; a = K .a; b = K .b; a5 = a; b5 = b }
 
 -- zeros in slices of these lengths, a fresh sketch under K, and one with bucket k set
 abbrev long : ℕ → ℕ → Sketch
@@ -78,6 +83,19 @@ table =
     ∷ (returned (arrayAnswer K 0 10), answer 1 0)
     ∷ (returned (arrayAnswer K 3 10), answer 1 0)
     ∷ (returned (arrayAnswer K 2 11), answer 2 0)
+    -- the fifth pair: at its limits, past them, equal to another, and half of one
+    ∷ (inserting (withFifth 1 0) 7 1 fresh, answer 0 0)
+    ∷ (inserting (withFifth 2147483646 2147483646) 7 1 fresh, answer 0 0)
+    ∷ (inserting (withFifth 2147483647 0) 7 1 fresh, answer 1 0)
+    ∷ (inserting (withFifth 1 2147483647) 7 1 fresh, answer 1 0)
+    ∷ (inserting (withFifth 0 1) 7 1 fresh, answer 1 0)
+    -- and the flows that there are with it
+    ∷ (inserting (withFifth 1 0) 8388606 1 fresh, answer 0 0)
+    ∷ (inserting (withFifth 1 0) 8388607 1 fresh, answer 3 0)
+    ∷ (inserting (withFifth 1 0) 0 1 fresh, answer 3 0)
+    ∷ (returned (positionAnswer (withFifth 1 0) 2 8388606), answer 0 0)
+    ∷ (returned (positionAnswer (withFifth 1 0) 2 8388607), answer 3 0)
+    ∷ (inserting K 8388607 1 fresh, answer 0 0)
     -- slices one short and one long, which come before the packet
     ∷ (inserting K 7 1 (long 9 10), answer 2 0)
     ∷ (inserting K 7 1 (long 11 10), answer 2 0)
@@ -103,8 +121,15 @@ table =
     ∷ (adding K (params 2 5 (2 ∷ 1073741824 ∷ 0 ∷ 0 ∷ []) (K .b)) fresh (long 9 10), answer 7 0)
     ∷ (adding K (params 2 0 (K .a) (K .b)) fresh (long 9 10), answer 1 0)
     ∷ (adding K K fresh (long 9 10), answer 2 0)
+    -- across profiles, and across fifth pairs
+    ∷ (adding K (withFifth 1 0) fresh fresh, answer 7 0)
+    ∷ (subtracting (withFifth 1 0) K fresh fresh, answer 7 0)
+    ∷ (adding (withFifth 1 0) (withFifth 2 0) fresh fresh, answer 7 0)
+    ∷ (adding (withFifth 1 0) (withFifth 1 1) fresh (long 9 10), answer 7 0)
+    ∷ (subtracting (withFifth 1 0) (withFifth 1 0) fresh fresh, answer 0 0)
+    ∷ (adding (withFifth 1 0) (withFifth 0 1) fresh fresh, answer 1 0)
     ∷ []
 
 pub examples : map (λ row. row .0) table ≡ map (λ row. row .1) table
-unfolding below least refuseAt first pairAt twins goodDimensions goodParams samePair sameParams lengthsAnswer dimensionsAnswer stand positionAnswer standsIn inLimits isNumber zeros damagedIn leavesIn flowBucketsAnswer packetAnswer entryAnswer stepAnswer moveAnswer arrayAnswer bothLentAnswer eitherDamaged leaves bucketsAnswer combineAnswer
+unfolding below least refuseAt first pairAt twins goodDimensions goodParams samePair sameParams lengthsAnswer dimensionsAnswer sketched stand positionAnswer standsIn inLimits isNumber zeros damagedIn leavesIn flowBucketsAnswer packetAnswer entryAnswer stepAnswer moveAnswer arrayAnswer bothLentAnswer eitherDamaged leaves bucketsAnswer combineAnswer
 examples = refl

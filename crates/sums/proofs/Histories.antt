@@ -11,6 +11,7 @@ use Rattle.params.specs.declared.answers.Answer.the-variants.{Done}
 use Rattle.params.specs.Lists.{from}
 use Rattle.params.specs.Answers.{kept}
 use Rattle.params.specs.Params.{prime, size, goodParams, sameParams}
+use Rattle.params.specs.Sketched.{sketched}
 use Rattle.params.specs.Positions.{stands}
 use Rattle.buckets.specs.Buckets.{plusMinus, weight}
 use Rattle.sketch.specs.Sketch.{Sketch, sketch, Entry, by, countAt, weightAt, sketchOf, zeros, changedIn}
@@ -23,7 +24,7 @@ use Rattle.params.proofs.Judging.{first-done}
 use Rattle.sums.proofs.TwoSketches.{both-lent-done}
 use Rattle.sketch.proofs.Tables.{replicate-from, touched-from}
 use Rattle.buckets.proofs.Idsums.{idsum-plus-minus-both}
-use Rattle.params.proofs.SameParams.{size-same, stands-same}
+use Rattle.params.proofs.SameParams.{size-same, sketched-same, stands-same}
 use Rattle.sums.proofs.Weighted.{weighted, times-neg, count-weighted, weight-weighted, sketch-same}
 use Rattle.sums.proofs.Linear.{count-append, weight-append, joined, joined-less}
 use Rattle.sums.proofs.NetCounts.{net-decides, net-less}
@@ -39,9 +40,9 @@ sum-signed : (minus : Bool) (x z : ℤ) → x +ℤ signed minus z ≡ plusMinus 
 sum-signed false x z = refl
 sum-signed true x z = refl
 
-times-signed : (minus : Bool) (n f : ℕ) → signed minus (pos n) *ℤ pos f ≡ signed minus (pos (n * f))
-times-signed false n f = refl
-times-signed true n f = times-neg (pos n) (pos f)
+times-signed : (minus : Bool) (n x : ℕ) → signed minus (pos n) *ℤ pos x ≡ signed minus (pos (n * x))
+times-signed false n x = refl
+times-signed true n x = times-neg (pos n) (pos x)
 
 one-more : (b : Bool) (x z y : ℤ) → x +ℤ z ≡ y → cond b y x ≡ x +ℤ (cond b z (pos 0) +ℤ pos 0)
 one-more true x z y e = sym (ap (_+ℤ_ x) (+ℤ-idr z) ∙ e)
@@ -64,14 +65,14 @@ changed-entry P minus f n es =
         one-more (stands P f k) (countAt P es k) (signed minus (pos n)) _ (sum-signed minus (countAt P es k) (pos n))
         ∙ sym (count-append P es (by f (signed minus (pos n)) ∷ []) k)
 
-    idsum-more : (k : ℕ) → cond (stands P f k) (residue prime (plusMinus minus (pos (residue prime (weightAt P es k))) (pos (weight f n)))) (residue prime (weightAt P es k))
+    idsum-more : (k : ℕ) → cond (stands P f k) (residue prime (plusMinus minus (pos (residue prime (weightAt P es k))) (pos (weight (sketched P f) n)))) (residue prime (weightAt P es k))
         ≡ residue prime (weightAt P (es ++ (by f (signed minus (pos n)) ∷ [])) k)
     idsum-more k =
-        ap (λ (r : ℕ). cond (stands P f k) r (residue prime (weightAt P es k))) (idsum-plus-minus-both minus (weightAt P es k) (pos (n * f)))
+        ap (λ (r : ℕ). cond (stands P f k) r (residue prime (weightAt P es k))) (idsum-plus-minus-both minus (weightAt P es k) (pos (n * sketched P f)))
         ∙ cond-residue (stands P f k) _ _
         ∙ ap (residue prime)
-        (one-more (stands P f k) (weightAt P es k) (signed minus (pos n) *ℤ pos f) _
-        (ap (_+ℤ_ (weightAt P es k)) (times-signed minus n f) ∙ sum-signed minus (weightAt P es k) (pos (n * f)))
+        (one-more (stands P f k) (weightAt P es k) (signed minus (pos n) *ℤ pos (sketched P f)) _
+        (ap (_+ℤ_ (weightAt P es k)) (times-signed minus n (sketched P f)) ∙ sum-signed minus (weightAt P es k) (pos (n * sketched P f)))
         ∙ sym (weight-append P es (by f (signed minus (pos n)) ∷ []) k))
 
 -- and packets are as many entries
@@ -88,9 +89,10 @@ after-entries P (f ∷ fs) (n ∷ ns) es =
 pub sketch-shared : (P Q : Params) (es : List Entry) → goodParams P ≡ true → sameParams P Q ≡ true → sketchOf P es ≡ sketchOf Q es
 sketch-shared P Q es g e =
     let t = stands-same P Q e g in
+    let x = sketched-same P Q e in
     sketch-same P Q es es (size-same P Q e)
     (λ k. count-weighted P es k ∙ ap (λ (u : ℕ → ℕ → Bool). weighted (λ f. cond (u f k) (pos 1) (pos 0)) es) t ∙ sym (count-weighted Q es k))
-    (λ k. weight-weighted P es k ∙ ap (λ (u : ℕ → ℕ → Bool). weighted (λ f. cond (u f k) (pos f) (pos 0)) es) t ∙ sym (weight-weighted Q es k))
+    (λ k. weight-weighted P es k ∙ ap₂ (λ (u : ℕ → ℕ → Bool) (v : ℕ → ℕ). weighted (λ f. cond (u f k) (pos (v f)) (pos 0)) es) t x ∙ sym (weight-weighted Q es k))
 
 -- a sum or a difference that was not refused, by the parameters of the first sketch
 combined-shared : (minus : Bool) (es gs : List Entry) {P Q : Params} {S T S' : Sketch} → S ≡ sketchOf P es → T ≡ sketchOf Q gs → Combined minus P Q S T Done S'

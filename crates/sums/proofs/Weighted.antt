@@ -11,6 +11,7 @@ use Rattle.field.proofs.Parts.{int, up-neg, down-neg, up-mul, down-mul}
 use Rattle.params.specs.declared.params.Params.{Params}
 use Rattle.params.specs.Lists.{from}
 use Rattle.params.specs.Params.{prime, size}
+use Rattle.params.specs.Sketched.{sketched}
 use Rattle.params.specs.Positions.{stands}
 use Rattle.sketch.specs.Sketch.{Entry, sketch, countAt, weightAt, sketchOf}
 use Rattle.sums.specs.History.{negated, netCount}
@@ -35,10 +36,10 @@ unfolding countAt weighted
 count-weighted P [] k = refl
 count-weighted P (e ∷ es) k = ap₂ _+ℤ_ (picked (e .number) (stands P (e .flow) k)) (count-weighted P es k)
 
-pub weight-weighted : (P : Params) (es : List Entry) (k : ℕ) → weightAt P es k ≡ weighted (λ f. cond (stands P f k) (pos f) (pos 0)) es
+pub weight-weighted : (P : Params) (es : List Entry) (k : ℕ) → weightAt P es k ≡ weighted (λ f. cond (stands P f k) (pos (sketched P f)) (pos 0)) es
 unfolding weightAt weighted
 weight-weighted P [] k = refl
-weight-weighted P (e ∷ es) k = ap₂ _+ℤ_ (times-picked (e .number) (stands P (e .flow) k) (pos (e .flow))) (weight-weighted P es k)
+weight-weighted P (e ∷ es) k = ap₂ _+ℤ_ (times-picked (e .number) (stands P (e .flow) k) (pos (sketched P (e .flow)))) (weight-weighted P es k)
 
 pub net-weighted : (es : List Entry) (f : ℕ) → netCount es f ≡ weighted (λ g. cond (eqb g f) (pos 1) (pos 0)) es
 unfolding netCount weighted

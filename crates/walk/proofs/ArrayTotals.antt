@@ -9,9 +9,10 @@ use lib.Dec.{eqb}
 use lib.IntN.{ℤ, pos, _+ℤ_}
 use Rattle.params.specs.declared.params.Params.{Params}
 use Rattle.params.specs.Params.{size, Dimensions}
+use Rattle.params.specs.Sketched.{sketched}
 use Rattle.params.specs.Positions.{position, stand, index, stands}
 use Rattle.params.proofs.BucketNumbers.{stretch-within}
-use Rattle.params.proofs.Indexes.{position-below}
+use Rattle.params.proofs.Indexes.{stand-below}
 use Rattle.params.proofs.Standing.{standing-in}
 use Rattle.sketch.specs.Sketch.{Sketch, countIn, Entry, countAt, sketchOf}
 use Rattle.sketch.proofs.Tables.{from-at}
@@ -26,11 +27,11 @@ arrayTotal P i S = total (P .m) (λ j. countIn S ((i - 1) * P .m + j))
 module _ (P : Params) (h : Dimensions P) (i : ℕ) (low : 1 ≤ i) (high : i ≤ P .d) where
   -- a flow stands in one bucket of array i
   stands-by : (f j : ℕ) → j < P .m → stands P f ((i - 1) * P .m + j) ≡ eqb ((i - 1) * P .m + j) (index P i f)
-  stands-by f j l = standing-in (P .d) (P .m) (λ n. stand P n f) (i - 1) ((i - 1) * P .m + j) (omega arith) (omega arith) (omega arith)
+  stands-by f j l = standing-in (P .d) (P .m) (λ n. stand P n (sketched P f)) (i - 1) ((i - 1) * P .m + j) (omega arith) (omega arith) (omega arith)
 
   one-bucket : (f : ℕ) (z : ℤ) → total (P .m) (λ j. cond (stands P f ((i - 1) * P .m + j)) z (pos 0)) ≡ z
   one-bucket f z =
-      let inside = position-below P i f h in
+      let inside = stand-below P (i - 1) (sketched P f) h in
       total-one (P .m) (position P i f) _ inside (λ j l d. ap (λ (t : Bool). cond t z (pos 0)) (stands-by f j l ∙ ne-eqb ((i - 1) * P .m + j) (index P i f) (λ e. d (omega (arith, e)))))
       ∙ ap (λ (t : Bool). cond t z (pos 0)) (stands-by f (position P i f) inside ∙ eq-eqb (index P i f) (index P i f) refl)
 

@@ -1,4 +1,4 @@
--- The examples E1 to E10 of the bench, and what they do not come to: flow 0, a walk that ends by its range, losses beside gains, and the edges of the purity test. They are one table, under a single theorem, `all-right`: the checker works every line out by the definitions.
+-- The examples E1 to E10 of the bench, and what they do not come to: flow 0, a walk that ends by its range, losses beside gains, the edges of the purity test, and fingerprints. They are one table, under a single theorem, `all-right`: the checker works every line out by the definitions.
 use mathlib.Core.Path.{_≡_, refl}
 use mathlib.Core.Bool.{false}
 use mathlib.Core.List.{List, [], _∷_, map}
@@ -14,6 +14,7 @@ use Rattle.params.specs.declared.answers.Located.the-variants.{At, Refused}
 use Rattle.params.specs.Lists.{below, least, mapFrom, touched, from}
 use Rattle.params.specs.Answers.{numberIn, indexIn, refuseAt, first, kept, locatedOf}
 use Rattle.params.specs.Params.{primeOf, pairAt, twins, goodDimensions, goodParams, lengthsAnswer, dimensionsAnswer}
+use Rattle.params.specs.Sketched.{sketched, told, isSketched}
 use Rattle.params.specs.Positions.{stand, position, positionAnswer, standsIn}
 use Rattle.buckets.specs.Buckets.{inLimits, isNumber}
 use Rattle.sketch.specs.Sketch.{Sketch, sketch, Entry, by, countAt, weightAt, sketchOf, damagedIn, leavesIn, flowBucketsAnswer, changedIn}
@@ -21,12 +22,21 @@ use Rattle.sketch.specs.Packets.{packetAnswer, entryAnswer, stepAnswer, changed
 use Rattle.walk.specs.declared.Found.{Found}
 use Rattle.walk.specs.declared.Found.the-variants.{Impure, Pure}
 use Rattle.walk.specs.Endings.{endingNumber}
-use Rattle.walk.specs.Walk.{State, Move, stops, goes, Outcome, queued, all, any, nothingRemains, less, has, entryOf, credited, waits, requeue, inRange, hasRoom, taken, takes, follows, popped, before, after, run, firstQueue, walk, close, summed, closedTable, lostOf, extraOf}
+use Rattle.walk.specs.Walk.{State, Move, stops, goes, Outcome, queued, all, any, nothingRemains, less, has, entryOf, credited, waits, requeue, inRange, hasRoom, taken, takes, follows, popped, before, after, run, firstQueue, walk, close, summed, lostOf, extraOf}
 use Rattle.walk.specs.Purity.{testIn, wideTest, pureTest, ruleOf}
+use Rattle.walk.specs.Shown.{shownTable}
 
 -- d = 2, m = 5, pairs (1, 0) and (1073741824, 0)
 abbrev pub K : Params
-K = record { d = 2; m = 5; a = 1 ∷ 1073741824 ∷ 0 ∷ 0 ∷ []; b = 0 ∷ 0 ∷ 0 ∷ 0 ∷ [] }
+K = record { d = 2; m = 5; a = 1 ∷ 1073741824 ∷ 0 ∷ 0 ∷ []; b = 0 ∷ 0 ∷ 0 ∷ 0 ∷ []; a5 = 0; b5 = 0 }
+
+-- the same with fingerprints, by the fifth pair (2000000110, 7): flows 2, 7, 12, 17 have 228, 15, 58, 100
+abbrev pub K5 : Params
+K5 = record { d = 2; m = 5; a = K .a; b = K .b; a5 = 2000000110; b5 = 7 }
+
+-- and by the fifth pair (1, 0), whose fingerprints of small flows are the flows themselves
+abbrev weak : Params
+weak = record { d = 2; m = 5; a = K .a; b = K .b; a5 = 1; b5 = 0 }
 
 -- what is asked
 pub data Question : Type 0 where
@@ -46,11 +56,11 @@ pub data Reply : Type 0 where
   waits-on : List ℕ → Reply
   says : (number index : ℕ) → Sketch → Reply
 
--- the ending by its number, and the table after the close
-abbrev ended : Outcome → Reply
-ended o = ends (endingNumber (o .ending)) (o .pops) (lostOf o) (extraOf o) (closedTable o) (o .remainder)
+-- the ending by its number, and the table that is shown
+abbrev ended : Params → Outcome → Reply
+ended P o = ends (endingNumber (o .ending)) (o .pops) (lostOf o) (extraOf o) (shownTable P o) (o .remainder)
 
--- the walk's own moves, pop by pop
+-- the walk's own moves under K, pop by pop
 abbrev moved : Move → State → State
 moved (stops e) st = st
 moved (goes st') st = st'
@@ -67,22 +77,27 @@ abbrev judged : Sketch → Answer → Sketch → Reply
 judged S r S' = says (numberIn r) (indexIn r) (kept r S S')
 
 -- what the definitions tell
-abbrev pub reply : Question → Reply
-reply (position-of i f) = located (locatedOf (positionAnswer K i f) (position K i f))
-reply (sketch-of es) = holds (sketchOf K es)
-reply (test-of k c s) = finds (flow (primeOf K) c s) (wideTest K k c s) (pureTest K k c s)
-reply (peeling S slots allowance) = ended (walk (ruleOf K) slots allowance S)
-reply (queue-after n S) = waits-on (pops n (record { held = S; queue = firstQueue 0 (S .counts); table = [] }) .queue)
-reply (inserting S f n) = judged S (moveAnswer K false f n S) (changed K false f n S)
+abbrev pub reply : Params → Question → Reply
+reply P (position-of i f) = located (locatedOf (positionAnswer P i f) (position P i f))
+reply P (sketch-of es) = holds (sketchOf P es)
+reply P (test-of k c s) = finds (flow (primeOf P) c s) (wideTest P k c s) (pureTest P k c s)
+reply P (peeling S slots allowance) = ended P (walk (ruleOf P) slots allowance S)
+reply P (queue-after n S) = waits-on (pops n (record { held = S; queue = firstQueue 0 (S .counts); table = [] }) .queue)
+reply P (inserting S f n) = judged S (moveAnswer P false f n S) (changed P false f n S)
 
--- a line of the table
+-- a line of the table: what is asked, under which parameters, and what is answered; `gives` is under K, and `K5-gives` under K5
 pub record Line : Type 0 where
+  pub params : Params
   pub asked : Question
   pub answer : Reply
 
 infix 40 _gives_
 abbrev _gives_ : Question → Reply → Line
-q gives t = record { asked = q; answer = t }
+q gives t = record { params = K; asked = q; answer = t }
+
+infix 40 _K5-gives_
+abbrev _K5-gives_ : Question → Reply → Line
+q K5-gives t = record { params = K5; asked = q; answer = t }
 
 -- a sketch by its ten buckets, those of array 1 first; `o` is all zero
 pub record Bucket : Type 0 where
@@ -161,6 +176,29 @@ SC = buckets (b (pos 3) 60 ∷ o ∷ b (pos 2) 14 ∷ o ∷ b (negsuc 3) 2147483
 -- index 2 is pure with flow 7, whose other bucket the take would bring to -2147483647
 abbrev SR : Sketch
 SR = buckets (o ∷ o ∷ b (pos 2147483646) 2147483640 ∷ o ∷ o ∷ o ∷ o ∷ b (negsuc 0) 0 ∷ o ∷ o ∷ [])
+
+-- with fingerprints: flows 7 by 1 and 17 by 2; E3's two flows, and what is left of them in the plain profile; flow 8388606 by 1; and flows 1 and 61, each by 1
+abbrev pub SP : Sketch
+SP = buckets (o ∷ o ∷ b (pos 3) 10711 ∷ o ∷ o ∷ o ∷ b (pos 2) 8904 ∷ b (pos 1) 1807 ∷ o ∷ o ∷ [])
+
+abbrev pub SP3 : Sketch
+SP3 = buckets (b (pos 2) 3870 ∷ o ∷ o ∷ o ∷ o ∷ b (pos 2) 3870 ∷ o ∷ o ∷ o ∷ o ∷ [])
+
+abbrev SP3' : Sketch
+SP3' = buckets (o ∷ o ∷ o ∷ o ∷ o ∷ b (pos 2) 3870 ∷ b (negsuc 1) 2147479777 ∷ o ∷ o ∷ o ∷ [])
+
+abbrev SPM : Sketch
+SPM = buckets (b (pos 1) 2147483325 ∷ o ∷ o ∷ o ∷ o ∷ o ∷ b (pos 1) 2147483325 ∷ o ∷ o ∷ o ∷ [])
+
+abbrev pub SP61 : Sketch
+SP61 = buckets (o ∷ o ∷ o ∷ b (pos 2) 16106 ∷ o ∷ b (pos 2) 16106 ∷ o ∷ o ∷ o ∷ o ∷ [])
+
+-- E3's two flows by the weak fifth pair, and what is left of them
+abbrev SW : Sketch
+SW = buckets (o ∷ o ∷ o ∷ o ∷ b (pos 2) 3598 ∷ o ∷ o ∷ b (pos 2) 3598 ∷ o ∷ o ∷ [])
+
+abbrev SW' : Sketch
+SW' = buckets (o ∷ o ∷ o ∷ o ∷ o ∷ o ∷ o ∷ b (pos 2) 3598 ∷ b (negsuc 1) 2147480049 ∷ o ∷ [])
 
 abbrev pub examples : List Line
 examples =
@@ -241,11 +279,44 @@ examples =
     ∷ (test-of 0 (negsuc 2147483646) 7 gives finds 0 Impure Impure)
     ∷ (test-of 1 (pos 2147483646) 1 gives finds 2147483646 (Pure 2147483646) (Pure 2147483646))
     ∷ (test-of 1 (negsuc 2147483645) 1 gives finds 1 (Pure 1) (Pure 1))
+    -- fingerprints: a flow stands where its extended number does, and flows are 1 to 8388606
+    ∷ (position-of 1 2 K5-gives located (At 0))
+    ∷ (position-of 2 2 K5-gives located (At 0))
+    ∷ (position-of 1 17 K5-gives located (At 2))
+    ∷ (position-of 2 17 K5-gives located (At 1))
+    ∷ (position-of 1 8388606 K5-gives located (At 0))
+    ∷ (position-of 1 8388607 K5-gives located (Refused Flow 0))
+    ∷ (position-of 1 0 K5-gives located (Refused Flow 0))
+    ∷ (inserting S0 8388606 1 K5-gives says 0 0 SPM)
+    ∷ (inserting S0 8388607 1 K5-gives says 3 0 S0)
+    ∷ (peeling SPM 10 80 K5-gives ends 1 1 1 0 (by 8388606 (pos 1) ∷ []) S0)
+    -- as E1, E2 and E6
+    ∷ (sketch-of (by 7 (pos 1) ∷ by 17 (pos 2) ∷ []) K5-gives holds SP)
+    ∷ (test-of 2 (pos 3) 10711 K5-gives finds 1431659335 Impure Impure)
+    ∷ (test-of 7 (pos 1) 1807 K5-gives finds 1807 (Pure 1807) (Pure 1807))
+    ∷ (peeling SP 10 80 K5-gives ends 1 3 3 0 (by 17 (pos 2) ∷ by 7 (pos 1) ∷ []) S0)
+    ∷ (peeling (sketchOf K5 (by 7 (negsuc 3) ∷ [])) 10 80 K5-gives ends 1 1 0 4 (by 7 (negsuc 3) ∷ []) S0)
+    -- as E3: the two flows share both buckets. Their number, 7 * 256 + 143, stands there and passes in the plain profile; the fingerprint of flow 7 is 15
+    ∷ (sketch-of (by 2 (pos 1) ∷ by 12 (pos 1) ∷ []) K5-gives holds SP3)
+    ∷ (test-of 0 (pos 2) 3870 K5-gives finds 1935 (Pure 1935) Impure)
+    ∷ (peeling SP3 10 80 K5-gives ends 2 2 0 0 [] SP3)
+    ∷ (test-of 0 (pos 2) 3870 gives finds 1935 (Pure 1935) (Pure 1935))
+    ∷ (peeling SP3 10 10 gives ends 3 10 2 0 (by 1935 (pos 2) ∷ []) SP3')
+    -- extended numbers whose last eight bits are right, of 0 and of 8388607, which are no flows
+    ∷ (test-of 2 (pos 1) 7 K5-gives finds 7 (Pure 7) Impure)
+    ∷ (test-of 1 (pos 1) 2147483436 K5-gives finds 2147483436 (Pure 2147483436) Impure)
+    -- a clean table need not be the only one that fits: flows 1 and 61 pass as flow 31
+    ∷ (sketch-of (by 1 (pos 1) ∷ by 61 (pos 1) ∷ []) K5-gives holds SP61)
+    ∷ (sketch-of (by 31 (pos 2) ∷ []) K5-gives holds SP61)
+    ∷ (peeling SP61 10 80 K5-gives ends 1 1 2 0 (by 31 (pos 2) ∷ []) S0)
+    -- by a fifth pair that is too small E3's flows pass as flow 7 again
+    ∷ record { params = weak; asked = sketch-of (by 2 (pos 1) ∷ by 12 (pos 1) ∷ []); answer = holds SW }
+    ∷ record { params = weak; asked = peeling SW 10 10; answer = ends 3 10 2 0 (by 7 (pos 2) ∷ []) SW' }
     ∷ []
 
 -- every line of the table is right, and the walk of E3 goes on without end: it is spent whatever it is allowed
-pub all-right : (map (λ l. reply (l .asked)) examples ≡ map (λ l. l .answer) examples) × ((n : ℕ) → endingNumber (walk (ruleOf K) 10 n S3 .ending) ≡ 3)
-unfolding residue inverseIn inverse flow below least mapFrom touched from refuseAt first kept pairAt twins goodDimensions goodParams lengthsAnswer dimensionsAnswer stand positionAnswer standsIn inLimits isNumber countAt weightAt sketchOf damagedIn leavesIn flowBucketsAnswer changedIn packetAnswer entryAnswer stepAnswer changed moveAnswer all any nothingRemains less has entryOf credited waits requeue inRange hasRoom taken takes follows popped before after run firstQueue walk close summed testIn pops
+pub all-right : (map (λ l. reply (l .params) (l .asked)) examples ≡ map (λ l. l .answer) examples) × ((n : ℕ) → endingNumber (walk (ruleOf K) 10 n S3 .ending) ≡ 3)
+unfolding residue inverseIn inverse flow below least mapFrom touched from refuseAt first kept pairAt twins goodDimensions goodParams lengthsAnswer dimensionsAnswer sketched told isSketched stand positionAnswer standsIn inLimits isNumber countAt weightAt sketchOf damagedIn leavesIn flowBucketsAnswer changedIn packetAnswer entryAnswer stepAnswer changed moveAnswer all any nothingRemains less has entryOf credited waits requeue inRange hasRoom taken takes follows popped before after run firstQueue walk close summed testIn pops
 all-right = (refl, without-end)
   where
     -- flow 7 goes in and comes out

@@ -1,13 +1,14 @@
 -- The figures of a table: their difference is the sum of all counts, no count is larger than the figure that it adds to, and both together are small.
 use mathlib.Core.Path.{_≡_, refl, sym, ap, ap₂, _∙_}
 use mathlib.Core.Bool.{true}
-use mathlib.Core.List.{List, [], _∷_, _++_}
+use mathlib.Core.List.{List, [], _∷_, _++_, map}
 use Prim.Native.Nat.{ℕ, zero, suc, _+_, _*_, _<_, _≤_}
 use native.Mathlib.Omega.{arith}
 use lib.IntN.{ℤ, pos, negℤ, _+ℤ_, _-ℤ_}
 use lib.ListN.{length, getD}
 use Rattle.field.specs.Parts.{up, down}
 use Rattle.field.proofs.Parts.{int, up-down-add, up-neg, down-neg, abs-parts}
+use Rattle.params.specs.declared.params.Params.{Params}
 use Rattle.params.proofs.Searches.{and-true}
 use Rattle.buckets.specs.Buckets.{inLimits}
 use Rattle.buckets.proofs.Limits.{limits-size}
@@ -15,11 +16,23 @@ use Rattle.sketch.specs.Sketch.{Entry}
 use Rattle.sums.specs.History.{negated}
 use Rattle.sums.proofs.Weighted.{weighted, times-one, weighted-append, weighted-negated}
 use Rattle.walk.specs.Walk.{all, summed, lostBy, extraBy}
+use Rattle.walk.specs.Shown.{tell}
 
 -- the sum of all counts
 unfoldable pub allCounts : List Entry → ℤ
 allCounts [] = pos 0
 allCounts (e ∷ es) = e .number +ℤ allCounts es
+
+-- it does not depend on the flows that are told, and nor do the figures
+pub told-counts : (P : Params) (t : List Entry) → allCounts (map (tell P) t) ≡ allCounts t
+unfolding allCounts
+told-counts P [] = refl
+told-counts P (e ∷ es) = ap (_+ℤ_ (e .number)) (told-counts P es)
+
+pub told-summed : (P : Params) (part : ℤ → ℕ) (t : List Entry) → summed part (map (tell P) t) ≡ summed part t
+unfolding summed
+told-summed P part [] = refl
+told-summed P part (e ∷ es) = ap (_+_ (part (e .number))) (told-summed P part es)
 
 -- it is the weighted sum in which every flow weighs 1
 all-weighted : (es : List Entry) → allCounts es ≡ weighted (λ f. pos 1) es

@@ -18,6 +18,7 @@ pub mod Retested
 pub mod TableFacts
 pub mod Narrowed
 pub mod Purity
+pub mod InPlain
 pub mod Untaken
 pub mod Promises
 pub mod Examples

@@ -1,4 +1,4 @@
--- Each ending has its own number, and what the test found has its own number and flow.
+-- Each ending has its own number, and what the test found goes by its two numbers.
 use mathlib.Core.Path.{_≡_, refl, sym, ap, _∙_}
 use mathlib.Core.List.{[], _∷_}
 use Prim.Native.Nat.{ℕ}
@@ -9,7 +9,7 @@ use Rattle.walk.specs.declared.Ending.the-variants.{Clean, Stuck, Spent,
 use Rattle.walk.specs.declared.Found.{Found}
 use Rattle.walk.specs.declared.Found.the-variants.{Impure, Pure}
 use Rattle.walk.specs.Endings.{endingNumber}
-use Rattle.walk.specs.Purity.{foundNumber, foundFlow}
+use Rattle.walk.specs.Purity.{foundNumber, foundSketched}
 
 -- the ending with that number; any one for 0, for 4 and for those above 6
 abbrev numbered : ℕ → Ending
@@ -33,12 +33,12 @@ never-four Spent h = omega arith
 never-four Range h = omega arith
 never-four Full h = omega arith
 
-pub found-by-number : (x y : Found) → foundNumber x ≡ foundNumber y → foundFlow x ≡ foundFlow y → x ≡ y
+pub found-by-number : (x y : Found) → foundNumber x ≡ foundNumber y → foundSketched x ≡ foundSketched y → x ≡ y
 found-by-number Impure Impure e h = refl
 found-by-number Impure (Pure f) e h = absurd (omega arith)
 found-by-number (Pure f) Impure e h = absurd (omega arith)
 found-by-number (Pure f) (Pure g) e h = ap (λ (n : ℕ). Pure n) h
 
--- with the number 1 it is the flow
-pub pure-by-number : (x : Found) → foundNumber x ≡ 1 → x ≡ Pure (foundFlow x)
-pure-by-number x e = found-by-number x (Pure (foundFlow x)) e refl
+-- with the number 1 it is pure
+pub pure-by-number : (x : Found) → foundNumber x ≡ 1 → x ≡ Pure (foundSketched x)
+pure-by-number x e = found-by-number x (Pure (foundSketched x)) e refl

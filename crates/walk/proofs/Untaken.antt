@@ -2,29 +2,33 @@
 use mathlib.Core.Path.{_≡_, refl, sym, ap, _∙_}
 use mathlib.Core.Bool.{Bool, true, false, cond}
 use mathlib.Core.List.{List, [], _∷_}
-use Prim.Native.Nat.{ℕ, zero, suc, _+_, _≤_, _<_}
+use Prim.Native.Nat.{ℕ, zero, suc, _+_, _*_, _≤_, _<_}
 use native.Mathlib.Decide.{decLt}
-use native.Mathlib.Nat.{zero-add, zero-mul}
+use native.Mathlib.Nat.{zero-add}
 use native.Mathlib.Omega.{arith}
-use lib.IntN.{ℤ, pos, _+ℤ_, _*ℤ_, +ℤ-idr, *ℤ-zero}
+use lib.IntN.{ℤ, pos, _+ℤ_, _*ℤ_, +ℤ-idr}
 use lib.ListN.{length, List·getD-eq-default}
-use Rattle.field.specs.Residue.{residue}
-use Rattle.field.specs.Flow.{flow}
-use Rattle.field.proofs.Residues.{residue-zero}
+use Rattle.field.specs.Residue.{residue, isMultiple}
+use Rattle.field.proofs.Primes.{prime-31}
+use Rattle.field.proofs.Residues.{residue-below}
+use Rattle.field.proofs.OneFlow.{the-flow}
 use Rattle.params.specs.declared.params.Params.{Params}
 use Rattle.params.specs.Lists.{from}
 use Rattle.params.specs.Params.{primeOf, size, Dimensions}
+use Rattle.params.specs.Sketched.{sketched, told}
 use Rattle.params.specs.Positions.{index, stands}
 use Rattle.params.proofs.Searches.{cannot-hold}
-use Rattle.params.proofs.Indexes.{index-below, stands-at-index}
+use Rattle.params.proofs.Extended.{told-sketched, zero-below}
+use Rattle.params.proofs.Indexes.{bucket-below, stands-in-bucket}
 use Rattle.sketch.specs.Sketch.{Sketch, by, countIn, idsumIn, countAt, weightAt, sketchOf}
 use Rattle.sketch.proofs.Tables.{length-from, from-at}
 use Rattle.walk.specs.declared.Ending.the-variants.{Stuck}
 use Rattle.walk.specs.declared.Found.the-variants.{Impure}
 use Rattle.walk.specs.Walk.{Rule, State, out, nothingRemains, follows, popped, before, after, run, firstQueue, walk}
-use Rattle.walk.specs.Purity.{pureTest, ruleOf}
+use Rattle.walk.specs.Purity.{testIn, pureTest, ruleOf}
 use Rattle.walk.proofs.Alls.{nothing-count}
-use Rattle.walk.proofs.Purity.{zero-not-pure}
+use Rattle.buckets.proofs.Idsums.{prime-pos}
+use Rattle.walk.proofs.Purity.{some-residue, sound, zero-not-pure}
 
 -- something remains of S, and no bucket of it passes the test
 module _ (R : Rule) (slots : ℕ) (S : Sketch) (some : nothingRemains S ≡ false) (none : (k : ℕ) → R .test k (countIn S k) (idsumIn S k) ≡ Impure) where
@@ -42,42 +46,51 @@ module _ (R : Rule) (slots : ℕ) (S : Sketch) (some : nothingRemains S ≡ fals
   unfolding walk
   untaken allowance l = run-stuck (firstQueue 0 (S .counts)) allowance 0 l ∙ ap (λ n. out Stuck n (at [])) (zero-add _)
 
--- a bucket with an idsum of 0 is not pure
-idsum-zero : (P : Params) (k : ℕ) (c : ℤ) → pureTest P k c 0 ≡ Impure
-unfolding flow
-idsum-zero P k c = zero-not-pure P k c 0 (ap (λ n. residue (primeOf P) (pos n)) (zero-mul _) ∙ residue-zero (primeOf P))
+-- a bucket of n packets of flow 0 is not pure: what is sketched for it tells flow 0 again
+module _ (P : Params) where
+  zero-impure : (k : ℕ) (n : ℤ) → pureTest P k n (residue (primeOf P) (n *ℤ pos (sketched P 0))) ≡ Impure
+  unfolding testIn
+  zero-impure k n = go (isMultiple (primeOf P) n) refl
+    where
+      s : ℕ
+      s = residue (primeOf P) (n *ℤ pos (sketched P 0))
+
+      go : (b : Bool) → isMultiple (primeOf P) n ≡ b → pureTest P k n s ≡ Impure
+      go true e = rw e
+      go false e =
+          let only = the-flow (primeOf P) prime-31 n (some-residue (primeOf P) n e) s (residue-below (primeOf P) prime-pos _) .only in
+          zero-not-pure P k n s (ap (told P) (sym (only (sketched P 0) (zero-below P) refl)) ∙ told-sketched P 0)
 
 -- the sketch of n packets of flow 0
 module _ (P : Params) (n : ℤ) where
   abbrev ofFlowZero : Sketch
   ofFlowZero = sketchOf P (by 0 n ∷ [])
 
-  -- they bring nothing to an idsum
-  no-weight : (k : ℕ) → weightAt P (by 0 n ∷ []) k ≡ pos 0
-  unfolding weightAt
-  no-weight k = go (stands P 0 k)
+  none-pure : (k : ℕ) → pureTest P k (countIn ofFlowZero k) (idsumIn ofFlowZero k) ≡ Impure
+  unfolding sketchOf countAt weightAt
+  none-pure k = go (decLt k (size P))
     where
-      go : (b : Bool) → cond b (n *ℤ pos 0) (pos 0) +ℤ pos 0 ≡ pos 0
-      go true = +ℤ-idr (n *ℤ pos 0) ∙ *ℤ-zero n
-      go false = refl
+      counts : ℕ → ℤ
+      counts j = cond (stands P 0 j) n (pos 0) +ℤ pos 0
 
-  no-idsum : (k : ℕ) → idsumIn ofFlowZero k ≡ 0
-  unfolding sketchOf
-  no-idsum k = go (decLt k (size P))
-    where
-      idsum : ℕ → ℕ
-      idsum k = residue (primeOf P) (weightAt P (by 0 n ∷ []) k)
+      idsums : ℕ → ℕ
+      idsums j = residue (primeOf P) (cond (stands P 0 j) (n *ℤ pos (sketched P 0)) (pos 0) +ℤ pos 0)
 
-      go : Dec (k < size P) → idsumIn ofFlowZero k ≡ 0
-      go (yes l) = from-at (size P) idsum k 0 l ∙ ap (residue (primeOf P)) (no-weight k) ∙ residue-zero (primeOf P)
-      go (no l) = List·getD-eq-default (from 0 (size P) idsum) 0 {n = k} (omega (arith, length-from 0 (size P) idsum))
+      -- where it stands, and elsewhere
+      at : (b : Bool) → pureTest P k (cond b n (pos 0) +ℤ pos 0) (residue (primeOf P) (cond b (n *ℤ pos (sketched P 0)) (pos 0) +ℤ pos 0)) ≡ Impure
+      at true = rw (+ℤ-idr n, +ℤ-idr (n *ℤ pos (sketched P 0))) (zero-impure P k n)
+      at false = sound P .empty k _
+
+      go : Dec (k < size P) → pureTest P k (countIn ofFlowZero k) (idsumIn ofFlowZero k) ≡ Impure
+      go (yes l) = rw (from-at (size P) counts k (pos 0) l, from-at (size P) idsums k 0 l) (at (stands P 0 k))
+      go (no l) = rw (List·getD-eq-default (from 0 (size P) counts) (pos 0) {n = k} (omega (arith, length-from 0 (size P) counts))) (sound P .empty k _)
 
   -- they stand in the bucket of array 1
   first-count : Dimensions P → countIn ofFlowZero (index P 1 0) ≡ n
   unfolding sketchOf countAt
   first-count h =
-      from-at (size P) (countAt P (by 0 n ∷ [])) (index P 1 0) (pos 0) (index-below P 1 0 h (omega arith) (omega arith))
-      ∙ rw (stands-at-index P 0 1 h (omega arith) (omega arith)) (+ℤ-idr n)
+      from-at (size P) (countAt P (by 0 n ∷ [])) (index P 1 0) (pos 0) (bucket-below P 1 (sketched P 0) h (omega arith) (omega arith))
+      ∙ rw (stands-in-bucket P (sketched P 0) 1 h (omega arith) (omega arith)) (+ℤ-idr n)
 
   remains : Dimensions P → (n ≡ pos 0 → ⊥) → nothingRemains ofFlowZero ≡ false
   remains h nonzero = cannot-hold (nothingRemains ofFlowZero) (λ e. nonzero (sym (first-count h) ∙ nothing-count ofFlowZero e (index P 1 0)))
@@ -85,5 +98,4 @@ module _ (P : Params) (n : ℤ) where
   -- so its walk is stuck, with an empty table, and all of it remains
   pub flow-zero-untaken : Dimensions P → (n ≡ pos 0 → ⊥) → (slots allowance : ℕ) → length (firstQueue 0 (ofFlowZero .counts)) ≤ allowance
       → walk (ruleOf P) slots allowance ofFlowZero ≡ out Stuck (length (firstQueue 0 (ofFlowZero .counts))) (record { held = ofFlowZero; queue = []; table = [] })
-  flow-zero-untaken h nonzero slots allowance l =
-      untaken (ruleOf P) slots ofFlowZero (remains h nonzero) (λ k. rw (no-idsum k) (idsum-zero P k (countIn ofFlowZero k))) allowance l
+  flow-zero-untaken h nonzero slots allowance l = untaken (ruleOf P) slots ofFlowZero (remains h nonzero) none-pure allowance l

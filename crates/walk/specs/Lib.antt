@@ -3,3 +3,4 @@ pub mod Ascii
 pub mod Endings
 pub mod Walk
 pub mod Purity
+pub mod Shown

@@ -1,4 +1,5 @@
 -- The walk, over any prime for idsums, any placing of flows and any test of a popped bucket; the limits of counts are those of a sketch.
+-- It runs over what is sketched: a flow here is what is sketched for it, in the table too. Shown.antt tells the flows.
 use mathlib.Core.Bool.{Bool, true, false, cond, _&&_, _||_}
 use mathlib.Core.List.{List, [], _∷_, _++_}
 use Prim.Native.Nat.{ℕ, zero, suc, _+_}

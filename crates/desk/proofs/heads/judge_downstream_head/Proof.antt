@@ -5,7 +5,8 @@ use denote.Ref.{now}
 use Rattle.params.specs.declared.answers.Answer.the-variants.{Done}
 use Rattle.params.specs.Params.{goodParams, sameParams}
 use Rattle.params.proofs.Searches.{test-held, test-failed}
-use Rattle.files.specs.Heads.{paramsIn, headAnswer}
+use Rattle.files.specs.Heads.{paramsIn, goodHead, headAnswer}
+use Rattle.files.proofs.HeadTrips.{head-accepted}
 use Rattle.desk.specs.Desk.{fewEnough}
 use Rattle.desk.proofs.HeadAnswers.{head-good, head-says, second-refused, second-too-large, second-other, second-accepted}
 use borrow.Author.Needs.{needs}
@@ -24,15 +25,15 @@ enum-told-2 c = search needs
 returns : tie.Need-returns
 returns c = second-refused _ _ (c .before .before .before .before .pre) (rw (ap (λ h. h .answer) (c .before .before .head .ensures)) at (c .before .match .keys2))
 
--- the head says its parameters, which keep the rules
+-- the head says its parameters, and is good
 said : (c : tie.After-enum-told) → (headAnswer (now (c .before .before .before .before .args .bytes)) ≡ Done) × (c .before .before .head .result .params ≡ paramsIn (now (c .before .before .before .before .args .bytes)))
 said c = head-says _ _ (c .before .before .head .ensures) (c .enum-told .given .1)
 
-good : (c : tie.After-enum-told) → goodParams (paramsIn (now (c .before .before .before .before .args .bytes))) ≡ true
-good c = head-good _ (said c .0)
+good : (c : tie.After-enum-told) → goodHead (now (c .before .before .before .before .args .bytes)) ≡ true
+good c = head-accepted _ (said c .0) .1
 
 few-enough-requires : tie.Need-few-enough-requires
-few-enough-requires c κs = ap goodParams (said (c .before) .1) ∙ good (c .before)
+few-enough-requires c κs = ap goodParams (said (c .before) .1) ∙ head-good _ (said (c .before) .0)
 
 returns-2 : tie.Need-returns-2
 returns-2 c = second-too-large _ _ (good (c .before .before .before)) (ap fewEnough (sym (said (c .before .before .before) .1)) ∙ test-failed (c .before .few-enough .ensures) (c .if1 .taken))

@@ -1,11 +1,10 @@
 -- `desk::stages::head_stage` meets its contract.
 use mathlib.Core.Path.{refl, sym, _∙_}
 use Rattle.desk.specs.Desk.{headStage}
-use Rattle.desk.proofs.WhatIsDue.{not-head, here-whole, head-decides}
+use Rattle.desk.proofs.WhatIsDue.{not-head, head-whole, head-decides}
 use borrow.Author.Needs.{needs}
 use Rattle.desk.proofs.stages.head_stage.Statement.{statement}
 use Rattle.desk.proofs.stages.head_stage.Tie as tie
-use Rattle.files.specs.Records.{headKind}
 
 enum-told : tie.Need-enum-told
 enum-told c = search needs
@@ -14,8 +13,8 @@ returns : tie.Need-returns
 unfolding headStage
 returns c = rw (not-head (c .before .before .args .s .stage) (c .match .keys2))
 
-due-of-requires : tie.Need-due-of-requires
-due-of-requires c κs = search needs
+due-head-requires : tie.Need-due-head-requires
+due-head-requires c κs = search needs
 
 enum-told-2 : tie.Need-enum-told-2
 enum-told-2 c = search needs
@@ -30,16 +29,16 @@ enum-told-4 : tie.Need-enum-told-4
 enum-told-4 c = search needs
 
 take-head-requires : tie.Need-take-head-requires
-take-head-requires c κs = (here-whole headKind _ (sym (c .before .before .due-of .ensures) ∙ c .enum-told4 .given .1), c .before .before .before .before .before .before .pre)
+take-head-requires c κs = (head-whole _ (sym (c .before .before .due-head .ensures) ∙ c .enum-told4 .given .1), c .before .before .before .before .before .before .pre)
 
 returns-2 : tie.Need-returns-2
-returns-2 c = head-decides _ _ _ _ _ (c .before .before .before .enum-told .given .1) (sym (c .enum-told2 .given .1) ∙ c .before .before .due-of .ensures) refl
+returns-2 c = head-decides _ _ _ _ _ (c .before .before .before .enum-told .given .1) (sym (c .enum-told2 .given .1) ∙ c .before .before .due-head .ensures) refl
 
 returns-3 : tie.Need-returns-3
-returns-3 c = head-decides _ _ _ _ _ (c .before .before .before .before .enum-told .given .1) (sym (c .before .enum-told3 .given .1) ∙ c .before .before .before .due-of .ensures) (c .stop .ensures)
+returns-3 c = head-decides _ _ _ _ _ (c .before .before .before .before .enum-told .given .1) (sym (c .before .enum-told3 .given .1) ∙ c .before .before .before .due-head .ensures) (c .stop .ensures)
 
 returns-4 : tie.Need-returns-4
-returns-4 c = head-decides _ _ _ _ _ (c .before .before .before .before .enum-told .given .1) (sym (c .before .enum-told4 .given .1) ∙ c .before .before .before .due-of .ensures) (c .take-head .ensures)
+returns-4 c = head-decides _ _ _ _ _ (c .before .before .before .before .enum-told .given .1) (sym (c .before .enum-told4 .given .1) ∙ c .before .before .before .due-head .ensures) (c .take-head .ensures)
 
 pub head-stage-spec : {M : Type 1} → statement M
 head-stage-spec =
@@ -47,7 +46,7 @@ head-stage-spec =
     (tie.spec
     enum-told
     returns
-    due-of-requires
+    due-head-requires
     enum-told-2
     enum-told-3
     stop-requires

@@ -1,18 +1,17 @@
--- `files::writing::put_head` meets its contract: two bytes, then nine words.
-use mathlib.Core.Path.{_≡_, refl, sym, _∙_}
+-- `files::writing::put_head` meets its contract: four pairs, and in an extended head the fifth.
+use mathlib.Core.Path.{_≡_, sym, ap, _∙_}
 use mathlib.Core.Bool.{true}
-use mathlib.Core.List.{[], _∷_}
+use Prim.Native.Nat.{ℕ, _≤_}
 use native.Mathlib.Omega.{arith}
 use denote.Ref.{now}
-use lib.ListN.{length-set}
-use lib.Seq.{length-sets}
+use lib.ListN.{length}
 use Rattle.params.specs.Params.{goodParams}
 use Rattle.params.proofs.Searches.{test-held, test-failed}
-use Rattle.params.proofs.Rules.{good-dimensions}
-use Rattle.files.specs.Bytes.{wordBytes}
-use Rattle.files.specs.Layout.{headBytes}
-use Rattle.files.specs.Records.{headKind}
-use Rattle.files.proofs.Overwriting.{overwritten-stores, overwritten-next, written-whole, written-not}
+use Rattle.files.specs.Bytes.{overwritten}
+use Rattle.files.specs.Heads.{headKindOf}
+use Rattle.files.specs.Layout.{arraysBytes, headBytes}
+use Rattle.files.proofs.Profiles.{length-arraysBytes, length-headBytes, length-least, extended-length, extended-bytes, plain-bytes}
+use Rattle.files.proofs.Overwriting.{overwritten-next, written-whole, written-not}
 use borrow.Author.Needs.{needs}
 use Rattle.files.proofs.writing.put_head.Statement.{statement}
 use Rattle.files.proofs.writing.put_head.Tie as tie
@@ -20,80 +19,61 @@ use Rattle.files.proofs.writing.put_head.Tie as tie
 good : (c : tie.Else1) → goodParams (c .before .before .before .args .p) ≡ true
 good c = test-held (c .before .check .ensures) (c .if1 .left)
 
+-- there is room for the head
+room : (c : tie.Else2) → length (headBytes (c .before .before .before .before .before .args .p)) ≤ length (now (c .before .before .before .before .before .args .out))
+room c = omega (arith, length-headBytes (c .before .before .before .before .before .args .p), c .before .head-length .ensures, c .if2 .left)
+
 check-requires : tie.Need-check-requires
 check-requires c κs = search needs
 
 returns : tie.Need-returns
 returns c = rw (test-failed (c .before .check .ensures) (c .if1 .taken))
 
+head-length-requires : tie.Need-head-length-requires
+head-length-requires c κs = search needs
+
 returns-2 : tie.Need-returns-2
-unfolding headBytes wordBytes
-returns-2 c = let s = c .before .before .before .before .args in rw (good (c .before)) (sym (written-not (now (s .out)) (headBytes (s .p)) 0 (omega arith)))
+returns-2 c =
+    let s = c .before .before .before .before .before .args in
+    rw (good (c .before .before)) (sym (written-not (now (s .out)) (headBytes (s .p)) 0 (omega (arith, length-headBytes (s .p), c .before .head-length .ensures, c .if2 .taken))))
 
-slice-write-out : tie.Need-slice-write-out
-slice-write-out c = search needs
+head-kind-requires : tie.Need-head-kind-requires
+head-kind-requires c κs = search needs
 
-cast-out : tie.Need-cast-out
-cast-out c = omega (arith, good-dimensions _ (good (c .before .before .before .before)))
+put-arrays-requires : tie.Need-put-arrays-requires
+put-arrays-requires c κs = (good (c .before .before .before .before), omega (arith, room (c .before .before), length-headBytes (c .before .before .before .before .before .before .before .args .p), length-least (c .before .before .before .before .before .before .before .args .p)))
 
-slice-write-out-2 : tie.Need-slice-write-out-2
-slice-write-out-2 c = omega (arith, length-set (now (c .before .before .before .before .before .before .before .args .out)) 0 headKind)
+fingerprinted-requires : tie.Need-fingerprinted-requires
+fingerprinted-requires c κs = search needs
 
-cast-put-word : tie.Need-cast-put-word
-cast-put-word c = omega (arith, good-dimensions _ (good (c .before .before .before .before .before .before)))
-
-put-word-requires : tie.Need-put-word-requires
-put-word-requires c κs = let s = c .before .before .before .before .before .before .before .before .before .args in omega (arith, length-sets (now (s .out)) 0 (headKind ∷ s .p .d ∷ []))
-
-array-read-put-pair : tie.Need-array-read-put-pair
-array-read-put-pair c = search needs
-
-array-read-put-pair-2 : tie.Need-array-read-put-pair-2
-array-read-put-pair-2 c = search needs
+-- four pairs are written
+arrays : (c : tie.After-put-arrays) → c .put-arrays .last .0 ≡ overwritten (now (c .before .before .before .before .before .before .before .before .args .out)) 0 (arraysBytes (headKindOf (c .before .before .before .before .before .before .before .before .args .p)) (c .before .before .before .before .before .before .before .before .args .p))
+arrays c = c .put-arrays .ensures ∙ ap (λ (k : ℕ). overwritten (now (c .before .before .before .before .before .before .before .before .args .out)) 0 (arraysBytes k (c .before .before .before .before .before .before .before .before .args .p))) (c .before .head-kind .ensures)
 
 put-pair-requires : tie.Need-put-pair-requires
-put-pair-requires c κs = let s = c .before .before .before .before .before .before .before .before .before .before .before .before .before .args in omega (arith, length-sets (now (s .out)) 0 (headKind ∷ s .p .d ∷ []))
-
-array-read-put-pair-3 : tie.Need-array-read-put-pair-3
-array-read-put-pair-3 c = search needs
-
-array-read-put-pair-4 : tie.Need-array-read-put-pair-4
-array-read-put-pair-4 c = search needs
-
-put-pair-requires-2 : tie.Need-put-pair-requires-2
-put-pair-requires-2 c κs = let s = c .before .before .before .before .before .before .before .before .before .before .before .before .before .before .before .before .before .args in omega (arith, length-sets (now (s .out)) 0 (headKind ∷ s .p .d ∷ []))
-
-array-read-put-pair-5 : tie.Need-array-read-put-pair-5
-array-read-put-pair-5 c = search needs
-
-array-read-put-pair-6 : tie.Need-array-read-put-pair-6
-array-read-put-pair-6 c = search needs
-
-put-pair-requires-3 : tie.Need-put-pair-requires-3
-put-pair-requires-3 c κs = let s = c .before .before .before .before .before .before .before .before .before .before .before .before .before .before .before .before .before .before .before .before .before .args in omega (arith, length-sets (now (s .out)) 0 (headKind ∷ s .p .d ∷ []))
-
-array-read-put-pair-7 : tie.Need-array-read-put-pair-7
-array-read-put-pair-7 c = search needs
-
-array-read-put-pair-8 : tie.Need-array-read-put-pair-8
-array-read-put-pair-8 c = search needs
-
-put-pair-requires-4 : tie.Need-put-pair-requires-4
-put-pair-requires-4 c κs = let s = c .before .before .before .before .before .before .before .before .before .before .before .before .before .before .before .before .before .before .before .before .before .before .before .before .before .args in omega (arith, length-sets (now (s .out)) 0 (headKind ∷ s .p .d ∷ []))
+put-pair-requires c κs =
+    let p = c .before .before .before .before .before .before .before .before .before .before .before .before .before .args .p in
+    let printed = sym (c .before .before .fingerprinted .ensures) ∙ c .before .if3 .taken in
+    omega (arith, room (c .before .before .before .before .before .before .before .before), length-headBytes p, extended-length p printed)
 
 same-length : tie.Need-same-length
-same-length c = let s = c .before .before .before .before .before .before .before .before .before .before .before .before .before .before .before .before .before .before .before .before .before .before .before .before .before .before .before .before .args in omega (arith, length-sets (now (s .out)) 0 (headKind ∷ s .p .d ∷ []))
+same-length c = search needs
 
 returns-3 : tie.Need-returns-3
-unfolding headBytes wordBytes
 returns-3 c =
-    let s = c .before .before .before .before .before .before .before .before .before .before .before .before .before .before .before .before .before .before .before .before .before .before .before .before .before .before .before .before .args in
-    let start = overwritten-next _ _ _ _ _ (overwritten-stores (now (s .out)) (headKind ∷ s .p .d ∷ []) 0 (omega arith)) (c .before .before .before .before .before .before .before .before .before .before .before .before .before .before .before .before .before .before .put-word .ensures) (omega arith) refl in
-    let one = overwritten-next _ _ _ _ _ start (c .before .before .before .before .before .before .before .before .before .before .before .before .before .before .put-pair .ensures) (omega arith) refl in
-    let two = overwritten-next _ _ _ _ _ one (c .before .before .before .before .before .before .before .before .before .before .put-pair2 .ensures) (omega arith) refl in
-    let three = overwritten-next _ _ _ _ _ two (c .before .before .before .before .before .before .put-pair3 .ensures) (omega arith) refl in
-    let four = overwritten-next _ _ _ _ _ three (c .before .before .put-pair4 .ensures) (omega arith) refl in
-    rw (good (c .before .before .before .before .before .before .before .before .before .before .before .before .before .before .before .before .before .before .before .before .before .before .before .before .before)) (four ∙ sym (written-whole _ _ _ (omega arith)))
+    let s = c .before .before .before .before .before .before .before .before .before .before .before .before .before .before .before .before .args in
+    let printed = sym (c .before .before .before .before .before .fingerprinted .ensures) ∙ c .before .before .before .before .if3 .taken in
+    let filled = overwritten-next (now (s .out)) _ _ 0 _ (arrays (c .before .before .before .before .before .before .before .before)) (c .before .before .put-pair .ensures) (omega arith) (omega (arith, length-arraysBytes (s .p) (headKindOf (s .p)))) in
+    rw (good (c .before .before .before .before .before .before .before .before .before .before .before .before .before)) (filled ∙ ap (overwritten (now (s .out)) 0) (sym (extended-bytes (s .p) printed)) ∙ sym (written-whole (now (s .out)) (headBytes (s .p)) 0 (omega (arith, room (c .before .before .before .before .before .before .before .before .before .before .before)))))
+
+same-length-2 : tie.Need-same-length-2
+same-length-2 c = search needs
+
+returns-4 : tie.Need-returns-4
+returns-4 c =
+    let s = c .before .before .before .before .before .before .before .before .before .before .before .before .args in
+    let plain = sym (c .before .fingerprinted .ensures) ∙ c .if3 .left in
+    rw (good (c .before .before .before .before .before .before .before .before .before)) (arrays (c .before .before .before .before) ∙ ap (overwritten (now (s .out)) 0) (sym (plain-bytes (s .p) plain)) ∙ sym (written-whole (now (s .out)) (headBytes (s .p)) 0 (omega (arith, room (c .before .before .before .before .before .before .before)))))
 
 pub put-head-spec : {M : Type 1} → statement M
 put-head-spec =
@@ -101,23 +81,13 @@ put-head-spec =
     (tie.spec
     check-requires
     returns
+    head-length-requires
     returns-2
-    slice-write-out
-    cast-out
-    slice-write-out-2
-    cast-put-word
-    put-word-requires
-    array-read-put-pair
-    array-read-put-pair-2
+    head-kind-requires
+    put-arrays-requires
+    fingerprinted-requires
     put-pair-requires
-    array-read-put-pair-3
-    array-read-put-pair-4
-    put-pair-requires-2
-    array-read-put-pair-5
-    array-read-put-pair-6
-    put-pair-requires-3
-    array-read-put-pair-7
-    array-read-put-pair-8
-    put-pair-requires-4
     same-length
-    returns-3)
+    returns-3
+    same-length-2
+    returns-4)

@@ -6,8 +6,8 @@ use borrow.Author.Needs.{needs}
 use Rattle.params.proofs.params.position_by.Statement.{statement}
 use Rattle.params.proofs.params.position_by.Tie as tie
 
-product-fits : (c : tie.Start) → c .args .a * c .args .f ≤ 4294967295 * 4294967295
-product-fits c = mul-le-mul {n₁ = c .args .a} {m₁ = c .args .f} {n₂ = 4294967295} {m₂ = 4294967295} (omega arith) (omega arith)
+product-fits : (c : tie.Start) → c .args .a * c .args .x ≤ 4294967295 * 4294967295
+product-fits c = mul-le-mul {n₁ = c .args .a} {m₁ = c .args .x} {n₂ = 4294967295} {m₂ = 4294967295} (omega arith) (omega arith)
 
 mul-result : tie.Need-mul-result
 mul-result c = omega (arith, product-fits c)

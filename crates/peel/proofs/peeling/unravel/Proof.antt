@@ -1,8 +1,13 @@
--- `peel::peeling::unravel` meets its contract: the walk, the close, and the queue and the marks cleared.
+-- `peel::peeling::unravel` meets its contract: the walk, the close, the flows told, and the queue and the marks cleared.
 use mathlib.Core.Path.{ap, _∙_}
+use mathlib.Core.List.{map}
+use Prim.Native.Nat.{_≤_}
 use native.Mathlib.Omega.{arith}
 use borrow.Author.Needs.{needs}
+use lib.ListN.{length}
 use Rattle.walk.specs.Walk.{Outcome, close, lostOf, extraOf}
+use Rattle.walk.specs.Shown.{tell}
+use Rattle.peel.proofs.Telling.{told-long, told-table, told-past}
 use Rattle.peel.proofs.peeling.unravel.Statement.{statement}
 use Rattle.peel.proofs.peeling.unravel.Tie as tie
 
@@ -11,6 +16,12 @@ walk-whole-requires c κs = search needs
 
 close-requires : tie.Need-close-requires
 close-requires c κs = search needs
+
+tell-requires : tie.Need-tell-requires
+tell-requires c κs =
+    let l = c .before .before .before .before .close .ensures in
+    let w = c .before .before .before .before .before .before .before .before .before .before .before .before .before .before .before .before .before .walk-whole in
+    omega (arith, l .within, l .long, w .ensures .room, w .kept .1 .1 .1 .0)
 
 clear-requires : tie.Need-clear-requires
 clear-requires c κs = search needs
@@ -38,20 +49,22 @@ same-length-6 c = search needs
 
 returns : tie.Need-returns
 returns c =
-    let w = c .before .before .before .before .before .before .before .before .before .before .before .before .before .before .before .before .before .before .before .before .before .before .before .before .walk-whole in
-    let l = c .before .before .before .before .before .before .before .before .before .before .before .close in
+    let w = c .before .before .before .before .before .before .before .before .before .before .before .before .before .before .before .before .before .before .before .before .before .before .before .before .before .before .before .before .walk-whole in
+    let l = c .before .before .before .before .before .before .before .before .before .before .before .before .before .before .before .close .ensures in
+    let told = c .before .before .before .before .before .before .before .before .before .before .tell .ensures in
     let e = w .ensures .outcome in
-    let t = l .ensures .table ∙ ap (λ (o : Outcome). close (o .table)) e in
+    let r = c .before .before .before .before .before .before .before .before .before .before .before .before .before .before .before .close .result .entries in
+    let inside : r ≤ length (c .before .before .before .before .before .before .before .before .before .before .before .before .before .before .before .close .last .0) = omega (arith, l .within, w .ensures .room, l .long, w .kept .1 .1 .1 .0) in
     record {
       ending = ap (λ (o : Outcome). o .ending) e;
       pops = ap (λ (o : Outcome). o .pops) e;
-      lost = l .ensures .lost ∙ ap lostOf e;
-      extra = l .ensures .extra ∙ ap extraOf e;
+      lost = l .lost ∙ ap lostOf e;
+      extra = l .extra ∙ ap extraOf e;
       remainder = ap (λ (o : Outcome). o .remainder) e;
-      table = t;
-      room = omega (arith, l .ensures .within, w .ensures .room, l .ensures .long, w .kept .1 .1 .1 .0);
-      past = l .ensures .past;
-      past-numbers = l .ensures .past-numbers;
+      table = rw told (told-table _ r _ _ inside ∙ ap (map (tell _)) (l .table ∙ ap (λ (o : Outcome). close (o .table)) e));
+      room = omega (arith, inside, ap length told ∙ told-long _ r _);
+      past = λ k u. rw told (told-past _ r _ k u (l .past k u));
+      past-numbers = l .past-numbers;
       queue = λ j. c .before .before .before .before .before .before .clear .ensures .zeros j (omega arith);
       marks = λ j. c .before .before .clear2 .ensures .zeros j (omega arith);
     }
@@ -62,6 +75,7 @@ unravel-spec =
     (tie.spec
     walk-whole-requires
     close-requires
+    tell-requires
     clear-requires
     clear-requires-2
     same-length

@@ -23,9 +23,12 @@ Inv-loop size bytes at₀ n₀ low₀ at n low =
 abbrev μ-loop : tie.MeasureT-loop
 μ-loop size bytes at₀ n₀ low₀ at n low = length bytes - at
 
+head-length-in-requires : tie.Need-head-length-in-requires Inv-loop μ-loop
+head-length-in-requires c κs = search needs
+
 loop-holds : tie.Need-loop-holds Inv-loop μ-loop
 unfolding lowest
-loop-holds c = (reader-start _, refl, (λ j h. absurd (omega arith)))
+loop-holds c = (reader-start _ (c .head-length-in .ensures), refl, (λ j h. absurd (omega arith)))
 
 bucket-at-requires : tie.Need-bucket-at-requires Inv-loop μ-loop
 bucket-at-requires c κs = search needs
@@ -50,12 +53,12 @@ enum-told-3 c = search needs
 
 -- what was found
 bucket : (c : tie.After-known-told Inv-loop μ-loop)
-    → Found (now (c .before .before .before .before .before .before .args .bytes)) (c .before .before .before .before .loop .n) (c .before .before .before .before .loop .at) (c .before .found .given .0 .0) (c .before .found .given .0 .1 .0) (c .before .found .given .0 .1 .1 .0)
+    → Found (now (c .before .before .before .before .before .before .before .args .bytes)) (c .before .before .before .before .loop .n) (c .before .before .before .before .loop .at) (c .before .found .given .0 .0) (c .before .found .given .0 .1 .0) (c .before .found .given .0 .1 .1 .0)
 bucket c = found-bucket (c .before .before .before .before .loop .inv .0) (c .before .before .before .bucket-at .ensures) (c .before .found .given .1)
 
 -- what is judged of it
 judged : (c : tie.After-judge-bucket Inv-loop μ-loop)
-    → c .judge-bucket .result ≡ bucketJudged (c .before .before .before .before .before .before .before .args .size) (now (c .before .before .before .before .before .before .before .args .bytes)) (c .before .before .before .before .before .loop .n)
+    → c .judge-bucket .result ≡ bucketJudged (c .before .before .before .before .before .before .before .before .args .size) (now (c .before .before .before .before .before .before .before .before .args .bytes)) (c .before .before .before .before .before .loop .n)
 judged c =
     let l = c .before .before .before .before .before .loop in
     as-judged _ (l .inv .0) (bucket (c .before)) (l .inv .1) (back w32 _ (c .before .known-told .given .1 .0 .1)) (c .judge-bucket .ensures)
@@ -104,6 +107,7 @@ judge-records-spec =
     (tie.spec
     Inv-loop
     μ-loop
+    head-length-in-requires
     loop-holds
     bucket-at-requires
     enum-known-found

@@ -22,9 +22,12 @@ Inv-loop counts₀ idsums₀ bytes at₀ counts idsums at =
 abbrev μ-loop : tie.MeasureT-loop
 μ-loop counts₀ idsums₀ bytes at₀ counts idsums at = length bytes - at
 
+head-length-in-requires : tie.Need-head-length-in-requires Inv-loop μ-loop
+head-length-in-requires c κs = search needs
+
 loop-holds : tie.Need-loop-holds Inv-loop μ-loop
 unfolding stored
-loop-holds c = (refl, refl, record { passed = 0; reader = reader-start _; so-far = refl })
+loop-holds c = (refl, refl, record { passed = 0; reader = reader-start _ (c .head-length-in .ensures); so-far = refl })
 
 bucket-at-requires : tie.Need-bucket-at-requires Inv-loop μ-loop
 bucket-at-requires c κs = search needs
@@ -37,7 +40,7 @@ enum-told c = search needs
 
 -- what was found
 bucket : (c : tie.After-known-told Inv-loop μ-loop)
-    → Found (now (c .before .before .before .before .before .before .before .args .bytes)) (c .before .before .before .before .loop .inv .2 .passed) (c .before .before .before .before .loop .at) (c .before .found .given .0 .0) (c .before .found .given .0 .1 .0) (c .before .found .given .0 .1 .1 .0)
+    → Found (now (c .before .before .before .before .before .before .before .before .args .bytes)) (c .before .before .before .before .loop .inv .2 .passed) (c .before .before .before .before .loop .at) (c .before .found .given .0 .0) (c .before .found .given .0 .1 .0) (c .before .found .given .0 .1 .1 .0)
 bucket c = found-bucket (c .before .before .before .before .loop .inv .2 .reader) (c .before .before .before .bucket-at .ensures) (c .before .found .given .1)
 
 cast-set-bucket : tie.Need-cast-set-bucket Inv-loop μ-loop
@@ -79,6 +82,7 @@ store-spec =
     (tie.spec
     Inv-loop
     μ-loop
+    head-length-in-requires
     loop-holds
     bucket-at-requires
     enum-known-found

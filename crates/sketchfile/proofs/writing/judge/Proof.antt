@@ -14,6 +14,7 @@ use Rattle.params.specs.Params.{lentAnswer}
 use Rattle.sketch.specs.Sketch.{sketch, damagedAt}
 use Rattle.params.proofs.Judging.{first-refused, refuse-found, refuse-past}
 use Rattle.params.proofs.Rules.{lent-done, dimensions-small}
+use Rattle.files.proofs.Profiles.{length-most}
 use Rattle.sketchfile.specs.Writing.{sketchWriteAnswer}
 use Rattle.sketchfile.proofs.Written.{sketch-short, sketch-passed}
 use Rattle.sketchfile.proofs.writing.judge.Statement.{statement}
@@ -30,14 +31,14 @@ few : (c : tie.After-enum-told) → length (now (c .before .before .before .befo
 few c = let h = lent-done _ _ _ (lent-right c) in omega (arith, dimensions-small (h .0))
 
 -- there is room, so that damage decides
-roomy : (c : tie.Else1) → let a = c .before .before .before .before .before .before .args in
+roomy : (c : tie.Else1) → let a = c .before .before .before .before .before .before .before .args in
     let S = sketch (now (a .counts)) (now (a .idsums)) in
     refuseAt (length (now (a .counts))) (damagedAt S) Damage Done ≡ sketchWriteAnswer (a .p) S (a .room)
-roomy c = sketch-passed _ _ _ (lent-right (c .before .before)) (omega arith)
+roomy c = sketch-passed _ _ _ (lent-right (c .before .before .before)) (omega (arith, c .before .before .head-length .ensures))
 
-searched : (c : tie.After-first-damaged) → let a = c .before .before .before .before .before .before .before .args in
+searched : (c : tie.After-first-damaged) → let a = c .before .before .before .before .before .before .before .before .args in
     c .first-damaged .result ≡ least 0 (length (now (a .counts))) (damagedAt (sketch (now (a .counts)) (now (a .idsums))))
-searched c = rw (eq-eqb _ _ (same (c .before .before .before))) at (c .first-damaged .ensures)
+searched c = rw (eq-eqb _ _ (same (c .before .before .before .before))) at (c .first-damaged .ensures)
 
 judge-lent-requires : tie.Need-judge-lent-requires
 judge-lent-requires c κs = search needs
@@ -52,20 +53,23 @@ returns : tie.Need-returns
 unfolding sketchWriteAnswer
 returns c = first-refused _ _ _ (c .before .before .judge-lent .ensures) (c .before .match .keys2)
 
+head-length-requires : tie.Need-head-length-requires
+head-length-requires c κs = search needs
+
 nonzero-buckets-requires : tie.Need-nonzero-buckets-requires
-nonzero-buckets-requires c κs = same c
+nonzero-buckets-requires c κs = same (c .before)
 
 mul-if1 : tie.Need-mul-if1
-mul-if1 c = omega (arith, few (c .before))
+mul-if1 c = omega (arith, few (c .before .before))
 
 add-if1 : tie.Need-add-if1
-add-if1 c = omega (arith, few (c .before))
+add-if1 c = omega (arith, few (c .before .before), c .before .head-length .ensures, length-most (c .before .before .before .before .before .before .args .p))
 
 add-if1-2 : tie.Need-add-if1-2
-add-if1-2 c = omega (arith, few (c .before))
+add-if1-2 c = omega (arith, few (c .before .before), c .before .head-length .ensures, length-most (c .before .before .before .before .before .before .args .p))
 
 returns-2 : tie.Need-returns-2
-returns-2 c = sketch-short _ _ _ (lent-right (c .before .before)) (omega arith)
+returns-2 c = sketch-short _ _ _ (lent-right (c .before .before .before)) (omega (arith, c .before .before .head-length .ensures))
 
 first-damaged-requires : tie.Need-first-damaged-requires
 first-damaged-requires c κs = search needs
@@ -84,6 +88,7 @@ judge-spec =
     enum-told
     enum-told-2
     returns
+    head-length-requires
     nonzero-buckets-requires
     mul-if1
     add-if1

@@ -14,7 +14,7 @@ use Rattle.sketch.specs.Sketch.{sketch, countIn, idsumIn}
 use Rattle.files.specs.Bytes.{overwritten, wordBytes}
 use Rattle.files.specs.Layout.{bucketBytes}
 use Rattle.files.specs.Writing.{written}
-use Rattle.files.specs.Records.{headLength, bucketLength}
+use Rattle.files.specs.Records.{bucketLength}
 use Rattle.files.proofs.Overwriting.{overwritten-none, length-written, written-next}
 use Rattle.sketchfile.specs.Writing.{zeroAt, bucketsBytes}
 use Rattle.sketchfile.proofs.Written.{buckets-long, all-left, none-left, zero-next, nonzero-next}
@@ -22,14 +22,14 @@ use Rattle.sketchfile.proofs.writing.put_all.Statement.{statement}
 use Rattle.sketchfile.proofs.writing.put_all.Tie as tie
 
 abbrev Inv-loop : tie.InvT-loop
-Inv-loop out₀ counts idsums at₀ k₀ out at k =
+Inv-loop out₀ first counts idsums at₀ k₀ out at k =
     (k ≤ length counts)
     × (length out ≡ length out₀)
-    × (at + length (bucketsBytes k (length counts - k) (sketch counts idsums)) ≡ headLength + length (bucketsBytes 0 (length counts) (sketch counts idsums)))
-    × (overwritten out at (bucketsBytes k (length counts - k) (sketch counts idsums)) ≡ overwritten out₀ headLength (bucketsBytes 0 (length counts) (sketch counts idsums)))
+    × (at + length (bucketsBytes k (length counts - k) (sketch counts idsums)) ≡ first + length (bucketsBytes 0 (length counts) (sketch counts idsums)))
+    × (overwritten out at (bucketsBytes k (length counts - k) (sketch counts idsums)) ≡ overwritten out₀ first (bucketsBytes 0 (length counts) (sketch counts idsums)))
 
 abbrev μ-loop : tie.MeasureT-loop
-μ-loop out₀ counts idsums at₀ k₀ out at k = length counts - k
+μ-loop out₀ first counts idsums at₀ k₀ out at k = length counts - k
 
 -- the bucket that a turn looks at
 tested : (c : tie.After-all-zero Inv-loop μ-loop) → c .all-zero .result ≡ zeroAt (sketch (now (c .before .before .before .before .before .before .before .args .counts)) (now (c .before .before .before .before .before .before .before .args .idsums))) (c .before .before .before .before .loop .k)
@@ -52,7 +52,7 @@ loop-holds : tie.Need-loop-holds Inv-loop μ-loop
 loop-holds c =
     let a = c .before .before .args in
     let all = all-left (sketch (now (a .counts)) (now (a .idsums))) (length (now (a .counts))) in
-    (search needs, refl, omega (arith, ap length all), ap (overwritten (now (a .out)) headLength) all)
+    (search needs, refl, omega (arith, ap length all), ap (overwritten (now (a .out)) (a .first)) all)
 
 mul-all-zero : tie.Need-mul-all-zero Inv-loop μ-loop
 mul-all-zero c = search needs

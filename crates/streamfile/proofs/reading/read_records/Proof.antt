@@ -9,7 +9,7 @@ use borrow.Author.Needs.{needs}
 use Rattle.sketch.specs.Sketch.{sketch}
 use Rattle.params.proofs.Judging.{kept-old, kept-new}
 use Rattle.sketch.proofs.ManyPackets.{stepped-long}
-use Rattle.files.specs.Records.{recordAt, isKind, packetsKind, headLength}
+use Rattle.files.specs.Records.{recordAt, isKind, packetsKind, headLengthIn}
 use Rattle.files.specs.Layout.{packetsAt}
 use Rattle.files.specs.Turns.{packetOffset, endAnswer, atOffset}
 use Rattle.streamfile.specs.Streams.{packetsJudged}
@@ -20,16 +20,19 @@ use Rattle.streamfile.proofs.reading.read_records.Tie as tie
 
 abbrev Inv-loop : tie.InvT-loop
 Inv-loop p counts₀ idsums₀ bytes at₀ n₀ counts idsums at n =
-    (at ≡ packetOffset n)
+    (at ≡ packetOffset bytes n)
     × (length counts ≡ length counts₀)
     × (length idsums ≡ length idsums₀)
-    × Gone p headLength bytes (sketch counts₀ idsums₀) n (sketch counts idsums)
+    × Gone p (headLengthIn bytes) bytes (sketch counts₀ idsums₀) n (sketch counts idsums)
 
 abbrev μ-loop : tie.MeasureT-loop
 μ-loop p counts₀ idsums₀ bytes at₀ n₀ counts idsums at n = length bytes - at
 
+head-length-in-requires : tie.Need-head-length-in-requires Inv-loop μ-loop
+head-length-in-requires c κs = search needs
+
 loop-holds : tie.Need-loop-holds Inv-loop μ-loop
-loop-holds c = (refl, refl, refl, gone-none _ headLength _ _)
+loop-holds c = (omega (arith, c .head-length-in .ensures), refl, refl, gone-none _ _ _ _)
 
 packets-at-requires : tie.Need-packets-at-requires Inv-loop μ-loop
 packets-at-requires c κs = search needs
@@ -51,23 +54,23 @@ enum-told-3 c = search needs
 
 -- packets stand next
 there : (c : tie.After-known-told Inv-loop μ-loop)
-    → There (now (c .before .before .before .before .before .before .before .args .bytes)) (packetOffset (c .before .before .before .before .loop .n)) (c .before .found .given .0 .0) (c .before .found .given .0 .1 .0)
+    → let bs = now (c .before .before .before .before .before .before .before .before .args .bytes) in There bs (packetOffset bs (c .before .before .before .before .loop .n)) (c .before .found .given .0 .0) (c .before .found .given .0 .1 .0)
 there c = packets-there _ _ _ _ (sym (c .before .before .before .packets-at .ensures ∙ ap (packetsAt _) (c .before .before .before .before .loop .inv .0)) ∙ c .before .found .given .1)
 
 -- none do
 none : (c : tie.After-enum-told Inv-loop μ-loop)
-    → isKind packetsKind (recordAt (now (c .before .before .before .before .before .before .args .bytes)) (packetOffset (c .before .before .before .loop .n))) ≡ false
+    → let bs = now (c .before .before .before .before .before .before .before .args .bytes) in isKind packetsKind (recordAt bs (packetOffset bs (c .before .before .before .loop .n))) ≡ false
 none c = packets-not-there _ _ _ (c .before .before .packets-at .ensures ∙ ap (packetsAt _) (c .before .before .before .loop .inv .0)) (c .before .match .keys2)
 
 withdraw-packets-requires : tie.Need-withdraw-packets-requires Inv-loop μ-loop
-withdraw-packets-requires c κs = gone-within _ headLength _ _ _ _ (c .before .before .before .before .before .before .before .before .before .before .before .before .before .before .loop .inv .3)
+withdraw-packets-requires c κs = gone-within _ _ _ _ _ _ (c .before .before .before .before .before .before .before .before .before .before .before .before .before .before .loop .inv .3)
 
 at-offset-requires : tie.Need-at-offset-requires Inv-loop μ-loop
 at-offset-requires c κs = search needs
 
 -- after a refused packet the sketch is what it was
 restored : (c : tie.After-withdraw-packets Inv-loop μ-loop)
-    → sketch (c .withdraw-packets .last .1 .0) (c .withdraw-packets .last .1 .1 .0) ≡ sketch (now (c .before .before .before .before .before .before .before .before .before .before .before .before .before .before .before .before .before .before .args .counts)) (now (c .before .before .before .before .before .before .before .before .before .before .before .before .before .before .before .before .before .before .args .idsums))
+    → sketch (c .withdraw-packets .last .1 .0) (c .withdraw-packets .last .1 .1 .0) ≡ sketch (now (c .before .before .before .before .before .before .before .before .before .before .before .before .before .before .before .before .before .before .before .args .counts)) (now (c .before .before .before .before .before .before .before .before .before .before .before .before .before .before .before .before .before .before .before .args .idsums))
 restored c =
     let g = c .before .before .before .before .before .before .before .before .before .before .before .before .before .before .before .loop .inv .3 in
     let refused = c .before .before .before .before .match2 .keys2 in
@@ -90,13 +93,13 @@ returns c =
     }
 
 add-at : tie.Need-add-at Inv-loop μ-loop
-add-at c = let l = c .before .before .before .before .before .before .before .before .before .before .before .before .loop in omega (arith, l .inv .0, next-ends _ headLength _ _ _ _ (l .inv .3) _ _ (there (c .before .before .before .before .before .before .before .before)))
+add-at c = let l = c .before .before .before .before .before .before .before .before .before .before .before .before .loop in omega (arith, l .inv .0, next-ends _ _ _ _ _ _ (l .inv .3) _ _ (there (c .before .before .before .before .before .before .before .before)))
 
 add-n : tie.Need-add-n Inv-loop μ-loop
-add-n c = let l = c .before .before .before .before .before .before .before .before .before .before .before .before .loop in omega (arith, l .inv .0, next-ends _ headLength _ _ _ _ (l .inv .3) _ _ (there (c .before .before .before .before .before .before .before .before)))
+add-n c = let l = c .before .before .before .before .before .before .before .before .before .before .before .before .loop in omega (arith, l .inv .0, next-ends _ _ _ _ _ _ (l .inv .3) _ _ (there (c .before .before .before .before .before .before .before .before)))
 
 loop-less : tie.Need-loop-less Inv-loop μ-loop
-loop-less c = let l = c .before .before .before .before .before .before .before .before .before .before .before .before .loop in omega (arith, l .inv .0, next-ends _ headLength _ _ _ _ (l .inv .3) _ _ (there (c .before .before .before .before .before .before .before .before)))
+loop-less c = let l = c .before .before .before .before .before .before .before .before .before .before .before .before .loop in omega (arith, l .inv .0, next-ends _ _ _ _ _ _ (l .inv .3) _ _ (there (c .before .before .before .before .before .before .before .before)))
 
 loop-again : tie.Need-loop-again Inv-loop μ-loop
 loop-again c =
@@ -107,7 +110,7 @@ loop-again c =
       omega (arith, l .inv .0),
       long .counts ∙ l .inv .1,
       long .idsums ∙ l .inv .2,
-      gone-more _ headLength _ _ _ _ (l .inv .3) _ _ (there (c .before .before .before .before .before .before .before .before)) _ (sym (z .answer) ∙ done) (z .after ∙ sym (kept-new _ _ _ done)),
+      gone-more _ _ _ _ _ _ (l .inv .3) _ _ (there (c .before .before .before .before .before .before .before .before)) _ (sym (z .answer) ∙ done) (z .after ∙ sym (kept-new _ _ _ done)),
     )
 
 judge-end-requires : tie.Need-judge-end-requires Inv-loop μ-loop
@@ -120,16 +123,16 @@ enum-told-5 : tie.Need-enum-told-5 Inv-loop μ-loop
 enum-told-5 c = search needs
 
 withdraw-packets-requires-2 : tie.Need-withdraw-packets-requires-2 Inv-loop μ-loop
-withdraw-packets-requires-2 c κs = gone-within _ headLength _ _ _ _ (c .before .before .before .before .before .before .before .before .loop .inv .3)
+withdraw-packets-requires-2 c κs = gone-within _ _ _ _ _ _ (c .before .before .before .before .before .before .before .before .loop .inv .3)
 
 -- the end decides, and where it is refused the sketch is what it was
-ended : (c : tie.After-judge-end Inv-loop μ-loop) → c .judge-end .result ≡ packetsJudged (c .before .before .before .before .before .before .before .args .p) (now (c .before .before .before .before .before .before .before .args .bytes)) (sketch (now (c .before .before .before .before .before .before .before .args .counts)) (now (c .before .before .before .before .before .before .before .args .idsums)))
+ended : (c : tie.After-judge-end Inv-loop μ-loop) → c .judge-end .result ≡ packetsJudged (c .before .before .before .before .before .before .before .before .args .p) (now (c .before .before .before .before .before .before .before .before .args .bytes)) (sketch (now (c .before .before .before .before .before .before .before .before .args .counts)) (now (c .before .before .before .before .before .before .before .before .args .idsums)))
 ended c =
     let l = c .before .before .before .before .loop in
-    c .judge-end .ensures ∙ ap (λ a. endAnswer (now (c .before .before .before .before .before .before .before .args .bytes)) a (l .n)) (l .inv .0) ∙ end-judged _ _ _ _ _ (l .inv .3) (none (c .before))
+    c .judge-end .ensures ∙ ap (λ a. endAnswer (now (c .before .before .before .before .before .before .before .before .args .bytes)) a (l .n)) (l .inv .0) ∙ end-judged _ _ _ _ _ (l .inv .3) (none (c .before))
 
 restored-at-end : (c : tie.After-withdraw-packets2 Inv-loop μ-loop)
-    → sketch (c .withdraw-packets2 .last .1 .0) (c .withdraw-packets2 .last .1 .1 .0) ≡ sketch (now (c .before .before .before .before .before .before .before .before .before .before .before .before .args .counts)) (now (c .before .before .before .before .before .before .before .before .before .before .before .before .args .idsums))
+    → sketch (c .withdraw-packets2 .last .1 .0) (c .withdraw-packets2 .last .1 .1 .0) ≡ sketch (now (c .before .before .before .before .before .before .before .before .before .before .before .before .before .args .counts)) (now (c .before .before .before .before .before .before .before .before .before .before .before .before .before .args .idsums))
 restored-at-end c = let g = c .before .before .before .before .before .before .before .before .before .loop .inv .3 in c .withdraw-packets2 .ensures .back _ (g .accepted) (g .made)
 
 same-length-3 : tie.Need-same-length-3 Inv-loop μ-loop
@@ -156,7 +159,7 @@ returns-3 c =
     let l = c .before .before .before .before .before .before .loop in
     record {
       answer = ended (c .before .before);
-      after-all = gone-all _ headLength _ _ _ _ (l .inv .3) (none (c .before .before .before)) ∙ kept-new _ _ _ (c .enum-told4 .given .1);
+      after-all = gone-all _ _ _ _ _ _ (l .inv .3) (none (c .before .before .before)) ∙ kept-new _ _ _ (c .enum-told4 .given .1);
     }
 
 pub read-records-spec : {M : Type 1} → statement M
@@ -165,6 +168,7 @@ read-records-spec =
     (tie.spec
     Inv-loop
     μ-loop
+    head-length-in-requires
     loop-holds
     packets-at-requires
     enum-known-found

@@ -8,7 +8,7 @@ use denote.Ref.{now}
 use lib.ListN.{length, drop, drop-of-length-le}
 use Rattle.files.specs.Bytes.{overwritten, wordBytes}
 use Rattle.files.specs.Layout.{packetBytes}
-use Rattle.files.specs.Records.{headLength, packetsLength}
+use Rattle.files.specs.Records.{packetsLength}
 use Rattle.files.proofs.Overwriting.{overwritten-none, written-next}
 use Rattle.streamfile.specs.Writing.{packetsBytes}
 use Rattle.streamfile.proofs.Written.{packets-next}
@@ -16,17 +16,17 @@ use Rattle.streamfile.proofs.writing.put_all.Statement.{statement}
 use Rattle.streamfile.proofs.writing.put_all.Tie as tie
 
 abbrev Inv-loop : tie.InvT-loop
-Inv-loop out₀ flows numbers at₀ i₀ out at i =
+Inv-loop out₀ first flows numbers at₀ i₀ out at i =
     (i ≤ length flows)
-    × (at ≡ headLength + packetsLength * i)
+    × (at ≡ first + packetsLength * i)
     × (length out ≡ length out₀)
-    × (overwritten out at (packetsBytes (drop i flows) (drop i numbers)) ≡ overwritten out₀ headLength (packetsBytes flows numbers))
+    × (overwritten out at (packetsBytes (drop i flows) (drop i numbers)) ≡ overwritten out₀ first (packetsBytes flows numbers))
 
 abbrev μ-loop : tie.MeasureT-loop
-μ-loop out₀ flows numbers at₀ i₀ out at i = length flows - i
+μ-loop out₀ first flows numbers at₀ i₀ out at i = length flows - i
 
 loop-holds : tie.Need-loop-holds Inv-loop μ-loop
-loop-holds c = (search needs, refl, refl, refl)
+loop-holds c = (search needs, omega arith, refl, refl)
 
 mul-put-packets : tie.Need-mul-put-packets Inv-loop μ-loop
 mul-put-packets c = search needs

@@ -22,22 +22,22 @@ bounds : (c : tie.Else1) → Dimensions (c .before .before .args .self)
 bounds c = dimensions _ (passed c)
 
 two-placed : (c : tie.After-position-by2) → let s = c .before .before .before .before .before .before .args in
-    set (set (s .ks .now) 0 (c .before .position-by .result)) 1 (c .position-by2 .result) ≡ touched (upTo 2) (λ j k. stand (s .self) j (s .f)) (s .ks .now)
+    set (set (s .ks .now) 0 (c .before .position-by .result)) 1 (c .position-by2 .result) ≡ touched (upTo 2) (λ j k. stand (s .self) j (s .x)) (s .ks .now)
 unfolding stand
 two-placed c =
     let s = c .before .before .before .before .before .before .args in
-    store-next 0 (λ j. stand (s .self) j (s .f)) (s .ks .now) _ 1
-    (store-next 0 (λ j. stand (s .self) j (s .f)) (s .ks .now) _ 0 (each-none 0 _ _) (c .before .position-by .ensures .0))
+    store-next 0 (λ j. stand (s .self) j (s .x)) (s .ks .now) _ 1
+    (store-next 0 (λ j. stand (s .self) j (s .x)) (s .ks .now) _ 0 (each-none 0 _ _) (c .before .position-by .ensures .0))
     (c .position-by2 .ensures .0)
 
 -- the third array, where there is one
 three-placed : (c : tie.Joined2) → let a = c .before .before .before .before .before .before .before .args in
-    ((2 < a .self .d) × (c .if2 .ks ≡ touched (upTo 3) (λ j k. stand (a .self) j (a .f)) (a .ks .now))) ⊎ ((a .self .d ≤ 2) × (c .if2 .ks ≡ touched (upTo 2) (λ j k. stand (a .self) j (a .f)) (a .ks .now)))
+    ((2 < a .self .d) × (c .if2 .ks ≡ touched (upTo 3) (λ j k. stand (a .self) j (a .x)) (a .ks .now))) ⊎ ((a .self .d ≤ 2) × (c .if2 .ks ≡ touched (upTo 2) (λ j k. stand (a .self) j (a .x)) (a .ks .now)))
 unfolding stand
 three-placed c =
     let a = c .before .before .before .before .before .before .before .args in
     ⊎-elim
-    (λ w. inl (w .0 .taken, rw (w .2) (store-next 0 (λ j. stand (a .self) j (a .f)) (a .ks .now) _ 2 (two-placed (c .before)) (w .1 .ensures .0))))
+    (λ w. inl (w .0 .taken, rw (w .2) (store-next 0 (λ j. stand (a .self) j (a .x)) (a .ks .now) _ 2 (two-placed (c .before)) (w .1 .ensures .0))))
     (λ w. inr (w .0 .left, rw (w .1) (two-placed (c .before))))
     (c .if2 .came)
 
@@ -101,7 +101,7 @@ returns-2 c =
     let s = c .before .before .before .before .before .before .before in
     let a = s .before .before .args in
     ⊎-elim
-    (λ w. all-positions _ _ _ 4 (passed s) (omega (arith, bounds s)) (store-next 0 (λ j. stand (a .self) j (a .f)) (a .ks .now) _ 3 (w .1) (c .position-by4 .ensures .0)))
+    (λ w. all-positions _ _ _ 4 (passed s) (omega (arith, bounds s)) (store-next 0 (λ j. stand (a .self) j (a .x)) (a .ks .now) _ 3 (w .1) (c .position-by4 .ensures .0)))
     (λ w. absurd (omega (arith, w .0)))
     (three-placed (c .before .before))
 

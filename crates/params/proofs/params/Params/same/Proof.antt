@@ -1,9 +1,11 @@
--- `params::params::Params::same` meets its contract: the first number or pair that differs decides, or the last pair.
-use mathlib.Core.Path.{sym, _∙_}
+-- `params::params::Params::same` meets its contract: the first number or pair that differs decides, or the fifth pair.
+use mathlib.Core.Path.{sym, ap, _∙_}
+use mathlib.Core.Bool.{Bool, _&&_}
 use native.Mathlib.Omega.{arith}
 use borrow.Author.Tests.{eq-eqb, ne-eqb}
+use lib.Dec.{eqb}
 use Rattle.params.specs.Params.{samePair, sameParams}
-use Rattle.params.proofs.Rules.{last-of-four, pairs-decide}
+use Rattle.params.proofs.Rules.{last-of-four, pairs-decide, pair-differs}
 use Rattle.params.proofs.Searches.{below-fails, test-held, test-failed}
 use borrow.Author.Needs.{needs}
 use Rattle.params.proofs.params.Params.same.Statement.{statement}
@@ -35,8 +37,8 @@ same-pair-requires c κs = search needs
 returns-3 : tie.Need-returns-3
 unfolding samePair
 returns-3 c =
-    sym (below-fails 4 0 _ (omega arith) (test-failed (c .before .same-pair .ensures) (c .if3 .taken)))
-    ∙ pairs-decide _ _ (c .before .before .before .before .before .before .before .before .before .if1 .left) (c .before .before .before .before .before .before .if2 .left)
+    pair-differs _ _ (c .before .before .before .before .before .before .before .before .before .if1 .left) (c .before .before .before .before .before .before .if2 .left)
+    (below-fails 4 0 _ (omega arith) (test-failed (c .before .same-pair .ensures) (c .if3 .taken)))
 
 array-read-same-pair-5 : tie.Need-array-read-same-pair-5
 array-read-same-pair-5 c = search needs
@@ -56,8 +58,8 @@ same-pair-requires-2 c κs = search needs
 returns-4 : tie.Need-returns-4
 unfolding samePair
 returns-4 c =
-    sym (below-fails 4 1 _ (omega arith) (test-failed (c .before .same-pair2 .ensures) (c .if4 .taken)))
-    ∙ pairs-decide _ _ (c .before .before .before .before .before .before .before .before .before .before .before .if1 .left) (c .before .before .before .before .before .before .before .before .if2 .left)
+    pair-differs _ _ (c .before .before .before .before .before .before .before .before .before .before .before .if1 .left) (c .before .before .before .before .before .before .before .before .if2 .left)
+    (below-fails 4 1 _ (omega arith) (test-failed (c .before .same-pair2 .ensures) (c .if4 .taken)))
 
 array-read-same-pair-9 : tie.Need-array-read-same-pair-9
 array-read-same-pair-9 c = search needs
@@ -77,8 +79,8 @@ same-pair-requires-3 c κs = search needs
 returns-5 : tie.Need-returns-5
 unfolding samePair
 returns-5 c =
-    sym (below-fails 4 2 _ (omega arith) (test-failed (c .before .same-pair3 .ensures) (c .if5 .taken)))
-    ∙ pairs-decide _ _ (c .before .before .before .before .before .before .before .before .before .before .before .before .before .if1 .left) (c .before .before .before .before .before .before .before .before .before .before .if2 .left)
+    pair-differs _ _ (c .before .before .before .before .before .before .before .before .before .before .before .before .before .if1 .left) (c .before .before .before .before .before .before .before .before .before .before .if2 .left)
+    (below-fails 4 2 _ (omega arith) (test-failed (c .before .same-pair3 .ensures) (c .if5 .taken)))
 
 array-read-same-pair-13 : tie.Need-array-read-same-pair-13
 array-read-same-pair-13 c = search needs
@@ -98,12 +100,25 @@ same-pair-requires-4 c κs = search needs
 returns-6 : tie.Need-returns-6
 unfolding samePair
 returns-6 c =
-    c .same-pair4 .ensures
-    ∙ last-of-four _
-    (test-held (c .before .before .before .before .before .before .same-pair .ensures) (c .before .before .before .before .before .if3 .left))
-    (test-held (c .before .before .before .before .same-pair2 .ensures) (c .before .before .before .if4 .left))
-    (test-held (c .before .before .same-pair3 .ensures) (c .before .if5 .left))
-    ∙ pairs-decide _ _ (c .before .before .before .before .before .before .before .before .before .before .before .before .before .before .if1 .left) (c .before .before .before .before .before .before .before .before .before .before .before .if2 .left)
+    pair-differs _ _ (c .before .before .before .before .before .before .before .before .before .before .before .before .before .before .before .if1 .left) (c .before .before .before .before .before .before .before .before .before .before .before .before .if2 .left)
+    (below-fails 4 3 _ (omega arith) (test-failed (c .before .same-pair4 .ensures) (c .if6 .taken)))
+
+same-pair-requires-5 : tie.Need-same-pair-requires-5
+same-pair-requires-5 c κs = search needs
+
+returns-7 : tie.Need-returns-7
+unfolding samePair
+returns-7 c =
+    let p = c .before .before .before .before .before .before .before .before .before .before .before .before .before .before .before .before .before .before .before .args .self in
+    let q = c .before .before .before .before .before .before .before .before .before .before .before .before .before .before .before .before .before .before .before .args .q in
+    let four =
+    last-of-four (samePair p q)
+    (test-held (c .before .before .before .before .before .before .before .before .same-pair .ensures) (c .before .before .before .before .before .before .before .if3 .left))
+    (test-held (c .before .before .before .before .before .before .same-pair2 .ensures) (c .before .before .before .before .before .if4 .left))
+    (test-held (c .before .before .before .before .same-pair3 .ensures) (c .before .before .before .if5 .left)) in
+    c .same-pair5 .ensures
+    ∙ ap (λ (b : Bool). b && (eqb (p .a5) (q .a5) && eqb (p .b5) (q .b5))) (sym (sym four ∙ test-held (c .before .before .same-pair4 .ensures) (c .before .if6 .left)))
+    ∙ pairs-decide _ _ (c .before .before .before .before .before .before .before .before .before .before .before .before .before .before .before .before .if1 .left) (c .before .before .before .before .before .before .before .before .before .before .before .before .before .if2 .left)
 
 pub same-spec : {M : Type 1} → statement M
 same-spec =
@@ -134,4 +149,6 @@ same-spec =
     array-read-same-pair-15
     array-read-same-pair-16
     same-pair-requires-4
-    returns-6)
+    returns-6
+    same-pair-requires-5
+    returns-7)

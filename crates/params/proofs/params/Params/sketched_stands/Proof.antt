@@ -1,4 +1,4 @@
--- `params::params::Params::stands` meets its contract: array by array, the flow's bucket there is the one that stands.
+-- `params::params::Params::sketched_stands` meets its contract: array by array, the bucket of what is sketched is the one that stands.
 use mathlib.Core.Path.{_≡_}
 use mathlib.Core.Bool.{true}
 use native.Mathlib.Omega.{arith}
@@ -8,8 +8,8 @@ use Rattle.params.proofs.Searches.{test-held, test-failed}
 use Rattle.params.proofs.Rules.{dimensions}
 use Rattle.params.proofs.Standing.{stands-in, stands-nowhere}
 use borrow.Author.Needs.{needs}
-use Rattle.params.proofs.params.Params.stands.Statement.{statement}
-use Rattle.params.proofs.params.Params.stands.Tie as tie
+use Rattle.params.proofs.params.Params.sketched_stands.Statement.{statement}
+use Rattle.params.proofs.params.Params.sketched_stands.Tie as tie
 
 passed : (c : tie.Else1) → goodDimensions (c .before .before .args .self) ≡ true
 passed c = test-held (c .before .good-dimensions .ensures) (c .if1 .left)
@@ -122,8 +122,8 @@ returns-8 c =
     let s = c .before .before .before .before .before .before .before .before in
     stands-nowhere (s .before .before .args .self) _ _ 4 (passed s) (bounds s .d-high) (omega arith)
 
-pub stands-spec : {M : Type 1} → statement M
-stands-spec =
+pub sketched-stands-spec : {M : Type 1} → statement M
+sketched-stands-spec =
     tie.close
     (tie.spec
     good-dimensions-requires
