@@ -8,15 +8,21 @@
 
 enum { D = 2, M = 5, BUCKETS = D * M };
 
+/* The last four numbers of parameters in the plain profile. */
+#define PLAIN GABUNLITIK_FIRST_PRIME, 0, 0, GABUNLITIK_PLAIN_SORT
+
 /* d = 2, m = 5, pairs (1, 0) and (1073741824, 0): the parameters of the scope's examples. */
 extern const uint32_t K[GABUNLITIK_PARAMS];
 
-/* The same but for an offset, and with an array too many. */
+/* The same with the fifth pair (2000000110, 7): flows have fingerprints. */
+extern const uint32_t PRINTED[GABUNLITIK_PARAMS];
+
+/* K but for an offset, and with an array too many. */
 extern const uint32_t OTHER[GABUNLITIK_PARAMS];
 extern const uint32_t BAD[GABUNLITIK_PARAMS];
 
-/* Parameters that break one rule each; the first is BAD. */
-enum { WAYS = 13 };
+/* Parameters that break one rule each; the first is BAD, and the first HEAD_WAYS can stand in a head. */
+enum { HEAD_WAYS = 13, WAYS = 21 };
 extern const uint32_t BROKEN[WAYS][GABUNLITIK_PARAMS];
 
 struct sketch {
@@ -59,9 +65,16 @@ struct sketch e5(void); /* 2 by 1, 12 by -1 */
 struct sketch e6(void); /* 7 by -4 */
 struct sketch e7(void); /* 2147483646 by 2147483646 */
 
+/* The like of E1 with fingerprints: 7 by 1, 17 by 2, which share a bucket there. */
+struct sketch printed_e1(void);
+
 /* The sketch of a switch that took flow 0 for a flow, which no call does: 0 by 3. */
 struct sketch of_flow_0(void);
 
+struct returned insert_under(const uint32_t *params, struct sketch *s, uint32_t flow, uint32_t number);
+struct returned withdraw_under(const uint32_t *params, struct sketch *s, uint32_t flow, uint32_t number);
+
+/* Under K. */
 struct returned insert(struct sketch *s, uint32_t flow, uint32_t number);
 struct returned withdraw(struct sketch *s, uint32_t flow, uint32_t number);
 struct returned insert_all(struct sketch *s, const uint32_t *flows, const uint32_t *numbers, size_t n);
@@ -77,6 +90,12 @@ int used(const struct sketch *s);
 /* A number as four bytes, big-endian. */
 void put(uint8_t *bytes, uint32_t number);
 
+enum { HEAD_BYTES = 38, PRINTED_HEAD_BYTES = 46 };
+
+/* The head of a file with these parameters, of kind 10 where the fifth pair is not (0, 0), and its length. */
+size_t put_head(uint8_t *bytes, const uint32_t *params);
+
+void test_parameters(void);
 void test_sketches(void);
 void test_sums(void);
 void test_folds(void);
@@ -85,6 +104,9 @@ void test_arrays(void);
 void test_walks(void);
 void test_places(void);
 void test_files(void);
+void test_fingerprints(void);
+void test_fingerprint_walks(void);
+void test_fingerprint_files(void);
 void test_longest(void);
 
 #endif

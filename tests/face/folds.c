@@ -1,17 +1,26 @@
 /* What a fold makes of a sketch, called from C. */
 #include "folds.h"
 
-enum { MOST_BYTES = 43 + 13 * SIZE, DIVISORS = 6, FLOWS = 5 };
+enum { MOST_BYTES = 51 + 13 * SIZE, DIVISORS = 6, FLOWS = 5, PROFILES = 2 };
 
 static const uint64_t P = 2147483647;
 
 const uint32_t WIDE[GABUNLITIK_PARAMS] = {ARRAYS, WIDTH, 1, 1073741824, 2147483645, 123456789,
-                                          3, 2147483645, 1000000007, 987654321};
-static const uint32_t divisors[DIVISORS] = {1, 2, 3, 4, 6, WIDTH};
+                                          3, 2147483645, 1000000007, 987654321, PLAIN};
 
-/* Packets put in or, below 0, taken out. */
-static const uint32_t flows[FLOWS] = {1, 2, 20, 1999999999, 2147483646};
+/* The same with fingerprints. */
+static const uint32_t PRINTED_WIDE[GABUNLITIK_PARAMS] = {
+    ARRAYS, WIDTH, 1, 1073741824, 2147483645, 123456789, 3, 2147483645, 1000000007, 987654321,
+    GABUNLITIK_FIRST_PRIME, 1876543210, 2147483646, GABUNLITIK_PLAIN_SORT};
+
+/* In either profile, packets put in or, below 0, taken out. */
+static const struct profile {
+    const uint32_t *params;
+    uint32_t flows[FLOWS];
+} profiles[PROFILES] = {{WIDE, {1, 2, 20, 1999999999, 2147483646}}, {PRINTED_WIDE, {1, 2, 20, 7999999, 8388606}}};
 static const int32_t numbers[FLOWS] = {1, 2, -4, 300000000, -1000};
+
+static const uint32_t divisors[DIVISORS] = {1, 2, 3, 4, 6, WIDTH};
 
 struct params with_width(const uint32_t *params, uint32_t m) {
     struct params p;
@@ -126,16 +135,18 @@ static void idsums(void) {
     CHECK(alike(&s, &zeros));
 }
 
-/* The sketch of the packets under any parameters. */
-static struct slices sketch_under(const uint32_t *params) {
+/* The sketch of the profile's packets with m buckets an array. */
+static struct slices sketch_with(const struct profile *profile, uint32_t m) {
+    struct params given = with_width(profile->params, m);
     struct slices s = nothing();
-    size_t n = size_of(params);
+    size_t n = size_of(given.numbers);
     for (size_t i = 0; i < FLOWS; i++) {
         struct returned t = nothing_yet();
+        uint32_t flow = profile->flows[i];
         if (numbers[i] > 0)
-            t.number = gabunlitik_insert(params, s.counts, n, s.idsums, n, flows[i], (uint32_t)numbers[i], &t.place);
+            t.number = gabunlitik_insert(given.numbers, s.counts, n, s.idsums, n, flow, (uint32_t)numbers[i], &t.place);
         else
-            t.number = gabunlitik_withdraw(params, s.counts, n, s.idsums, n, flows[i], (uint32_t)-numbers[i], &t.place);
+            t.number = gabunlitik_withdraw(given.numbers, s.counts, n, s.idsums, n, flow, (uint32_t)-numbers[i], &t.place);
         CHECK_DONE(t);
     }
     return s;
@@ -166,26 +177,26 @@ static int lists(const struct walk *w, uint32_t flow, int32_t number) {
     return 0;
 }
 
-static void check_table(const struct walk *w) {
+static void check_table(const struct walk *w, const struct profile *profile) {
     CHECK(w->figures[GABUNLITIK_ENDING] == GABUNLITIK_ENDED_CLEAN && w->figures[GABUNLITIK_ENTRIES] == FLOWS);
     CHECK(w->figures[GABUNLITIK_LOST] == 300000003 && w->figures[GABUNLITIK_EXTRA] == 1004);
     for (size_t i = 0; i < FLOWS; i++)
-        CHECK(lists(w, flows[i], numbers[i]));
+        CHECK(lists(w, profile->flows[i], numbers[i]));
 }
 
 /* A folded sketch is the one that the same packets make with m2 from the start, and peels as that one does. Three buckets an array are
  * enough for all of them. */
-static void as_from_the_start(void) {
+static void as_from_the_start(const struct profile *profile) {
     for (size_t i = 0; i < DIVISORS; i++) {
-        struct params narrow = with_width(WIDE, divisors[i]);
-        struct slices s = sketch_under(WIDE), wanted = sketch_under(narrow.numbers);
-        CHECK_FOLDED(fold(WIDE, &s, divisors[i]), WIDE, divisors[i]);
+        struct params narrow = with_width(profile->params, divisors[i]);
+        struct slices s = sketch_with(profile, WIDTH), wanted = sketch_with(profile, divisors[i]);
+        CHECK_FOLDED(fold(profile->params, &s, divisors[i]), profile->params, divisors[i]);
         CHECK(alike(&s, &wanted));
         struct walk w = peel(narrow.numbers, &s), wanted_walk = peel(narrow.numbers, &wanted);
         CHECK(memcmp(&w, &wanted_walk, sizeof w) == 0);
         CHECK(alike(&s, &wanted));
         if (divisors[i] >= 3)
-            check_table(&w);
+            check_table(&w, profile);
     }
 }
 
@@ -201,21 +212,22 @@ static void combine(sum *call, const uint32_t *params, struct slices *s, const s
 }
 
 /* The sum, or the difference, of two folded sketches is theirs folded. */
-static void check_sum(sum *call, uint32_t m2) {
-    struct params narrow = with_width(WIDE, m2);
-    struct slices s = full(), other = sketch_under(WIDE), both = s;
-    combine(call, WIDE, &both, &other);
-    CHECK_FOLDED(fold(WIDE, &both, m2), WIDE, m2);
-    CHECK_FOLDED(fold(WIDE, &s, m2), WIDE, m2);
-    CHECK_FOLDED(fold(WIDE, &other, m2), WIDE, m2);
+static void check_sum(sum *call, const struct profile *profile, uint32_t m2) {
+    const uint32_t *wide = profile->params;
+    struct params narrow = with_width(wide, m2);
+    struct slices s = full(), other = sketch_with(profile, WIDTH), both = s;
+    combine(call, wide, &both, &other);
+    CHECK_FOLDED(fold(wide, &both, m2), wide, m2);
+    CHECK_FOLDED(fold(wide, &s, m2), wide, m2);
+    CHECK_FOLDED(fold(wide, &other, m2), wide, m2);
     combine(call, narrow.numbers, &s, &other);
     CHECK(alike(&s, &both));
 }
 
-static void sums(void) {
+static void sums(const struct profile *profile) {
     for (size_t i = 0; i < DIVISORS; i++) {
-        check_sum(gabunlitik_add, divisors[i]);
-        check_sum(gabunlitik_subtract, divisors[i]);
+        check_sum(gabunlitik_add, profile, divisors[i]);
+        check_sum(gabunlitik_subtract, profile, divisors[i]);
     }
 }
 
@@ -243,22 +255,23 @@ static void read_sketch(const uint32_t *params, struct slices *s, const struct o
 
 /* A stored sketch, read and folded, is stored in the one file that the sketch with m2 from the start has, and read back with the
  * parameters of its head. */
-static void files(void) {
+static void files(const struct profile *profile) {
+    const uint32_t *wide = profile->params;
     for (size_t i = 0; i < DIVISORS; i++) {
-        struct params narrow = with_width(WIDE, divisors[i]), head;
-        struct slices s = sketch_under(WIDE), wanted = sketch_under(narrow.numbers), back = full();
-        struct output stored = write_sketch(WIDE, &s), wanted_file = write_sketch(narrow.numbers, &wanted);
+        struct params narrow = with_width(wide, divisors[i]), head;
+        struct slices s = sketch_with(profile, WIDTH), wanted = sketch_with(profile, divisors[i]), back = full();
+        struct output stored = write_sketch(wide, &s), wanted_file = write_sketch(narrow.numbers, &wanted);
         struct returned t = nothing_yet();
         s = full();
-        read_sketch(WIDE, &s, &stored);
-        CHECK_FOLDED(fold(WIDE, &s, divisors[i]), WIDE, divisors[i]);
+        read_sketch(wide, &s, &stored);
+        CHECK_FOLDED(fold(wide, &s, divisors[i]), wide, divisors[i]);
         stored = write_sketch(narrow.numbers, &s);
         CHECK(stored.length == wanted_file.length);
         CHECK(memcmp(stored.bytes, wanted_file.bytes, sizeof stored.bytes) == 0);
         t.number = gabunlitik_read_head(stored.bytes, stored.length, head.numbers, &t.place);
         CHECK_DONE(t);
         CHECK(memcmp(&head, &narrow, sizeof head) == 0);
-        CHECK_FOLDED(fold(WIDE, &back, divisors[i]), WIDE, divisors[i]);
+        CHECK_FOLDED(fold(wide, &back, divisors[i]), wide, divisors[i]);
         read_sketch(head.numbers, &back, &stored);
         CHECK(alike(&back, &wanted));
     }
@@ -268,7 +281,9 @@ void test_folds(void) {
     examples();
     buckets();
     idsums();
-    as_from_the_start();
-    sums();
-    files();
+    for (size_t i = 0; i < PROFILES; i++) {
+        as_from_the_start(&profiles[i]);
+        sums(&profiles[i]);
+        files(&profiles[i]);
+    }
 }

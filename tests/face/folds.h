@@ -6,7 +6,7 @@
 
 enum { ARRAYS = 4, WIDTH = 12, SIZE = ARRAYS * WIDTH };
 
-/* Parameters of which all ten numbers count. */
+/* Parameters of which every number counts, in the plain profile. */
 extern const uint32_t WIDE[GABUNLITIK_PARAMS];
 
 struct params {

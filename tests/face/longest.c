@@ -1,7 +1,7 @@
 /* Lists and tables of the greatest length, and one longer, called from C. */
 #include "bench.h"
 
-enum { MOST = 65536, OVER = MOST + 1, FILE_OF_MOST = 43 + 9 * MOST, ROOM = 43 + 9 * OVER };
+enum { MOST = 65536, OVER = MOST + 1, ROOM = PRINTED_HEAD_BYTES + 9 * OVER + 5 };
 
 static uint32_t flows[OVER], numbers[OVER];
 static uint8_t out[ROOM];
@@ -28,15 +28,22 @@ static int listed(void) {
     return 1;
 }
 
-static struct returned write_stream(size_t flows_len, size_t numbers_len, size_t *length) {
+static struct returned write_stream(const uint32_t *params, size_t flows_len, size_t numbers_len, size_t *length) {
     struct returned t = nothing_yet();
     memset(out, 0xa5, sizeof out);
     memset(length, 0xa5, sizeof *length);
-    t.number = gabunlitik_write_stream(K, flows, flows_len, numbers, numbers_len, out, ROOM, length, &t.place);
+    t.number = gabunlitik_write_stream(params, flows, flows_len, numbers, numbers_len, out, ROOM, length, &t.place);
     return t;
 }
 
-static void lists(void) {
+static struct returned insert_listed(const uint32_t *params, struct sketch *s, size_t n) {
+    struct returned t = nothing_yet();
+    t.number = gabunlitik_insert_all(params, s->counts, BUCKETS, s->idsums, BUCKETS, flows, n, numbers, n, &t.place);
+    return t;
+}
+
+/* The file of the longest list has `due` bytes. */
+static void lists(const uint32_t *params, size_t due) {
     const size_t refused[][2] = {{OVER, OVER}, {MOST, MOST - 1}, {MOST - 1, MOST}, {OVER, MOST}, {MOST, OVER}};
     struct sketch s = fresh_sketch(), wanted = fresh_sketch();
     struct returned t = nothing_yet();
@@ -46,16 +53,16 @@ static void lists(void) {
         numbers[i] = i % 1000 + 1;
     }
     for (size_t i = 0; i < sizeof refused / sizeof refused[0]; i++) {
-        CHECK_RETURNS(write_stream(refused[i][0], refused[i][1], &length), GABUNLITIK_LENGTH, 0);
+        CHECK_RETURNS(write_stream(params, refused[i][0], refused[i][1], &length), GABUNLITIK_LENGTH, 0);
         CHECK(length == 0 && all_are(0xa5, out, ROOM));
     }
-    CHECK_DONE(write_stream(MOST, MOST, &length));
-    CHECK(length == FILE_OF_MOST && all_are(0xa5, out + FILE_OF_MOST, ROOM - FILE_OF_MOST));
-    CHECK_DONE(insert_all(&wanted, flows, numbers, MOST));
-    t.number = gabunlitik_read_stream(K, s.counts, BUCKETS, s.idsums, BUCKETS, out, length, &t.place);
+    CHECK_DONE(write_stream(params, MOST, MOST, &length));
+    CHECK(length == due && all_are(0xa5, out + due, ROOM - due));
+    CHECK_DONE(insert_listed(params, &wanted, MOST));
+    t.number = gabunlitik_read_stream(params, s.counts, BUCKETS, s.idsums, BUCKETS, out, length, &t.place);
     CHECK_DONE(t);
     CHECK(same(&s, &wanted));
-    CHECK_DONE(insert_all(&wanted, flows, numbers, OVER)); /* which takes any length */
+    CHECK_DONE(insert_listed(params, &wanted, OVER)); /* which takes any length */
     CHECK(listed());
 }
 
@@ -87,6 +94,7 @@ static void tables(void) {
 }
 
 void test_longest(void) {
-    lists();
+    lists(K, HEAD_BYTES + 9 * MOST + 5);
+    lists(PRINTED, PRINTED_HEAD_BYTES + 9 * MOST + 5);
     tables();
 }

@@ -182,7 +182,7 @@ static void refused_parameters(void) {
 
 /* PARAM for each rule, before LENGTH; pairs that differ in their offsets alone keep the rules. */
 static void rules(void) {
-    static const uint32_t apart[GABUNLITIK_PARAMS] = {D, M, 1, 1, 0, 0, 7, 8, 0, 0};
+    static const uint32_t apart[GABUNLITIK_PARAMS] = {D, M, 1, 1, 0, 0, 7, 8, 0, 0, PLAIN};
     struct sketch s = e1(), kept = s;
     struct returned t = nothing_yet();
     for (size_t i = 0; i < WAYS; i++) {

@@ -1,40 +1,30 @@
 /* Peeling, called from C. */
-#include "bench.h"
+#include "walks.h"
 
-enum { MOST_SLOTS = 6 };
-
-/* All that a walk is lent beside the sketch, and the figures it tells. */
-struct walk {
-    uint32_t flows[MOST_SLOTS];
-    int32_t counts[MOST_SLOTS];
-    uint32_t queue[BUCKETS];
-    uint32_t marks[BUCKETS];
-    uint64_t figures[GABUNLITIK_FIGURES];
-};
-
-/* Full of what has no effect on a walk. */
-static struct walk unwalked(void) {
+struct walk unwalked(void) {
     struct walk w;
     memset(&w, 0xa5, sizeof w);
     return w;
 }
 
-static struct returned peel(struct sketch *s, struct walk *w, size_t slots, uint32_t allowance) {
+struct returned peel_under(const uint32_t *params, struct sketch *s, struct walk *w, size_t slots, uint32_t allowance) {
     struct returned t = nothing_yet();
-    t.number = gabunlitik_peel(K, s->counts, BUCKETS, s->idsums, BUCKETS, w->flows, slots, w->counts, slots, w->queue,
+    t.number = gabunlitik_peel(params, s->counts, BUCKETS, s->idsums, BUCKETS, w->flows, slots, w->counts, slots, w->queue,
                                BUCKETS, w->marks, BUCKETS, allowance, w->figures, &t.place);
     return t;
 }
 
-static int figures_are(const struct walk *w, uint64_t ending, uint64_t entries, uint64_t lost, uint64_t extra,
-                       uint64_t pops) {
+static struct returned peel(struct sketch *s, struct walk *w, size_t slots, uint32_t allowance) {
+    return peel_under(K, s, w, slots, allowance);
+}
+
+int figures_are(const struct walk *w, uint64_t ending, uint64_t entries, uint64_t lost, uint64_t extra, uint64_t pops) {
     return w->figures[GABUNLITIK_ENDING] == ending && w->figures[GABUNLITIK_ENTRIES] == entries &&
            w->figures[GABUNLITIK_LOST] == lost && w->figures[GABUNLITIK_EXTRA] == extra &&
            w->figures[GABUNLITIK_POPS] == pops;
 }
 
-/* The slots past the entries, the queue and the marks are 0. */
-static int cleared(const struct walk *w) {
+int cleared(const struct walk *w) {
     uint32_t rest = 0;
     for (size_t i = (size_t)w->figures[GABUNLITIK_ENTRIES]; i < MOST_SLOTS; i++)
         rest |= w->flows[i] | (uint32_t)w->counts[i];

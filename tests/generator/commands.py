@@ -6,7 +6,7 @@ import struct
 # as the last operand says.
 PAIRS = ("a1", "b1", "a2", "b2", "a3", "b3", "a4", "b4")
 COMMANDS = {
-    1: ("params", ("d", "m") + PAIRS), 2: ("length", ("slice", "length")), 3: ("store", ("slice", "from", "many")),
+    1: ("params", ("d", "m") + PAIRS + ("prime", "a5", "b5", "sort")), 2: ("length", ("slice", "length")), 3: ("store", ("slice", "from", "many")),
     4: ("fill", ("slice", "from", "many", "number")), 5: ("fresh", ()), 6: ("insert", ("flow", "number")), 7: ("insert all", ()),
     8: ("add", ()), 9: ("subtract", ()), 10: ("peel", ("allowance",)), 11: ("read stream", ("bytes",)),
     12: ("read sketch", ("bytes",)), 13: ("read stream back", ()), 14: ("read sketch back", ()), 15: ("write stream", ()),
@@ -20,7 +20,7 @@ SLICES = (
 
 # As many slots as there is room for in a slice of numbers, and bytes in the output; the most bytes of a script.
 ROOM = 65537
-OUTPUT_ROOM = 852012
+OUTPUT_ROOM = 852020
 MOST_BYTES = 65536
 
 
@@ -35,7 +35,8 @@ class Script:
         self.bytes += struct.pack(f">B{len(operands)}I", byte, *operands) + after
 
     def params(self, sketch, params):
-        self.add("params", sketch, (params.d, params.m, *(each for pair in params.pairs for each in pair)))
+        pairs = [each for pair in params.pairs for each in pair]
+        self.add("params", sketch, (params.d, params.m, *pairs, params.prime, *params.fifth, params.sort))
 
     def length(self, slice_name, length, sketch=1):
         self.add("length", sketch, (SLICES.index(slice_name), length))

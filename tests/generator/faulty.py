@@ -1,12 +1,14 @@
 """Faulty inputs of the report: a sound one of a few records, changed in one place or cut."""
 
-from generator.files import MOST, P, WORD, Params, end, head, joined, packets, stream
-from generator.values import MOST_BUCKETS, any_flow, any_pair, any_params, broken, no_flow, place, small_entries, some_record
+from generator.files import MOST, P, WORD, end, head, joined, packets, stream
+from generator.values import (
+    MOST_BUCKETS, any_flow, any_pair, any_params, broken, broken_head, has_fingerprints, no_flow, other_profile, place, small_entries,
+    some_record)
 
 
 def sound(rng):
     params = any_params(rng, 1, 50)
-    upstream = small_entries(rng, 7)
+    upstream = small_entries(rng, params, 7)
     downstream = [entry for entry in upstream if rng.random() < 0.7]
     return params, [stream(params, upstream), stream(params, downstream)]
 
@@ -15,45 +17,45 @@ def with_packets(rng):
     """A sound input whose chosen stream has packets, that stream, and the first, a middle or the last packet in it."""
     params, streams = sound(rng)
     which = rng.randint(0, 1)
-    entries = small_entries(rng, 6) + [(any_flow(rng), 1)]
+    entries = small_entries(rng, params, 6) + [(any_flow(rng, params), 1)]
     streams[which] = stream(params, entries)
     return params, streams, which, place(rng, 1, len(entries))
 
 
-def bad_packet_in(rng, streams, which, at):
-    flow = no_flow(rng)
+def bad_packet_in(rng, params, streams, which, at):
+    flow = no_flow(rng, params)
     number = rng.choice((0, P, P + 1, WORD))
-    good_flow, good_number = any_flow(rng), rng.randint(1, 5)
+    good_flow, good_number = any_flow(rng, params), rng.randint(1, 5)
     streams[which][at] = packets(*rng.choice(((flow, good_number), (good_flow, number), (flow, number))))
 
 
 def bad_packet(rng):
     """A flow, a number or both that a packet record may not have."""
-    _, streams, which, at = with_packets(rng)
-    bad_packet_in(rng, streams, which, at)
+    params, streams, which, at = with_packets(rng)
+    bad_packet_in(rng, params, streams, which, at)
     return joined(streams)
 
 
 def two_bad_packets(rng):
     """A fault in each of two records: the earlier one decides."""
-    _, streams, which, at = with_packets(rng)
-    bad_packet_in(rng, streams, which, at)
-    streams[which].insert(at, packets(any_flow(rng), 1))
-    bad_packet_in(rng, streams, which, place(rng, 1, at))
+    params, streams, which, at = with_packets(rng)
+    bad_packet_in(rng, params, streams, which, at)
+    streams[which].insert(at, packets(any_flow(rng, params), 1))
+    bad_packet_in(rng, params, streams, which, place(rng, 1, at))
     return joined(streams)
 
 
 def over_the_limit(rng):
     """A packet that brings a count past its limit; some have another fault before or after it."""
-    _, streams, which, at = with_packets(rng)
+    params, streams, which, at = with_packets(rng)
     records = streams[which]
-    flow, number = any_flow(rng), rng.randint(1, MOST)
+    flow, number = any_flow(rng, params), rng.randint(1, MOST)
     records.insert(at, packets(flow, number))
-    over = packets(rng.choice((flow, any_flow(rng))), rng.choice((MOST - number + 1, MOST)))
+    over = packets(rng.choice((flow, any_flow(rng, params))), rng.choice((MOST - number + 1, MOST)))
     records.insert(place(rng, at + 1, len(records) - 1), over)
     records[-1] = end(len(records) - 2)
     if rng.random() < 0.2:
-        bad_packet_in(rng, streams, which, place(rng, 1, len(records) - 2))
+        bad_packet_in(rng, params, streams, which, place(rng, 1, len(records) - 2))
     return joined(streams)
 
 
@@ -61,7 +63,7 @@ def bad_head(rng):
     """A head that breaks a rule, in either stream or in both."""
     params, streams = sound(rng)
     for which in rng.choice(((0,), (1,), (0, 1))):
-        streams[which][0] = head(broken(rng, params))
+        streams[which][0] = broken_head(rng, params)
     return joined(streams)
 
 
@@ -70,8 +72,13 @@ def other_head(rng):
     params, streams = sound(rng)
     pairs = list(params.pairs)
     d, m = params.d, params.m
-    thing = rng.choice(("d", "m", "pair", "order", "size"))
-    if thing == "d":
+    thing = rng.choice(("d", "m", "pair", "order", "size", "profile", "profile", "profile"))
+    if thing == "profile":
+        params = other_profile(rng, params)
+        # It is PARAM where it breaks a rule besides.
+        params = broken(rng, params) if rng.random() < 0.2 else params
+        d, m, pairs = params.d, params.m, params.pairs
+    elif thing == "d":
         d = rng.choice([value for value in (2, 3, 4) if value != d])
         kept = pairs[:min(d, params.d)]
         while len(kept) < d:
@@ -90,7 +97,24 @@ def other_head(rng):
         pairs[first], pairs[second] = pairs[second], pairs[first]
     else:
         m = rng.choice((MOST_BUCKETS // d, MOST_BUCKETS // d + 1, 16384))
-    streams[1][0] = head(Params(d, m, tuple(pairs)))
+    streams[1][0] = head(params._replace(d=d, m=m, pairs=tuple(pairs)))
+    return joined(streams)
+
+
+def head_cut(rng):
+    """A head of either kind cut at any byte, alone, as the second one, or with the rest of the input after it; or a head of one kind with the
+    body of the other."""
+    params, streams = sound(rng)
+    which = rng.randint(0, 1)
+    first = joined(streams[:which])
+    whole = streams[which][0]
+    way = rng.choice(("cut", "cut", "cut", "shortened", "other"))
+    if way == "cut":
+        return first + whole[:rng.choice((0, 1, 37, 38, 39, 45, rng.randrange(len(whole))))]
+    if way == "shortened":
+        streams[which][0] = whole[:rng.randrange(len(whole))]
+    else:
+        streams[which][0] = bytes([1 if has_fingerprints(params) else 10]) + whole[1:]
     return joined(streams)
 
 
@@ -130,7 +154,7 @@ def other_kind(rng):
     _, streams = sound(rng)
     records = streams[rng.randint(0, 1)]
     at = place(rng, 0, len(records) - 1)
-    records[at] = bytes([rng.choice((0, 1, 2, 3, 4, 5, rng.randint(0, 255)))]) + records[at][1:]
+    records[at] = bytes([rng.choice((0, 1, 2, 3, 4, 5, 10, rng.randint(0, 255)))]) + records[at][1:]
     return joined(streams)
 
 
@@ -140,17 +164,17 @@ def past_a_portion(rng):
     params = any_params(rng, 200)
     portion = rng.choice((65536, 131072))
     records = (portion - len(head(params)) - len(end(0))) // len(packets(1, 1)) + rng.randint(-6, 2)
-    flow = any_flow(rng)
-    streams = [stream(params, [(flow, 1)] * records), stream(params, small_entries(rng, 6) + [(flow, records)])]
+    flow = any_flow(rng, params)
+    streams = [stream(params, [(flow, 1)] * records), stream(params, small_entries(rng, params, 6) + [(flow, records)])]
     fault = rng.choice(("none", "packet", "end", "head", "cut", "trailing"))
     if fault == "packet":
         which = rng.randint(0, 1)
         last = len(streams[which]) - 2
-        bad_packet_in(rng, streams, which, rng.randint(max(1, last - 8), last))
+        bad_packet_in(rng, params, streams, which, rng.randint(max(1, last - 8), last))
     elif fault == "end":
         streams[rng.randint(0, 1)][-1] = end(1)
     elif fault == "head":
-        streams[1][0] = head(broken(rng, params))
+        streams[1][0] = broken_head(rng, params)
     whole = joined(streams)
     if fault == "cut":
         return whole[:rng.randint(portion - 40, len(whole) - 1)]
@@ -159,9 +183,9 @@ def past_a_portion(rng):
 
 def cut(rng):
     """Cut at any byte; some have a fault as well."""
-    _, streams, which, at = with_packets(rng)
+    params, streams, which, at = with_packets(rng)
     if rng.random() < 0.4:
-        bad_packet_in(rng, streams, which, at)
+        bad_packet_in(rng, params, streams, which, at)
     whole = joined(streams)
     return whole[:rng.randrange(len(whole))]
 

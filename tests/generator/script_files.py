@@ -1,14 +1,15 @@
 """Scripts about files: sound and faulty ones read, old ones with flow 0 in them, their heads alone, and files written and read back."""
 
 from generator.commands import Script
-from generator.files import MOST, P, WORD, Params, bucket, end, head, packets, sketch_file, stream
+from generator.files import (
+    LAST, MOST, P, WORD, bucket, end, head, head_of_one, head_of_ten, packets, sketch_file, sketch_length, stream, stream_length)
 from generator.script_calls import (
     DAMAGED_COUNTS, DAMAGED_IDSUMS, any_content, any_count, any_idsum, bad_params, changed, damage, indexes, wrong_length)
-from generator.values import any_flow, any_params, no_flow, place, small_entries, some_record
+from generator.values import any_flow, any_params, extended, has_fingerprints, no_flow, place, small_entries, some_record
 
 
 def any_stream(rng, params):
-    entries = [(any_flow(rng), rng.choice((1, rng.randint(1, 99)))) for _ in range(rng.randint(0, 7))]
+    entries = [(any_flow(rng, params), rng.choice((1, rng.randint(1, 99)))) for _ in range(rng.randint(0, 7))]
     return stream(params, entries)
 
 
@@ -19,9 +20,9 @@ def any_sketch_file(rng, params):
     return sketch_file(params, [each for each in buckets if each[1:] != (0, 0)])
 
 
-def bad_packets(rng):
-    flow, number = no_flow(rng), rng.choice((0, P, WORD))
-    return packets(*rng.choice(((flow, 1), (flow, 1), (any_flow(rng), number), (flow, number), (flow, number), (any_flow(rng), MOST))))
+def bad_packets(rng, params):
+    flow, number = no_flow(rng, params), rng.choice((0, P, WORD))
+    return packets(*rng.choice(((flow, 1), (flow, 1), (any_flow(rng, params), number), (flow, number), (flow, number), (any_flow(rng, params), MOST))))
 
 
 def index_of(record):
@@ -52,14 +53,14 @@ def spoilt(rng, params, records, bad_record):
     elif way == "misplaced":
         records[at:at + rng.choice((0, 1))] = [some_record(rng, params)]
     elif way == "kind":
-        records[at] = bytes([rng.choice((0, 1, 2, 3, 4, 5, 255))]) + records[at][1:]
+        records[at] = bytes([rng.choice((0, 1, 2, 3, 4, 5, 10, 255))]) + records[at][1:]
     elif way == "twice":
         records[at:at + 1] = rng.choice(([], [records[at]] * 2))
     elif way == "end":
         records[-1] = end(rng.choice((0, len(records) - 1, len(records), WORD)))
     else:
         other = rng.choice((bad_params, changed))(rng, params)
-        records[0] = head(Params(min(other.d, 255), other.m, other.pairs))
+        records[0] = rng.choice((head, head, head, head_of_one, head_of_ten))(other._replace(d=min(other.d, 255)))
     return records
 
 
@@ -67,7 +68,7 @@ def any_file(rng, params, kind):
     """A sound file, or one that is spoilt, cut at any byte, or followed by more bytes."""
     if kind == "stream":
         records = any_stream(rng, params)
-        bad_record = lambda _previous, _replaced: bad_packets(rng)
+        bad_record = lambda _previous, _replaced: bad_packets(rng, params)
     else:
         records = any_sketch_file(rng, params)
         bad_record = lambda previous, replaced: bad_bucket(rng, params.d * params.m, previous, replaced)
@@ -121,26 +122,28 @@ def sketched(params, entries):
     for flow, number in entries:
         for index in indexes(params, flow):
             counts[index] = counts.get(index, 0) + number
-            idsums[index] = (idsums.get(index, 0) + number * flow) % P
+            idsums[index] = (idsums.get(index, 0) + number * extended(params, flow)) % P
     return [(index, counts[index], idsums[index]) for index in sorted(counts) if (counts[index], idsums[index]) != (0, 0)]
 
 
 def old_sketches(rng):
-    """Sketch files of switches that took flow 0 for a flow: read, written again, added or subtracted, and peeled; flow 0 itself is refused."""
+    """Sketch files of switches that took flow 0 for a flow, or with fingerprints 8388607: read, written again, added or subtracted, and peeled;
+    the flow itself is refused."""
     params = any_params(rng, 1, rng.choice((2, 6, 30)))
     size = params.d * params.m
     script = Script()
+    nobody = rng.choice((0, LAST + 1)) if has_fingerprints(params) else 0
     for sketch in (1, 2):
         script.sketch(sketch, params)
-        entries = [(0, rng.choice((0, 1, 7, rng.randint(1, MOST // 2))))] + rng.choice(([], small_entries(rng, 4)))
+        entries = [(nobody, rng.choice((0, 1, 7, rng.randint(1, MOST // 2))))] + rng.choice(([], small_entries(rng, params, 4)))
         script.read("read sketch", b"".join(sketch_file(params, sketched(params, entries))), sketch)
-    script.length("output", 43 + 13 * size)
+    script.length("output", sketch_length(params, size))
     script.add("write sketch")
     script.show()
     script.add("read sketch back", rng.choice((1, 1, 1, 2)))
     script.add(rng.choice(("subtract", "subtract", "add")))
-    script.add(rng.choice(("insert", "withdraw")), 1, (0, rng.choice((0, 1, P))))
-    script.add(rng.choice(("position", "index")), 1, (rng.randint(0, params.d + 1), 0))
+    script.add(rng.choice(("insert", "withdraw")), 1, (nobody, rng.choice((0, 1, P))))
+    script.add(rng.choice(("position", "index")), 1, (rng.randint(0, params.d + 1), nobody))
     script.table(params, size, rng.choice((0, 9, WORD)))
     script.add("peel", 1, (rng.choice((8 * size, rng.randint(0, 2 * params.d))),))
     script.show()
@@ -167,16 +170,16 @@ def every_cut(rng):
 def any_head(rng):
     """A head of any sizes, of which one thing may be wrong: its parameters, its length or its kind."""
     params = any_params(rng, 1, 16384)
-    params = Params(params.d, rng.choice((params.m, 16384, 1)), params.pairs)
+    params = params._replace(m=rng.choice((params.m, 16384, 1)))
     way = rng.choice(("sound", "sound", "param", "param", "param", "cut", "kind"))
     if way == "param":
         params = bad_params(rng, params)
-        params = Params(min(params.d, 255), params.m, params.pairs)
-    data = head(params)
+        params = params._replace(d=min(params.d, 255))
+    data = rng.choice((head, head, head, head, head_of_one, head_of_ten))(params)
     if way == "cut":
         return data[:rng.choice((0, 1, len(data) - 1, rng.randrange(len(data))))]
     if way == "kind":
-        return rng.choice((bytes([rng.choice((0, 2, 3, 4, 5, 255))]) + data[1:], some_record(rng, params)))
+        return rng.choice((bytes([rng.choice((0, 1, 2, 3, 4, 5, 10, 255))]) + data[1:], some_record(rng, params)))
     return data
 
 
@@ -195,19 +198,19 @@ def streams_written(rng):
     script = Script()
     script.sketch(1, params)
     any_content(rng, script, 1, params)
-    entries = small_entries(rng, 9)
+    entries = small_entries(rng, params, 9)
     for _ in range(rng.choice((0, 0, 1, 2)) if entries else 0):
         at = place(rng, 0, len(entries) - 1)
-        entries[at] = rng.choice(((no_flow(rng), 1), (no_flow(rng), 0), (3, 0), (3, P), (3, MOST)))
+        entries[at] = rng.choice(((no_flow(rng, params), 1), (no_flow(rng, params), 0), (3, 0), (3, P), (3, MOST)))
     if len(entries) > 1 and rng.random() < 0.1:
         # FLOW at the last entry comes before COUNT at the first.
-        entries[0], entries[-1] = (any_flow(rng), rng.choice((0, P))), (no_flow(rng), 1)
+        entries[0], entries[-1] = (any_flow(rng, params), rng.choice((0, P))), (no_flow(rng, params), 1)
     script.packets(entries)
     if rng.random() < 0.1:
         script.length(rng.choice(("packet flows", "packet numbers")), wrong_length(rng, len(entries)))
     if rng.random() < 0.1:
         script.params(1, bad_params(rng, params))
-    exact = 43 + 9 * len(entries)
+    exact = stream_length(params, len(entries))
     script.length("output", rng.choice((exact, exact, exact + 1, exact - 1, 0, exact + 50)))
     script.fill("output", 204)
     script.add("write stream")
@@ -236,7 +239,7 @@ def sketches_written(rng):
         damage(rng, script, 1, rng.choice(chosen))
     if rng.random() < 0.1:
         script.length(rng.choice(("counts", "idsums")), wrong_length(rng, size))
-    exact = 43 + 13 * sum(each != (0, 0) for each in buckets.values())
+    exact = sketch_length(params, sum(each != (0, 0) for each in buckets.values()))
     script.length("output", rng.choice((exact, exact, exact + 1, exact - 1, 0, exact + 50)))
     script.fill("output", 51)
     script.add("write sketch")

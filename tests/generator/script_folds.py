@@ -1,10 +1,10 @@
 """Scripts of folds: sums at the limits, every refusal, folds of folds, and folded sketches in all that a sketch is for."""
 
 from generator.commands import Script
-from generator.files import MOST, P, WORD, Params, sketch_file, stream
+from generator.files import MOST, P, WORD, sketch_file, stream
 from generator.script_calls import DIFFERENCES, any_count, any_idsum, bad_params, damaged, put_in, wrong_length
 from generator.script_files import sketched
-from generator.values import any_divisor, any_flow, divisors, four_pairs, no_divisor, place, small_entries
+from generator.values import any_divisor, any_flow, divisors, no_divisor, params_of, place, small_entries
 
 # Buckets in an array before a fold: most of these numbers have several divisors.
 SIZES = (1, 2, 3, 4, 5, 6, 6, 7, 8, 9, 12, 12, 12, 15, 16, 18, 20, 24, 30, 36)
@@ -14,8 +14,7 @@ LEAVING = (MOST + 1, -MOST - 1) * 4 + (MOST + 2, -MOST - 2, 2**31, -2**31, 2 * M
 
 
 def any_sizes(rng):
-    d = rng.randint(2, 4)
-    return Params(d, rng.choice(SIZES), four_pairs(rng, d))
+    return params_of(rng, rng.randint(2, 4), rng.choice(SIZES))
 
 
 def shrinking(rng):
@@ -31,7 +30,7 @@ def shrinking(rng):
 
 
 def with_size(params, m):
-    return Params(params.d, m, params.pairs)
+    return params._replace(m=m)
 
 
 def sources(params, m2, target):
@@ -142,7 +141,7 @@ def fold_limits(rng):
     script.add("fold", sketch, (m2,))
     script.add("show", sketch)
     # A bucket at its limit takes no packet more, folded or not.
-    script.add(rng.choice(("insert", "withdraw")), sketch, (any_flow(rng), 1))
+    script.add(rng.choice(("insert", "withdraw")), sketch, (any_flow(rng, params), 1))
     script.add("fold", sketch, (any_divisor(rng, m2),))
     script.add("show", sketch)
     show_room(script, sketch, params)
@@ -229,8 +228,8 @@ def folds_of_folds(rng):
     return script.bytes
 
 
-def any_entries(rng):
-    return small_entries(rng, 20) + [(any_flow(rng), rng.randint(1, MOST // 30)) for _ in range(rng.choice((0, 3)))]
+def any_entries(rng, params):
+    return small_entries(rng, params, 20) + [(any_flow(rng, params), rng.randint(1, MOST // 30)) for _ in range(rng.choice((0, 3)))]
 
 
 def folded_lists(rng):
@@ -241,7 +240,7 @@ def folded_lists(rng):
     script = Script()
     script.sketch(1, params)
     script.sketch(2, small)
-    entries, further = any_entries(rng), small_entries(rng, 5)
+    entries, further = any_entries(rng, params), small_entries(rng, params, 5)
     put_in(rng, script, 1, entries)
     script.add("fold", 1, (m2,))
     put_in(rng, script, 2, entries)
@@ -310,8 +309,8 @@ def folded_files(rng):
     params = any_sizes(rng)
     m2 = any_divisor(rng, params.m)
     small = with_size(params, m2)
-    entries = small_entries(rng, 9) + rng.choice(([], [(0, 5)]))
-    further = small_entries(rng, 4)
+    entries = small_entries(rng, params, 9) + rng.choice(([], [(0, 5)]))
+    further = small_entries(rng, params, 4)
     script = Script()
     script.sketch(1, params)
     script.sketch(2, small)
@@ -339,7 +338,7 @@ def folded_files(rng):
 def largest_folds(rng):
     """The largest sketch, or nearly: all of one count, half at either limit, or empty; folded to any divisor, filled further and folded again."""
     d = rng.randint(2, 4)
-    params = Params(d, rng.choice((16384, 16384, 16383, 16380)), four_pairs(rng, d))
+    params = params_of(rng, d, rng.choice((16384, 16384, 16383, 16380)))
     size = params.d * params.m
     m2 = any_divisor(rng, params.m)
     many = params.m // m2
@@ -356,7 +355,7 @@ def largest_folds(rng):
     if rng.random() < 0.2:
         script.bucket(place(rng, 0, size - 1), *damaged(rng))
     script.add("fold", 1, (m2,))
-    put_in(rng, script, 1, small_entries(rng, 9))
+    put_in(rng, script, 1, small_entries(rng, params, 9))
     script.add("fold", 1, (any_divisor(rng, m2),))
     set_lengths(script, 1, size)
     script.add("show")

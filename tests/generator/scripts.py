@@ -1,6 +1,6 @@
 """Scripts: which kinds there are, how often each is made, and those that break off or mean nothing."""
 
-from generator import script_calls, script_files, script_folds
+from generator import script_calls, script_files, script_fingerprints, script_folds
 from generator.commands import COMMANDS, MOST_BYTES, WITH_BYTES, Script
 from generator.files import MOST, P, WORD
 from generator.values import any_flow, any_params, small_entries
@@ -12,12 +12,12 @@ def any_calls(rng):
     script = Script()
     for sketch in (1, 2):
         script.sketch(sketch, params)
-    script.packets(small_entries(rng, 5))
+    script.packets(small_entries(rng, params, 5))
     script.table(params, rng.randint(0, 6), 0)
     script.length("output", rng.choice((60, 120, 250)))
     for _ in range(rng.randint(5, 25)):
         sketch = rng.choice((1, 1, 2))
-        name, operands = rng.choice(script_calls.calls(rng, params)[:6] + [("insert", (any_flow(rng), rng.randint(1, 9)))] * 3)
+        name, operands = rng.choice(script_calls.calls(rng, params)[:6] + [("insert", (any_flow(rng, params), rng.randint(1, 9)))] * 3)
         script.add(name, sketch, operands)
         if rng.random() < 0.1:
             script.bucket(rng.randrange(params.d * params.m), rng.randint(-3, 3), rng.randint(0, P - 1), sketch)
@@ -70,6 +70,9 @@ KINDS = (
     (script_folds.folds, 8), (script_folds.fold_limits, 10), (script_folds.fold_orders, 12), (script_folds.folds_of_folds, 5),
     (script_folds.folded_lists, 5), (script_folds.folded_differences, 8), (script_folds.folded_files, 6),
     (script_folds.largest_folds, 1.5),
+    (script_fingerprints.fifth_pairs, 8), (script_fingerprints.edge_flows, 8), (script_fingerprints.across_profiles, 8),
+    (script_fingerprints.heads_of_ten, 8), (script_fingerprints.cut_heads, 2), (script_fingerprints.near_fingerprints, 12),
+    (script_fingerprints.in_both_profiles, 10), (script_fingerprints.folded_profiles, 6),
     (any_calls, 10), (any_operands, 6), (broken_off, 4), (empty, 0.1),
 )
 

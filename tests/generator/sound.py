@@ -2,14 +2,16 @@
 
 import collections
 
-from generator.files import MOST, P, Params
-from generator.values import MOST_BUCKETS, any_flow, any_pair, any_params, four_pairs, position, small_entries, split, uniform_flow
+from generator.files import LAST, MOST, P, Params
+from generator.values import (
+    MOST_BUCKETS, any_fifth, any_flow, any_pair, any_params, extended, four_pairs, last_flow, params_of, position, small_entries,
+    sometimes_constant, split, uniform_flow, with_constant)
 
 
 def lost(rng):
     """Some packets of some flows are lost on the way."""
     params = any_params(rng, 2, 60)
-    upstream = [(any_flow(rng), rng.randint(1, 1000)) for _ in range(rng.randint(1, params.m * params.d))]
+    upstream = [(any_flow(rng, params), rng.randint(1, 1000)) for _ in range(rng.randint(1, params.m * params.d))]
     downstream = []
     for flow, number in upstream:
         arrived = rng.choice((number, number, number, 0, rng.randint(0, number)))
@@ -22,8 +24,8 @@ def lost(rng):
 def duplicates(rng):
     """Flows of which more arrives than was sent, or that were never sent."""
     params = any_params(rng, 2, 40)
-    entries = [(any_flow(rng), rng.choice((-1, -1, 1)) * rng.randint(1, 50)) for _ in range(rng.randint(1, params.m))]
-    return params, *split(rng, entries)
+    entries = [(any_flow(rng, params), rng.choice((-1, -1, 1)) * rng.randint(1, 50)) for _ in range(rng.randint(1, params.m))]
+    return params, *split(rng, params, entries)
 
 
 def ring_link(rng):
@@ -32,13 +34,13 @@ def ring_link(rng):
     most = rng.choice((9, MOST // 2))
     while True:
         numbers = [rng.randint(1, most) for _ in range(rng.randint(1, 14))]
-        losses = [(uniform_flow(rng), number) for number in numbers]
+        losses = [(uniform_flow(rng, params), number) for number in numbers]
         # The same sum on the other side, by the same numbers or by one packet more here and one less there.
         if len(numbers) > 1 and rng.random() < 0.5:
             numbers[0], numbers[1] = numbers[0] + 1, numbers[1] - 1
-        gains = [(uniform_flow(rng), number) for number in numbers if number]
+        gains = [(uniform_flow(rng, params), number) for number in numbers if number]
         if fits(params, losses) and fits(params, gains):
-            return params, *split(rng, losses + [(flow, -number) for flow, number in gains])
+            return params, *split(rng, params, losses + [(flow, -number) for flow, number in gains])
 
 
 def fits(params, entries):
@@ -55,7 +57,7 @@ def crowded(rng):
     """About as many lost flows as a sketch can give back, or more."""
     params = any_params(rng, 3, 40)
     flows = int(params.d * params.m * rng.uniform(0.5, 1.4)) + 1
-    return params, *split(rng, [(uniform_flow(rng), rng.randint(1, 3)) for _ in range(flows)])
+    return params, *split(rng, params, [(uniform_flow(rng, params), rng.randint(1, 3)) for _ in range(flows)])
 
 
 def tiny(rng):
@@ -63,14 +65,14 @@ def tiny(rng):
     params = any_params(rng, 1, 4)
     numbers = rng.choice(((1, 3), (-3, 3), (-1000, 1000)))
     most = rng.choice((4, 10, 3 * params.d * params.m))
-    entries = [(any_flow(rng), rng.randint(*numbers)) for _ in range(rng.randint(1, most))]
-    return params, *split(rng, entries)
+    entries = [(any_flow(rng, params), rng.randint(*numbers)) for _ in range(rng.randint(1, most))]
+    return params, *split(rng, params, entries)
 
 
 def many_flows(rng):
     """Four arrays of two or three buckets: the walk finds flow after flow that never was, and some tables fill up."""
-    params = Params(4, rng.choice((2, 2, 3)), four_pairs(rng, 4))
-    return params, *split(rng, [(uniform_flow(rng), rng.randint(-9, 9)) for _ in range(rng.randint(4, 20))])
+    params = params_of(rng, 4, rng.choice((2, 2, 3)))
+    return params, *split(rng, params, [(uniform_flow(rng, params), rng.randint(-9, 9)) for _ in range(rng.randint(4, 20))])
 
 
 def wide(rng):
@@ -80,7 +82,7 @@ def wide(rng):
     def entries():
         total = MOST - rng.randint(0, 5)
         cuts = sorted(rng.sample(range(1, total), rng.randint(0, 3)))
-        return [(any_flow(rng), stop - start) for start, stop in zip([0] + cuts, cuts + [total])]
+        return [(any_flow(rng, params), stop - start) for start, stop in zip([0] + cuts, cuts + [total])]
 
     return params, entries(), entries()
 
@@ -90,11 +92,12 @@ def meets_the_range(rng):
     m = rng.randint(3, 8)
     low, step = rng.randint(1, 1000), rng.randint(1, 1000)
     first, third, second = (m * (low + i * step) for i in range(3))
+    last = rng.choice((P - 1, P - 1, LAST))
     while True:
         d = rng.randint(2, 4)
         pairs = tuple(pair for pair in four_pairs(rng, 4) if pair != (1, 0))
         params = Params(d, m, ((1, 0),) + pairs[:d - 1] + ((0, 0),) * (4 - d))
-        fourth = uniform_flow(rng)
+        fourth = rng.randint(1, last)
         array = rng.randrange(1, d)
         at = position(params, array, third)
         apart = all(position(params, array, flow) != at for flow in (first, second))
@@ -104,7 +107,7 @@ def meets_the_range(rng):
     reached = rng.choice((MOST - 1, MOST, MOST + 1, MOST + 2))
     streams = [[(first, half), (second, half)], [(fourth, reached - 2 * half)]]
     rng.shuffle(streams)
-    return params, *streams
+    return with_constant(rng, params) if last == LAST else params, *streams
 
 
 def meets_the_table(rng):
@@ -130,7 +133,7 @@ def meets_the_table(rng):
         [(false - m * step, quarter), (false + m * step, quarter)],
     ]
     rng.shuffle(streams)
-    return params, *streams
+    return sometimes_constant(rng, params), *streams
 
 
 # Differences whose walk ends in a way that is too rare to meet by chance; these were searched for. Each is the greatest
@@ -167,11 +170,39 @@ SEARCHED = (
 )
 
 
+# Likewise for fingerprints that are all one number: the places are those of the plain profile, and all flows that are found are in both.
+SEARCHED_WITH_FINGERPRINTS = (
+    # full
+    (10**6, Params(3, 3, ((1, 2), (930337942, 388909317), (543282571, 509004467), (0, 0))),
+     ((31, -1), (26, -1), (3, 1), (7, -3), (37, -4), (21, 4), (28, 2))),
+    (10**6, Params(4, 2, ((1300144367, 1834380567), (466904369, 675720487), (1753497478, 1989047189), (1, 5))),
+     ((179, 1), (122, -2), (164, -1), (171, 2), (167, -3), (182, 1))),
+    (10**6, Params(4, 3, ((1, 1), (1252059487, 1319964003), (2077510020, 124086053), (744761767, 2097505795))),
+     ((100005, 2), (100001, 4), (100034, -2), (100030, -2), (100012, 1))),
+    # full at the last pop
+    (10**6, Params(4, 2, ((1254291871, 2046344619), (1849126323, 912354005), (1, 0), (892580228, 600129672))),
+     ((100040, -4), (100814, 2), (100684, 2), (100685, 4), (100655, -4), (100743, 1), (100414, 3), (100772, -4), (100046, -4))),
+    (10**6, Params(4, 3, ((2012993015, 313009152), (974901886, 1534212256), (4, 7), (1218702796, 137468996))),
+     ((115, 2), (116, 2), (129, 1), (164, -1), (110, -2), (172, 1))),
+    # stuck at the last pop
+    (10**6, Params(4, 2, ((4, 1), (1, 1), (1442994003, 1570345034), (1551274440, 1852597129))),
+     ((137, -3), (111, -4), (139, 2), (105, 4), (139, -3), (125, 2), (105, -3), (131, 1), (104, -2), (102, -2), (108, -2), (104, 4))),
+    # range at the last pop
+    (1, Params(3, 2, ((1, 4), (101727904, 1587593261), (4, 2), (0, 0))),
+     ((645, -72880160), (490, -145760320), (505, -109320240), (401, -109320240), (827, 109320240), (791, 36440080))),
+    (1, Params(4, 2, ((3, 9), (1, 5), (1883479774, 330195916), (4, 3))),
+     ((118, -75452610), (119, -75452610), (107, 301810440), (116, 301810440), (114, 301810440), (113, -150905220), (107, 75452610),
+      (117, -75452610), (116, -75452610), (116, -301810440))),
+)
+
+
 def searched(rng):
-    """An ending of the table above. The flows that a walk finds stay the same where all counts are multiplied by one factor."""
-    most, params, entries = rng.choice(SEARCHED)
+    """An ending of the tables above. The flows that a walk finds stay the same where all counts are multiplied by one factor."""
+    most, params, entries = rng.choice(SEARCHED + SEARCHED_WITH_FINGERPRINTS)
+    if (most, params, entries) in SEARCHED_WITH_FINGERPRINTS:
+        params = with_constant(rng, params)
     factor = rng.choice((-1, 1)) * rng.choice((1, rng.randint(1, min(most, 10)), rng.randint(1, most)))
-    return params, *split(rng, [(flow, number * factor) for flow, number in entries])
+    return params, *split(rng, params, [(flow, number * factor) for flow, number in entries])
 
 
 def false_pure(rng):
@@ -179,14 +210,14 @@ def false_pure(rng):
     d = rng.randint(2, 4)
     m = rng.randint(2, 40)
     pairs = ((1, 0),) + tuple(pair for pair in four_pairs(rng, 4) if pair != (1, 0))
-    params = Params(d, m, pairs[:d] + ((0, 0),) * (4 - d))
+    params = sometimes_constant(rng, Params(d, m, pairs[:d] + ((0, 0),) * (4 - d)))
     entries = []
     for _ in range(rng.randint(1, 3)):
         first, second = rng.choice(((1, 1), (1, 2), (2, 1), (3, -1), (-1, -1), (-2, 1), (rng.randint(1, 50), rng.randint(1, 50))))
         step = abs(first + second) * rng.randint(1, 3)
         at, row = rng.randint(1, 41), rng.randint(0, m - 1)
         entries += [(row + m * at, first), (row + m * (at + step), second)]
-    return params, *split(rng, entries)
+    return params, *split(rng, params, entries)
 
 
 def comes_out_as_zero(rng):
@@ -201,8 +232,65 @@ def comes_out_as_zero(rng):
     pairs = ((a, b),) + tuple(pair for pair in four_pairs(rng, 4) if pair != (a, b))
     params = Params(d, m, pairs[:d] + ((0, 0),) * (4 - d))
     sign = rng.choice((1, -1))
-    entries = list(zip(flows, (sign * first, sign * second))) + rng.choice(([], small_entries(rng, 3)))
-    return params, *split(rng, entries)
+    entries = list(zip(flows, (sign * first, sign * second))) + rng.choice(([], small_entries(rng, params, 3)))
+    return params, *split(rng, params, entries)
+
+
+def crowd(rng, params, many, fits):
+    """So many flows in one bucket of the first array, whose pair is (1, 0), whose extended numbers have a mean that stands there too. Where that
+    is not too rare, in half of the cases they are together in all arrays, and the mean fits."""
+    first = any_flow(rng, params)
+    flows = [first]
+    together = params.m ** (params.d - 1) < 60 and rng.random() < 0.5
+    for _ in range(20000):
+        flow = rng.choice((uniform_flow, any_flow))(rng, params)
+        if (extended(params, flow) - extended(params, first)) % (many * params.m):
+            continue
+        if together and any(position(params, i, flow) != position(params, i, first) for i in range(1, params.d)):
+            continue
+        if len(flows) < many - 1 or fits(sum(extended(params, each) for each in flows + [flow]) // many):
+            flows.append(flow)
+        if len(flows) == many:
+            break
+    return flows
+
+
+def shared_buckets(rng):
+    """With fingerprints, two or three flows of one count in one bucket. Over their extended numbers the bucket passes as another number, which
+    mostly no flow has; in some cases one that a flow has was looked for."""
+    d, m = rng.randint(2, 4), rng.choice((1, 1, 2, 2, 3, 5, 8))
+    pairs = ((1, 0),) + tuple(pair for pair in four_pairs(rng, 4) if pair != (1, 0))
+    params = Params(d, m, pairs[:d] + ((0, 0),) * (4 - d), any_fifth(rng, pairs))
+    fits = rng.choice((lambda mean: True, lambda mean: True, lambda mean: extended(params, mean // 256) == mean))
+    entries = []
+    for _ in range(rng.choice((1, 1, 2))):
+        number = rng.choice((1, 1, -1, rng.randint(1, 99), MOST // 8))
+        entries += [(flow, number) for flow in crowd(rng, params, rng.choice((2, 2, 3)), fits)]
+    return params, *split(rng, params, entries + rng.choice(([], small_entries(rng, params, 3))))
+
+
+def comes_out_at_the_edge(rng):
+    """With fingerprints, two flows in one bucket that come out as flow 1 or 8388606, which is taken, or as 0 or 8388607 with the right
+    fingerprint, which is no flow."""
+    d, m = rng.randint(2, 4), rng.randint(1, 40)
+    pairs = ((1, 0),) + tuple(pair for pair in four_pairs(rng, 4) if pair != (1, 0))
+    params = with_constant(rng, Params(d, m, pairs[:d] + ((0, 0),) * (4 - d)))
+    edge, side = rng.choice(((0, 1), (1, 1), (LAST, -1), (LAST + 1, -1)))
+    times, step = rng.randint(1, 9), side * m * rng.randint(1, 1000)
+    number = rng.choice((1, -1)) * rng.choice((1, rng.randint(1, 10**6)))
+    # By one more of the flow that is nearer than of the other, which is taken away, the edge is met.
+    entries = [(edge + times * step, (times + 1) * number), (edge + (times + 1) * step, -times * number)]
+    return params, *split(rng, params, entries + rng.choice(([], small_entries(rng, params, 3))))
+
+
+def circling(rng):
+    """With fingerprints that are all one number, few buckets of small flows and small numbers: false flows are found again and again."""
+    d = rng.randint(2, 4)
+    params = with_constant(rng, Params(d, rng.choice((1, 2, 2, 2, 3, 4)), four_pairs(rng, d)))
+    most, numbers = rng.choice((20, 100, 5000)), rng.choice(((1, 1), (-1, 1), (1, 3), (-4, 4)))
+    factor = rng.choice((1, 1, rng.randint(1, 10**6)))
+    entries = [(rng.randint(1, most), factor * rng.randint(*numbers)) for _ in range(rng.randint(2, 3 * params.d * params.m))]
+    return params, *split(rng, params, entries)
 
 
 def cancelled(rng):
@@ -211,30 +299,30 @@ def cancelled(rng):
     number = rng.randint(1, 5)
     entries = []
     for _ in range(rng.randint(1, 3)):
-        entries += [(any_flow(rng), number), (any_flow(rng), -number)]
-    return params, *split(rng, entries)
+        entries += [(any_flow(rng, params), number), (any_flow(rng, params), -number)]
+    return params, *split(rng, params, entries)
 
 
 def at_the_limits(rng):
-    """Counts that reach the limit exactly, at once or in two steps, in either stream or both; flows 1 and p - 1."""
+    """Counts that reach the limit exactly, at once or in two steps, in either stream or both; the first and the last flow."""
     params = any_params(rng, 1, 6)
 
     def entries(flow):
         first = rng.choice((MOST, 1, MOST - 1, rng.randint(1, MOST)))
         return [(flow, first)] + ([(flow, MOST - first)] if first < MOST else [])
 
-    flow = rng.choice((1, P - 1, any_flow(rng)))
-    other = rng.choice((flow, any_flow(rng)))
+    flow = rng.choice((1, last_flow(params), any_flow(rng, params)))
+    other = rng.choice((flow, any_flow(rng, params)))
     sides = rng.choice(((True, False), (False, True), (True, True)))
-    upstream = entries(flow) if sides[0] else small_entries(rng, 3)
-    downstream = entries(other) if sides[1] else small_entries(rng, 3)
+    upstream = entries(flow) if sides[0] else small_entries(rng, params, 3)
+    downstream = entries(other) if sides[1] else small_entries(rng, params, 3)
     return params, upstream, downstream
 
 
 def nothing_lost(rng):
     """Two streams of one sketch: empty, or the same packets in another order or in other portions."""
     params = any_params(rng)
-    entries = small_entries(rng, 6)
+    entries = small_entries(rng, params, 6)
     portions = [(flow, 1) for flow, number in entries for _ in range(number)]
     rng.shuffle(portions)
     return params, entries, rng.choice((entries, portions))
@@ -244,14 +332,14 @@ def at_the_size(rng):
     """As many buckets as the report accepts, one fewer or one more in each array; far more; and the fewest."""
     d = rng.randint(2, 4)
     m = rng.choice((MOST_BUCKETS // d,) * 3 + (MOST_BUCKETS // d - 1, MOST_BUCKETS // d + 1, 1, 1535, 1536, 1537, 16384, 16385))
-    params = Params(d, m, four_pairs(rng, d))
-    return params, *split(rng, small_entries(rng, 20))
+    params = params_of(rng, d, m)
+    return params, *split(rng, params, small_entries(rng, params, 20))
 
 
 def large(rng):
     """Some thousands of records."""
     params = any_params(rng, 200)
-    upstream = [(uniform_flow(rng), rng.randint(1, 9)) for _ in range(rng.randint(1000, 6000))]
+    upstream = [(uniform_flow(rng, params), rng.randint(1, 9)) for _ in range(rng.randint(1000, 6000))]
     chance = rng.choice((0.02, 0.1, 0.2, 0.5))
     downstream = [entry for entry in upstream if rng.random() > chance]
     return params, upstream, downstream

@@ -143,7 +143,8 @@ static void show_params(const uint32_t *params) {
     printf("done d %u m %u pairs", params[GABUNLITIK_D], params[GABUNLITIK_M]);
     for (size_t i = 0; i < 4; i++)
         printf(" %u %u", params[GABUNLITIK_MULTIPLIERS + i], params[GABUNLITIK_OFFSETS + i]);
-    printf("\n");
+    printf(" prime %u fifth %u %u sort %u\n", params[GABUNLITIK_PRIME], params[GABUNLITIK_FIFTH_MULTIPLIER],
+           params[GABUNLITIK_FIFTH_OFFSET], params[GABUNLITIK_SORT]);
 }
 
 static void head(const uint8_t *bytes, size_t length) {

@@ -6,7 +6,7 @@ static const struct {
     const char *name;
     size_t operands, counting, unit;
 } commands[] = {
-    [PARAMS] = {"params", 10, 0, 0},
+    [PARAMS] = {"params", 14, 0, 0},
     [LENGTH] = {"length", 2, 0, 0},
     [STORE] = {"store", 3, 2, 4},
     [FILL] = {"fill", 4, 0, 0},

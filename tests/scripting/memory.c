@@ -35,7 +35,7 @@ int32_t *counts_of(struct numbers *numbers) {
     return (int32_t *)numbers->room;
 }
 
-/* In a script each multiplier stands before its offset. */
+/* In a script each multiplier stands before its offset. The numbers after the four pairs stand as in the array. */
 void set_params(struct given given) {
     uint32_t *params = memory.sketches[given.sketch].params;
     params[GABUNLITIK_D] = operand(given, 0);
@@ -44,6 +44,10 @@ void set_params(struct given given) {
         params[GABUNLITIK_MULTIPLIERS + i] = operand(given, 2 + 2 * i);
         params[GABUNLITIK_OFFSETS + i] = operand(given, 3 + 2 * i);
     }
+    params[GABUNLITIK_PRIME] = operand(given, 10);
+    params[GABUNLITIK_FIFTH_MULTIPLIER] = operand(given, 11);
+    params[GABUNLITIK_FIFTH_OFFSET] = operand(given, 12);
+    params[GABUNLITIK_SORT] = operand(given, 13);
 }
 
 static size_t least(size_t m, size_t n) {

@@ -5,7 +5,7 @@
 #include "gabunlitik.h"
 
 /* One number more than the largest sketch has buckets, one byte more than its file has, and the bytes of a script. */
-enum { MOST = 65537, MOST_OUTPUT = 852012, MOST_SCRIPT = 65536 };
+enum { MOST = 65537, MOST_OUTPUT = 852020, MOST_SCRIPT = 65536 };
 
 enum command {
     PARAMS = 1,

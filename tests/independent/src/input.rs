@@ -18,7 +18,7 @@ pub fn read(bytes: &[u8]) -> Result<(Sketch, Sketch), Refusal> {
 /// given, the file's must equal them.
 fn stream(bytes: &[u8], start: usize, given: Option<&Params>) -> Result<(Sketch, usize), Refusal> {
     let (params, after_head) = records::head(bytes, start)?;
-    if !params.keep_the_rules() || params.d * params.m > MOST_BUCKETS {
+    if params.d * params.m > MOST_BUCKETS {
         return Err(Fault::Param.at(start));
     }
     if given.is_some_and(|given| *given != params) {

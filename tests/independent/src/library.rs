@@ -3,7 +3,7 @@
 //! A call works on a copy of the lent sketch, which is put back only where nothing was refused.
 
 use crate::records::{self, BUCKET, END, PACKETS};
-use crate::sketch::{judge_flow, judge_number, Bucket, Fault, Params, Refusal, Sketch};
+use crate::sketch::{judge_number, Bucket, Fault, Params, Refusal, Sketch};
 use crate::walk::{self, Walked};
 
 /// The longest table, and the most packets that a stream is written from.
@@ -136,7 +136,7 @@ impl Lent<'_> {
 
     /// A file's head, its parameters and the given ones; the offset after the head.
     fn judge_head(&self, bytes: &[u8]) -> Result<usize, Refusal> {
-        let (params, after) = read_head(bytes)?;
+        let (params, after) = records::head(bytes, 0)?;
         self.judge_params()?;
         refuse_if(params != self.params, Fault::Mismatch)?;
         Ok(after)
@@ -158,13 +158,6 @@ impl Lent<'_> {
         sketch.judge_damage()?;
         put_file(output, &file)
     }
-}
-
-/// The parameters in the head of a file, which keep the rules, and the offset after it.
-pub fn read_head(bytes: &[u8]) -> Result<(Params, usize), Refusal> {
-    let (params, after) = records::head(bytes, 0)?;
-    refuse_if(!params.keep_the_rules(), Fault::Param)?;
-    Ok((params, after))
 }
 
 /// Reads the buckets of a sketch file from after its head on into a sketch of zeros; the offset after its end.
@@ -209,7 +202,7 @@ pub fn write_stream(params: &Params, flows: &[i64], numbers: &[i64], output: &mu
     refuse_if(file.len() > output.len(), Fault::Length)?;
     // A writer judges as any call does: the lowest number over all entries, so all flows before the first number.
     for &flow in flows {
-        judge_flow(flow)?;
+        params.judge_flow(flow)?;
     }
     for &number in numbers {
         judge_number(number)?;
@@ -224,10 +217,12 @@ fn put_file(output: &mut [i64], file: &[u8]) -> Result<usize, Refusal> {
     Ok(file.len())
 }
 
-/// Whether a flow may be asked for in an array.
-pub fn judge_place(params: &Params, array: i64, flow: i64) -> Result<(), Refusal> {
+/// Where a flow stands in an array: its position, and its index in the whole sketch.
+pub fn place(params: &Params, array: i64, flow: i64) -> Result<(i64, i64), Refusal> {
     refuse_if(!params.keep_the_rules() || array < 1 || array > params.d, Fault::Param)?;
-    judge_flow(flow)
+    params.judge_flow(flow)?;
+    let sketched = params.sketched(flow);
+    Ok((params.position(array, sketched), params.index(array, sketched)))
 }
 
 /// The two table slices.

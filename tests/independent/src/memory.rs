@@ -7,7 +7,7 @@ use crate::sketch::Params;
 const MOST: usize = 65537;
 
 /// One byte more than the longest sketch file has.
-const MOST_OUTPUT: usize = 852012;
+const MOST_OUTPUT: usize = 852020;
 
 /// The numbers of the slices: those of the chosen sketch, the table, the queue and the marks, a list of packets, the output.
 const COUNTS: i64 = 0;
@@ -90,7 +90,7 @@ pub struct Slices<'a> {
 impl Memory {
     /// Parameters, lengths and content are all 0.
     pub fn new() -> Memory {
-        let none = Params { d: 0, m: 0, pairs: [(0, 0); 4] };
+        let none = Params { d: 0, m: 0, pairs: [(0, 0); 4], prime: 0, fifth: (0, 0), sort: 0 };
         let slice = || Slice::new(MOST);
         Memory {
             params: [none, none],

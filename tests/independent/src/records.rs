@@ -2,10 +2,12 @@
 
 use crate::sketch::{Fault, Params, Refusal, Sketch};
 
-pub const HEAD: u8 = 1;
+const HEAD: u8 = 1;
 pub const PACKETS: u8 = 2;
 pub const BUCKET: u8 = 3;
 pub const END: u8 = 4;
+/// The head of a file of the profile with fingerprints.
+const HEAD_WITH_FIFTH: u8 = 10;
 
 pub struct Record<'a> {
     pub at: usize,
@@ -39,19 +41,32 @@ fn body_length(kind: u8) -> Option<usize> {
         PACKETS => Some(8),
         BUCKET => Some(12),
         END => Some(4),
+        HEAD_WITH_FIFTH => Some(45),
         _ => None,
     }
 }
 
-/// The head at an offset, whose parameters are not judged, and the offset after it.
+/// The parameters in the head at an offset, which keep the rules, and the offset after it: FORM where no head is there, else PARAM.
 pub fn head(bytes: &[u8], at: usize) -> Result<(Params, usize), Refusal> {
     let head = record(bytes, at)?;
-    if head.kind != HEAD {
+    if head.kind != HEAD && head.kind != HEAD_WITH_FIFTH {
         return Err(head.refused(Fault::Form));
     }
     let pair = |i: usize| (number(head.body, 5 + 8 * i), number(head.body, 9 + 8 * i));
-    let pairs = [pair(0), pair(1), pair(2), pair(3)];
-    Ok((Params { d: i64::from(head.body[0]), m: number(head.body, 1), pairs }, head.after()))
+    let params = Params {
+        d: i64::from(head.body[0]),
+        m: number(head.body, 1),
+        pairs: [pair(0), pair(1), pair(2), pair(3)],
+        prime: 1,
+        fifth: if head.kind == HEAD { (0, 0) } else { pair(4) },
+        sort: 0,
+    };
+    // A head of kind 10 says that there are fingerprints, so that (0, 0) is no fifth pair there.
+    let told = params.has_fingerprints() == (head.kind == HEAD_WITH_FIFTH);
+    if !told || !params.keep_the_rules() {
+        return Err(head.refused(Fault::Param));
+    }
+    Ok((params, head.after()))
 }
 
 /// Inserts the packets of a stream file from after its head on; the offset after its end. What was inserted before a
@@ -94,11 +109,13 @@ pub fn signed(body: &[u8], at: usize) -> i64 {
     if number < 1 << 31 { number } else { number - (1 << 32) }
 }
 
-/// A head's bytes.
+/// A head's bytes. In the plain profile there is no fifth pair in them.
 pub fn head_bytes(params: &Params) -> Vec<u8> {
-    let mut bytes = vec![HEAD, params.d as u8];
+    let kind = if params.has_fingerprints() { HEAD_WITH_FIFTH } else { HEAD };
+    let mut bytes = vec![kind, params.d as u8];
     put(&mut bytes, params.m);
-    for (a, b) in params.pairs {
+    let fifth = params.has_fingerprints().then_some(params.fifth);
+    for (a, b) in params.pairs.into_iter().chain(fifth) {
         put(&mut bytes, a);
         put(&mut bytes, b);
     }

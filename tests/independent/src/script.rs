@@ -4,7 +4,7 @@
 use crate::library::{self, Lent, Table};
 use crate::memory::{self, Memory};
 use crate::print;
-use crate::records::{number, signed};
+use crate::records::{self, number, signed};
 use crate::sketch::{Bucket, Params, Refusal};
 use crate::walk::{Entry, Walked};
 
@@ -61,7 +61,7 @@ pub fn run(bytes: &[u8]) -> String {
 fn length(name: u8, rest: &[u8]) -> Option<usize> {
     let told = |at: usize| if rest.len() < at + 4 { 0 } else { number(rest, at) as usize };
     match name {
-        PARAMS => Some(40),
+        PARAMS => Some(56),
         LENGTH | INSERT | WITHDRAW | POSITION | INDEX => Some(8),
         STORE => Some(12 + 4 * told(8)),
         FILL => Some(16),
@@ -104,8 +104,15 @@ fn command(memory: &mut Memory, name: u8, given: &[u8]) -> String {
 }
 
 fn params(given: &[u8]) -> Params {
-    let pair = |i: usize| (number(given, 8 + 8 * i), number(given, 12 + 8 * i));
-    Params { d: number(given, 0), m: number(given, 4), pairs: [pair(0), pair(1), pair(2), pair(3)] }
+    let pair = |at: usize| (number(given, at), number(given, at + 4));
+    Params {
+        d: number(given, 0),
+        m: number(given, 4),
+        pairs: [pair(8), pair(16), pair(24), pair(32)],
+        prime: number(given, 40),
+        fifth: pair(44),
+        sort: number(given, 52),
+    }
 }
 
 /// Puts numbers into a slice, each `step` bytes after the one before: with step 0 the same number everywhere. What would
@@ -128,24 +135,25 @@ fn store(memory: &mut Memory, given: &[u8], step: usize) {
 
 fn place(params: &Params, name: u8, given: &[u8]) -> String {
     let (array, flow) = (number(given, 0), number(given, 4));
-    let judged = library::judge_place(params, array, flow);
+    let found = library::place(params, array, flow);
     if name == POSITION {
-        answer("position", judged.map(|()| params.position(array, flow).to_string()))
+        answer("position", found.map(|(position, _)| position.to_string()))
     } else {
-        answer("index", judged.map(|()| params.index(array, flow).to_string()))
+        answer("index", found.map(|(_, index)| index.to_string()))
     }
 }
 
 /// What the head of a file says.
 fn head(bytes: &[u8]) -> Result<String, Refusal> {
-    let (params, _) = library::read_head(bytes)?;
+    let (params, _) = records::head(bytes, 0)?;
     Ok(told_params(&params))
 }
 
 /// The answer of a call that gives parameters.
 fn told_params(params: &Params) -> String {
     let pairs: String = params.pairs.iter().map(|(a, b)| format!(" {a} {b}")).collect();
-    format!("done d {} m {} pairs{pairs}", params.d, params.m)
+    let Params { d, m, prime, fifth: (a, b), sort, .. } = params;
+    format!("done d {d} m {m} pairs{pairs} prime {prime} fifth {a} {b} sort {sort}")
 }
 
 /// Folds the chosen sketch. Where that is done, later commands are lent the folded one alone.

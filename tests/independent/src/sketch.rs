@@ -1,10 +1,15 @@
-//! The sketch: its parameters and their rules, where a flow stands, insertion, addition, subtraction and the fold with their refusals.
+//! The sketch: its parameters and their rules, what is sketched for a flow and where it stands, insertion, addition, subtraction and the
+//! fold with their refusals.
 
 /// The prime 2^31 - 1.
 pub const P: i64 = 2147483647;
 
 /// Counts stand between -MOST and MOST.
 pub const MOST: i64 = P - 1;
+
+/// The last flow where flows have fingerprints, and how many fingerprints there are.
+const LAST_WITH_FINGERPRINT: i64 = 8388606;
+const FINGERPRINTS: i64 = 256;
 
 /// The numbers of the refusals.
 #[derive(Clone, Copy)]
@@ -43,33 +48,72 @@ pub struct Params {
     pub m: i64,
     /// There is always room for four; pair i of the scope is `pairs[i - 1]`.
     pub pairs: [(i64, i64); 4],
+    /// The number of the prime: 1, until there is a second one.
+    pub prime: i64,
+    /// The pair of the fingerprints; (0, 0) in the plain profile, which has none.
+    pub fifth: (i64, i64),
+    /// Always 0: kept for a later request.
+    pub sort: i64,
 }
 
 impl Params {
     pub fn keep_the_rules(&self) -> bool {
-        if !(2..=4).contains(&self.d) || !(1..=16384).contains(&self.m) {
+        if !(2..=4).contains(&self.d) || !(1..=16384).contains(&self.m) || self.prime != 1 || self.sort != 0 {
             return false;
         }
+        let in_limits = |&(a, b): &(i64, i64)| 1 <= a && a < P && 0 <= b && b < P;
         let (used, past) = self.pairs.split_at(self.d as usize);
-        let in_limits = used.iter().all(|&(a, b)| 1 <= a && a < P && 0 <= b && b < P);
         let no_two_equal = (0..used.len()).all(|i| !used[..i].contains(&used[i]));
-        in_limits && no_two_equal && past.iter().all(|&pair| pair == (0, 0))
+        used.iter().all(in_limits)
+            && no_two_equal
+            && past.iter().all(|&pair| pair == (0, 0))
+            && (!self.has_fingerprints() || in_limits(&self.fifth))
     }
 
-    /// Where a flow stands in an array, from 0; arrays count from 1.
-    pub fn position(&self, array: i64, flow: i64) -> i64 {
+    /// Whether these are of the profile with fingerprints.
+    pub fn has_fingerprints(&self) -> bool {
+        self.fifth != (0, 0)
+    }
+
+    fn fingerprint(&self, flow: i64) -> i64 {
+        let (a, b) = self.fifth;
+        (a * flow + b) % P % FINGERPRINTS
+    }
+
+    /// What is sketched for a flow: the flow, or its extended number.
+    pub fn sketched(&self, flow: i64) -> i64 {
+        if self.has_fingerprints() { flow * FINGERPRINTS + self.fingerprint(flow) } else { flow }
+    }
+
+    /// The flow for which a number is sketched; None where it is not sketched for any.
+    pub fn flow_of(&self, sketched: i64) -> Option<i64> {
+        let flow = if self.has_fingerprints() { sketched / FINGERPRINTS } else { sketched };
+        (self.judge_flow(flow).is_ok() && self.sketched(flow) == sketched).then_some(flow)
+    }
+
+    /// Flow 0 is nobody's. With fingerprints there are fewer flows.
+    pub fn judge_flow(&self, flow: i64) -> Result<(), Refusal> {
+        let last = if self.has_fingerprints() { LAST_WITH_FINGERPRINT } else { P - 1 };
+        if flow == 0 || flow > last {
+            return Err(Fault::Flow.refused());
+        }
+        Ok(())
+    }
+
+    /// Where a sketched number stands in an array, from 0; arrays count from 1.
+    pub fn position(&self, array: i64, sketched: i64) -> i64 {
         let (a, b) = self.pairs[array as usize - 1];
-        (a * flow + b) % P % self.m
+        (a * sketched + b) % P % self.m
     }
 
-    /// The index of a flow's bucket in an array.
-    pub fn index(&self, array: i64, flow: i64) -> i64 {
-        (array - 1) * self.m + self.position(array, flow)
+    /// The index of a sketched number's bucket in an array.
+    pub fn index(&self, array: i64, sketched: i64) -> i64 {
+        (array - 1) * self.m + self.position(array, sketched)
     }
 
-    /// The indexes of a flow's buckets, in rising array order.
-    pub fn indexes(&self, flow: i64) -> Vec<usize> {
-        (1..=self.d).map(|array| self.index(array, flow) as usize).collect()
+    /// The indexes of a sketched number's buckets, in rising array order.
+    pub fn indexes(&self, sketched: i64) -> Vec<usize> {
+        (1..=self.d).map(|array| self.index(array, sketched) as usize).collect()
     }
 }
 
@@ -124,10 +168,11 @@ impl Sketch {
     }
 
     fn put(&mut self, sign: i64, flow: i64, number: i64) -> Result<(), Refusal> {
-        judge_flow(flow)?;
+        self.params.judge_flow(flow)?;
         judge_number(number)?;
+        let sketched = self.params.sketched(flow);
         // In rising array order, so the first of them that is at fault has the lowest index.
-        let indexes = self.params.indexes(flow);
+        let indexes = self.params.indexes(sketched);
         if let Some(&index) = indexes.iter().find(|&&index| self.buckets[index].is_damaged()) {
             return Err(Fault::Damage.at(index));
         }
@@ -137,7 +182,7 @@ impl Sketch {
         for index in indexes {
             let bucket = &mut self.buckets[index];
             bucket.count += sign * number;
-            bucket.idsum = (bucket.idsum + sign * (number * flow % P)).rem_euclid(P);
+            bucket.idsum = (bucket.idsum + sign * (number * sketched % P)).rem_euclid(P);
         }
         Ok(())
     }
@@ -180,14 +225,6 @@ impl Sketch {
             None => Ok(folded),
         }
     }
-}
-
-/// Flow 0 is nobody's.
-pub fn judge_flow(flow: i64) -> Result<(), Refusal> {
-    if flow == 0 || flow >= P {
-        return Err(Fault::Flow.refused());
-    }
-    Ok(())
 }
 
 pub fn judge_number(number: i64) -> Result<(), Refusal> {

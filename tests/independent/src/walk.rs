@@ -49,11 +49,11 @@ pub fn walk(sketch: &mut Sketch, slots: usize, allowance: usize) -> Walked {
 
         // Read once: the popped bucket is among those that the take changes.
         let read = sketch.buckets[index];
-        let Some(flow) = pure(&sketch.params, index, read) else {
+        let Some((flow, sketched)) = pure(&sketch.params, index, read) else {
             continue;
         };
 
-        let indexes = sketch.params.indexes(flow);
+        let indexes = sketch.params.indexes(sketched);
         let slot = slot_of.get(&flow).copied();
         // The whole take is judged before any of it is done. A new entry's count is a bucket's, so it is in its limits.
         let leaves = |count: i64| !(-MOST..=MOST).contains(&count);
@@ -93,15 +93,19 @@ pub fn walk(sketch: &mut Sketch, slots: usize, allowance: usize) -> Walked {
     Walked { ending, entries, lost: sum(lost), extra: sum(extra), pops }
 }
 
-/// The flow of a pure bucket. One whose flow comes out as 0 is not pure.
-fn pure(params: &Params, index: usize, bucket: Bucket) -> Option<i64> {
+/// The flow of a pure bucket, and what is sketched for it. The number that comes out has to stand in this place and to be one that is
+/// sketched for a flow: not 0, nor with fingerprints one whose last eight bits are not those of the flow before them.
+fn pure(params: &Params, index: usize, bucket: Bucket) -> Option<(i64, i64)> {
     if bucket.count == 0 {
         return None;
     }
-    let flow = inverse(bucket.count.rem_euclid(P)) * bucket.idsum % P;
+    let sketched = inverse(bucket.count.rem_euclid(P)) * bucket.idsum % P;
     let array = index as i64 / params.m + 1;
     let position = index as i64 % params.m;
-    (flow != 0 && params.position(array, flow) == position).then_some(flow)
+    if params.position(array, sketched) != position {
+        return None;
+    }
+    params.flow_of(sketched).map(|flow| (flow, sketched))
 }
 
 /// The inverse of 1..p-1 modulo p: its power p - 2, by Fermat.
