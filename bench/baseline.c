@@ -6,8 +6,9 @@
 // Takes out packets that were put in before: no limit is in reach.
 static void withdraw(struct sketch *sketch, uint32_t flow, uint32_t number) {
     uint32_t buckets[4];
-    find_buckets(&sketch->params, flow, buckets);
-    uint32_t weight = (uint32_t)((uint64_t)number * flow % PRIME);
+    uint32_t in_sketch = sketched(&sketch->params, flow);
+    find_buckets(&sketch->params, in_sketch, buckets);
+    uint32_t weight = (uint32_t)((uint64_t)number * in_sketch % PRIME);
     for (uint32_t array = 0; array < sketch->params.d; array++) {
         sketch->counts[buckets[array]] -= (int32_t)number;
         sketch->idsums[buckets[array]] = subtract_idsums(sketch->idsums[buckets[array]], weight);
@@ -66,7 +67,9 @@ static int keep_the_rules(const struct params *params) {
             if (params->a[j] == a && params->b[j] == b)
                 return 0;
     }
-    return 1;
+    if (has_fingerprints(params))
+        return is_pair_in_use(params->fifth_a, params->fifth_b);
+    return params->fifth_b == 0;
 }
 
 // The lowest damaged bucket, or the size of the sketch where there is none.
@@ -140,14 +143,17 @@ enum refusal baseline_fold(struct sketch *sketch, size_t counts_length, size_t i
 }
 
 enum refusal baseline_read_head(const uint8_t *bytes, struct params *params) {
-    if (bytes[0] != HEAD)
-        return FORM;
     params->d = bytes[1];
     params->m = word_at(bytes + 2);
     for (uint32_t i = 0; i < 4; i++) {
         params->a[i] = word_at(bytes + 6 + 8 * i);
         params->b[i] = word_at(bytes + 10 + 8 * i);
     }
+    params->fifth_a = bytes[0] == FINGERPRINT_HEAD ? word_at(bytes + 38) : 0;
+    params->fifth_b = bytes[0] == FINGERPRINT_HEAD ? word_at(bytes + 42) : 0;
+    // A head with fingerprints that has no multiplier for them is not one without them.
+    if (bytes[0] == FINGERPRINT_HEAD && params->fifth_a == 0)
+        return PARAM;
     return keep_the_rules(params) ? DONE : PARAM;
 }
 
@@ -160,15 +166,16 @@ static enum refusal judge_end(const uint8_t *bytes, size_t length, size_t at, si
     return length - at > END_BYTES ? FORM : DONE;
 }
 
+// Takes out the packets of the records that stand from a place on.
 static void withdraw_records(struct sketch *sketch, const uint8_t *bytes, size_t records) {
     while (records-- > 0) {
-        const uint8_t *record = bytes + HEAD_BYTES + PACKETS_BYTES * records;
+        const uint8_t *record = bytes + PACKETS_BYTES * records;
         withdraw(sketch, word_at(record + 1), word_at(record + 5));
     }
 }
 
 static enum refusal read_records(struct sketch *sketch, const uint8_t *bytes, size_t length, size_t *place) {
-    size_t at = HEAD_BYTES;
+    size_t first = head_bytes(bytes[0]), at = first;
     size_t records = 0;
     enum refusal refusal = DONE;
     while (length - at >= PACKETS_BYTES && bytes[at] == PACKETS) {
@@ -183,13 +190,13 @@ static enum refusal read_records(struct sketch *sketch, const uint8_t *bytes, si
     if (refusal == DONE)
         refusal = judge_end(bytes, length, at, records, place);
     if (refusal != DONE)
-        withdraw_records(sketch, bytes, records);
+        withdraw_records(sketch, bytes + first, records);
     return refusal;
 }
 
 enum refusal baseline_read_stream(struct sketch *sketch, const uint8_t *bytes, size_t length, size_t *place) {
     *place = 0;
-    if (length < HEAD_BYTES)
+    if (length == 0 || head_bytes(bytes[0]) == 0 || length < head_bytes(bytes[0]))
         return FORM;
     struct params params;
     enum refusal refusal = baseline_read_head(bytes, &params);

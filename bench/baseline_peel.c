@@ -63,8 +63,8 @@ static uint32_t inverse(uint32_t a) {
     return (uint32_t)(x < 0 ? x + PRIME : x);
 }
 
-// The flow that a bucket holds if it holds one alone. A count of 0 is not asked for.
-static uint32_t flow_of(int32_t count, uint32_t idsum) {
+// The number that a bucket holds if it holds one alone. A count of 0 is not asked for.
+static uint32_t number_of(int32_t count, uint32_t idsum) {
     uint32_t raised = count < 0 ? (uint32_t)count + PRIME : (uint32_t)count;
     return (uint32_t)((uint64_t)idsum * inverse(raised) % PRIME);
 }
@@ -99,13 +99,14 @@ static void take_from_buckets(struct walk *walk, struct sketch *sketch, struct r
     }
 }
 
-// Takes a flow out of its buckets into the table; the ending where that cannot be done, or 0.
-static enum ending take(struct walk *walk, struct sketch *sketch, struct table *table, struct room *room, uint32_t flow,
+// Takes the flow of which a number is sketched out of its buckets into the table; the ending where that cannot be done, or 0.
+static enum ending take(struct walk *walk, struct sketch *sketch, struct table *table, struct room *room, uint32_t number,
                         int32_t count, uint32_t idsum) {
     uint32_t buckets[4];
-    find_buckets(&sketch->params, flow, buckets);
+    find_buckets(&sketch->params, number, buckets);
     if (!can_take(sketch, buckets, count))
         return OUT_OF_RANGE;
+    uint32_t flow = flow_sketched_as(&sketch->params, number);
     uint32_t *cell = find_cell(room, table, flow);
     if (*cell != 0) {
         if (!is_within((int64_t)table->counts[*cell - 1] + count))
@@ -136,13 +137,13 @@ static enum ending run(struct walk *walk, struct sketch *sketch, struct table *t
         uint32_t idsum = sketch->idsums[k];
         if (count == 0)
             continue;
-        uint32_t flow = flow_of(count, idsum);
-        if (flow == 0)
+        uint32_t number = number_of(count, idsum);
+        if (!is_sketched(&sketch->params, number))
             continue;
         uint32_t array = k / sketch->params.m;
-        if (array * sketch->params.m + position(&sketch->params, array, flow) != k)
+        if (array * sketch->params.m + position(&sketch->params, array, number) != k)
             continue;
-        enum ending ending = take(walk, sketch, table, room, flow, count, idsum);
+        enum ending ending = take(walk, sketch, table, room, number, count, idsum);
         if (ending != 0)
             return ending;
     }

@@ -49,8 +49,9 @@ static void go_on(size_t bytes) {
     input.offset += bytes;
 }
 
-static enum refusal take_head(struct params *params) {
-    if (!is_at_hand(HEAD_BYTES))
+// Reads a head, and leaves it to the caller to go on.
+static enum refusal read_head(struct params *params) {
+    if (!is_at_hand(1) || head_bytes(input.next[0]) == 0 || !is_at_hand(head_bytes(input.next[0])))
         return FORM;
     enum refusal refusal = baseline_read_head(input.next, params);
     if (refusal == DONE && size_of(params) > MOST_BUCKETS)
@@ -76,19 +77,19 @@ static enum refusal take_records(struct sketch *sketch) {
 }
 
 static enum refusal take_both(struct sketch *upstream, struct sketch *downstream) {
-    enum refusal refusal = take_head(&upstream->params);
+    enum refusal refusal = read_head(&upstream->params);
     if (refusal != DONE)
         return refusal;
-    go_on(HEAD_BYTES);
+    go_on(head_bytes(input.next[0]));
     refusal = take_records(upstream);
     if (refusal != DONE)
         return refusal;
-    refusal = take_head(&downstream->params);
+    refusal = read_head(&downstream->params);
     if (refusal != DONE)
         return refusal;
     if (memcmp(&upstream->params, &downstream->params, sizeof upstream->params) != 0)
         return MISMATCH;
-    go_on(HEAD_BYTES);
+    go_on(head_bytes(input.next[0]));
     refusal = take_records(downstream);
     if (refusal != DONE)
         return refusal;

@@ -5,10 +5,15 @@
 #include <stdlib.h>
 #include <string.h>
 
-enum { CELLS_LOG2 = 17, MOST_ENDING = FULL };
+enum { CELLS_LOG2 = 17, MOST_ENDING = FULL, MOST_CROWD = 8 };
+
+// Without fingerprints, of flows anywhere; without them, of the flows that fingerprints leave room for; with them. Behind it those whose
+// fifth pair is not drawn: its multiplier is a number, or that of pair 1 by 256, or the pair is pair 1.
+enum profile { PLAIN, NARROW, FINGERPRINTS, BY_1, BY_2, BY_3, BY_256, BY_MINUS_256, BY_256_OF_PAIR_1, AS_PAIR_1, PROFILES };
 
 // Walks of one setting differ in their seed alone. A flow loses least to most packets; the allowance is pops a bucket.
 struct setting {
+    enum profile profile;
     uint32_t d;
     uint32_t m;
     uint32_t pops;
@@ -34,6 +39,9 @@ struct tally {
     uint64_t told_apart;
 };
 
+static const char *const profile_words[] = {"plain", "narrow",       "fingerprints",     "by_1",     "by_2", "by_3",
+                                            "by_256", "by_minus_256", "by_256_of_pair_1", "as_pair_1"};
+
 static struct packets packets;
 static struct list lost, listed;
 static int32_t counts[MOST_BUCKETS], table_counts[MOST_BUCKETS];
@@ -58,9 +66,36 @@ static void sort(struct list *list) {
     qsort(list->entries, list->length, sizeof *list->entries, compare_entries);
 }
 
+static uint32_t most_flow_of(enum profile profile) {
+    return profile == PLAIN ? MOST_FLOW : MOST_FINGERPRINT_FLOW;
+}
+
+static void choose_fifth(enum profile profile, struct params *params) {
+    static const uint32_t multipliers[PROFILES] = {
+        [BY_1] = 1, [BY_2] = 2, [BY_3] = 3, [BY_256] = 256, [BY_MINUS_256] = PRIME - 256};
+    if (multipliers[profile] != 0)
+        params->fifth_a = multipliers[profile];
+    if (profile == BY_256_OF_PAIR_1)
+        params->fifth_a = (uint32_t)(256ull * params->a[0] % PRIME);
+    if (profile == AS_PAIR_1) {
+        params->fifth_a = params->a[0];
+        params->fifth_b = params->b[0];
+    }
+}
+
+// The pair of the fingerprints has numbers of its own, so that a seed has the same flows in the profiles that have the same range.
+static struct params draw_params(enum profile profile, uint64_t *seed, uint32_t d, uint32_t m) {
+    uint64_t own_seed = ~*seed;
+    struct params params = make_params(seed, d, m);
+    if (profile >= FINGERPRINTS)
+        add_fingerprints(&params, &own_seed);
+    choose_fifth(profile, &params);
+    return params;
+}
+
 // Draws the lost flows. One that is drawn twice loses the packets of both: it has one right entry.
 static void draw_lost(const struct setting *setting, uint64_t *seed) {
-    make_packets(&packets, seed, setting->flows, setting->most - setting->least + 1);
+    make_packets(&packets, seed, setting->flows, most_flow_of(setting->profile), setting->most - setting->least + 1);
     lost.length = setting->flows;
     for (size_t i = 0; i < lost.length; i++)
         lost.entries[i] = entry_of(packets.flows[i], packets.numbers[i] + setting->least - 1);
@@ -105,7 +140,7 @@ static struct figures peel(struct sketch *sketch, uint32_t allowance) {
 
 // The difference of a seed: the sketch of the lost flows.
 static struct sketch difference(const struct setting *setting, uint64_t seed) {
-    struct params params = make_params(&seed, setting->d, setting->m);
+    struct params params = draw_params(setting->profile, &seed, setting->d, setting->m);
     draw_lost(setting, &seed);
     struct sketch sketch = fresh(&params);
     for (size_t i = 0; i < lost.length; i++)
@@ -151,7 +186,7 @@ static void count_flows(const struct params *params, uint32_t *flows_in, uint32_
     memset(flows_in, 0, sizeof *flows_in * size_of(params));
     memset(places_in, 0, sizeof *places_in * size_of(params));
     for (uint32_t place = 0; place < lost.length; place++) {
-        find_buckets(params, flow_of_entry(lost.entries[place]), buckets);
+        find_buckets(params, sketched(params, flow_of_entry(lost.entries[place])), buckets);
         for (uint32_t array = 0; array < params->d; array++) {
             flows_in[buckets[array]]++;
             places_in[buckets[array]] += place;
@@ -173,7 +208,7 @@ static int are_told_apart(const struct params *params) {
         if (flows_in[bucket] == 0)
             continue;
         uint32_t place = places_in[bucket];
-        find_buckets(params, flow_of_entry(lost.entries[place]), buckets);
+        find_buckets(params, sketched(params, flow_of_entry(lost.entries[place])), buckets);
         for (uint32_t array = 0; array < params->d; array++) {
             places_in[buckets[array]] -= place;
             if (--flows_in[buckets[array]] == 1)
@@ -205,7 +240,7 @@ static void print_tally(const struct setting *setting, uint64_t last_seed) {
     struct tally tally = {0};
     for (uint64_t seed = 1; seed <= last_seed; seed++)
         add_walk(&tally, setting, seed);
-    printf("%u,%u,%u,%u,%u,%u,%lu,%lu", setting->d, setting->d * setting->m, setting->pops, setting->flows,
+    printf("%s,%u,%u,%u,%u,%u,%u,%lu,%lu", profile_words[setting->profile], setting->d, setting->d * setting->m, setting->pops, setting->flows,
            setting->least, setting->most, (unsigned long)last_seed, (unsigned long)tally.told_apart);
     for (size_t i = 0; i < sizeof endings / sizeof *endings; i++)
         printf(",%lu", (unsigned long)tally.walks[endings[i]]);
@@ -250,7 +285,7 @@ static void print_flow_0(const struct setting *setting, uint64_t last_seed) {
 // Writes the input that has the report program do this walk: all lost packets upstream, none downstream.
 static void write_input(const struct setting *setting, uint64_t seed) {
     static struct stream stream;
-    struct params params = make_params(&seed, setting->d, setting->m);
+    struct params params = draw_params(setting->profile, &seed, setting->d, setting->m);
     draw_lost(setting, &seed);
     packets.length = lost.length;
     for (size_t i = 0; i < lost.length; i++) {
@@ -274,24 +309,40 @@ static void print_walk(const struct setting *setting, uint64_t seed) {
            (unsigned long)figures.extra);
 }
 
-static uint32_t draw_flow(uint64_t *seed) {
-    make_packets(&packets, seed, 1, 1);
+static uint32_t draw_flow(enum profile profile, uint64_t *seed) {
+    make_packets(&packets, seed, 1, most_flow_of(profile), 1);
     return packets.flows[0];
+}
+
+static uint32_t position_of_flow(const struct params *params, uint32_t flow) {
+    return position(params, 0, sketched(params, flow));
+}
+
+// Draws a flow that stands in this bucket of array 1 and is none of those before it.
+static uint32_t draw_neighbour(enum profile profile, const struct params *params, uint32_t bucket, const uint32_t *flows,
+                               int length, uint64_t *seed) {
+    for (;;) {
+        uint32_t flow = draw_flow(profile, seed);
+        int is_new = position_of_flow(params, flow) == bucket;
+        for (int i = 0; i < length; i++)
+            is_new &= flows[i] != flow;
+        if (is_new)
+            return flow;
+    }
 }
 
 // Whether a bucket of several flows passes the purity test. All stand in one bucket of array 1, so it is the first that
 // the walk pops, and an allowance of one pop leaves an entry exactly where it passed.
-static int passes(uint32_t m, const uint32_t *numbers, int flows, uint64_t seed) {
-    struct params params = make_params(&seed, 2, m);
+static int passes(enum profile profile, uint32_t m, const uint32_t *numbers, int length, uint64_t seed) {
+    struct params params = draw_params(profile, &seed, 2, m);
     struct sketch sketch = fresh(&params);
-    uint32_t flow = draw_flow(&seed);
-    uint32_t bucket = position(&params, 0, flow);
-    insert(&sketch, flow, numbers[0]);
-    for (int i = 1; i < flows; i++) {
-        do
-            flow = draw_flow(&seed);
-        while (position(&params, 0, flow) != bucket);
-        insert(&sketch, flow, numbers[i]);
+    uint32_t flows[MOST_CROWD];
+    flows[0] = draw_flow(profile, &seed);
+    uint32_t bucket = position_of_flow(&params, flows[0]);
+    insert(&sketch, flows[0], numbers[0]);
+    for (int i = 1; i < length; i++) {
+        flows[i] = draw_neighbour(profile, &params, bucket, flows, i, &seed);
+        insert(&sketch, flows[i], numbers[i]);
     }
     return peel(&sketch, 1).entries == 1;
 }
@@ -300,29 +351,38 @@ static uint32_t number_of(const char *word) {
     return (uint32_t)strtoul(word, NULL, 10);
 }
 
+static enum profile profile_of(const char *word) {
+    enum profile profile = PLAIN;
+    while (strcmp(word, profile_words[profile]) != 0)
+        if (++profile == PROFILES)
+            exit(1);
+    return profile;
+}
+
 static int print_passes(char **words, int length) {
-    uint32_t numbers[8];
-    int flows = length - 2;
-    if (flows < 1 || flows > 8)
+    uint32_t numbers[MOST_CROWD];
+    int flows = length - 3;
+    if (flows < 1 || flows > MOST_CROWD)
         return 1;
     for (int i = 0; i < flows; i++)
-        numbers[i] = number_of(words[2 + i]);
-    uint32_t last_seed = number_of(words[1]), passed = 0;
+        numbers[i] = number_of(words[3 + i]);
+    uint32_t last_seed = number_of(words[2]), passed = 0;
     for (uint64_t seed = 1; seed <= last_seed; seed++)
-        passed += (uint32_t)passes(number_of(words[0]), numbers, flows, seed);
+        passed += (uint32_t)passes(profile_of(words[0]), number_of(words[1]), numbers, flows, seed);
     printf("%u\n", passed);
     return 0;
 }
 
-// capacity tally|flow0|input|walk D M POPS FLOWS LEAST MOST SEED, or capacity passes M SEEDS NUMBER ..
+// capacity tally|flow0|input|walk PROFILE D M POPS FLOWS LEAST MOST SEED, or capacity passes PROFILE M SEEDS NUMBER ..
+// A profile is one of profile_words.
 int main(int length, char **words) {
     if (length > 3 && strcmp(words[1], "passes") == 0)
         return print_passes(words + 2, length - 2);
-    if (length != 9)
+    if (length != 10)
         return 1;
-    struct setting setting = {number_of(words[2]), number_of(words[3]), number_of(words[4]),
-                              number_of(words[5]), number_of(words[6]), number_of(words[7])};
-    uint32_t seed = number_of(words[8]);
+    struct setting setting = {profile_of(words[2]), number_of(words[3]), number_of(words[4]), number_of(words[5]),
+                              number_of(words[6]),  number_of(words[7]), number_of(words[8])};
+    uint32_t seed = number_of(words[9]);
     if (strcmp(words[1], "tally") == 0)
         print_tally(&setting, seed);
     else if (strcmp(words[1], "flow0") == 0)

@@ -131,22 +131,60 @@ def clean_cell(axes, tallies, sizes):
     return drawn
 
 
-def draw_clean(path, tallies, sizes):
-    drawn = [text(435, 22, "Share of walks that end clean", 15, more='font-weight="bold"')]
+def cells():
+    """A row of plots for each d, a column for each kind of losses: the words beside and above each plot, its axes, d and the losses."""
     for row, d in enumerate((2, 3, 4)):
         top = 66 + row * CELL_HEIGHT
-        drawn.append(upright(18, top + 75, f"d = {d}", 13))
         for column, (losses, words) in enumerate(COLUMNS):
             axes = Axes(72 + column * CELL_WIDTH, top, 215, 150, (0.05, 1.05), (-0.04, 1.04))
-            if row == 0:
-                drawn.append(text(axes.left + 107, top - 12, words, 13))
-            drawn += clean_cell(axes, [one for one in tallies if one.d == d and one.losses == losses], sizes)
+            beside = [upright(18, top + 75, f"d = {d}", 13)] if column == 0 else []
+            above = [text(axes.left + 107, top - 12, words, 13)] if row == 0 else []
+            yield beside + above, axes, d, losses
+
+
+def draw_clean(path, tallies, sizes):
+    drawn = [text(435, 22, "Share of walks that end clean", 15, more='font-weight="bold"')]
+    for words, axes, d, losses in cells():
+        drawn += words + clean_cell(axes, [one for one in tallies if one.d == d and one.losses == losses], sizes)
     bottom = 66 + 3 * CELL_HEIGHT
     drawn.append(text(435, bottom - 10, "load: lost flows a bucket", 13))
     for place, (size, style) in enumerate(zip(sizes, SIZE_STYLES)):
         drawn += legend_line(60 + 150 * place, bottom + 18, style, f"{size:,} buckets")
     drawn += legend_line(60 + 150 * len(sizes), bottom + 18, IDEAL, f"a perfect test, {sizes[-1]:,}", 4)
     write(path, 870, bottom + 36, drawn, "Share of walks that end clean, by load, arrays, losses and size")
+
+
+# The same walks in both profiles: a row of plots for each d, a column for each kind of losses.
+
+PROFILE_STYLES = (
+    (Style("#d07000", "1.5 3", "circle"), Style("#9a5400", "6 3", "square")),
+    (Style("#1878b8", "", "triangle"), Style("#301060", "", "diamond")),
+)
+PROFILE_WORDS = ("plain", "fingerprints")
+
+
+def profiles_cell(axes, grids, sizes):
+    drawn = frame(axes, (0.2, 0.4, 0.6, 0.8, 1.0), (0, 0.25, 0.5, 0.75, 1), y_words=percent_words)
+    ideal = [(one.load, one.told_apart / one.seeds) for one in grids[-1] if one.buckets == sizes[-1]]
+    drawn += curve(axes, ideal, IDEAL, 4)
+    for tallies, styles in zip(grids, PROFILE_STYLES):
+        for size, style in zip(sizes, styles):
+            drawn += curve(axes, [(one.load, one.clean / one.seeds) for one in tallies if one.buckets == size], style)
+    return drawn
+
+
+def draw_profiles(path, plain, with_fingerprints, sizes):
+    drawn = [text(435, 22, "Share of walks that end clean, plain and with fingerprints", 15, more='font-weight="bold"')]
+    for words, axes, d, losses in cells():
+        grids = [[one for one in grid if one.d == d and one.losses == losses] for grid in (plain, with_fingerprints)]
+        drawn += words + profiles_cell(axes, grids, sizes)
+    bottom = 66 + 3 * CELL_HEIGHT
+    drawn.append(text(435, bottom - 10, "load: lost flows a bucket", 13))
+    for line, (styles, words) in enumerate(zip(PROFILE_STYLES, PROFILE_WORDS)):
+        for place, (size, style) in enumerate(zip(sizes, styles)):
+            drawn += legend_line(60 + 240 * place, bottom + 18 + 22 * line, style, f"{words}, {size:,} buckets")
+    drawn += legend_line(560, bottom + 18, IDEAL, f"a perfect test, {sizes[-1]:,} buckets", 4)
+    write(path, 870, bottom + 58, drawn, "Share of walks that end clean in both profiles, by load, arrays, losses and size")
 
 
 # The endings by load, stacked.
@@ -198,21 +236,34 @@ def draw_endings(path, tallies):
 
 # The chance that a crowded bucket passes the purity test.
 
-CHANCE_STYLES = {32: Style("#d07000", "1.5 3", "circle"), 512: Style("#301060", "7 3", "diamond")}
+CHANCE_STYLES = {
+    ("plain", 32): Style("#d07000", "1.5 3", "circle"),
+    ("plain", 512): Style("#9a5400", "7 3", "square"),
+    ("fingerprints", 32): Style("#1878b8", "9 3 2 3", "triangle"),
+    ("fingerprints", 512): Style("#301060", "", "diamond"),
+}
+CHANCE_PLACES = [2, 3, 4, 5, 6, 7, 8, 10, 12, 16, 20, 24, 32, 64, 128, 256, 512, 2000, 10000]
+
+
+def derived(profile, m, q):
+    """What the page derives; between q and the next multiples of m the true chance wavers a little."""
+    print_share = 1 if profile == "plain" else 1 / q**3 + (1 - 1 / q**2) / 256
+    return print_share / min(q, m)
 
 
 def draw_chance(path, crowds):
-    axes = Axes(80, 50, 540, 330, (1.6, 12000), (0.001, 0.8), is_log=True)
-    drawn = [text(350, 24, "How often a bucket of several flows passes as one", 15, more='font-weight="bold"')]
-    drawn += frame(axes, (2, 4, 10, 32, 100, 512, 2000, 8000), (0.5, 0.25, 0.1, 1 / 32, 0.01, 1 / 512),
-                   x_words=lambda q: f"{q:,}", y_words=lambda share: f"1/{1 / share:.0f}")
-    for m, style in CHANCE_STYLES.items():
-        bend = [(2, 1 / 2), (m, 1 / m), (10000, 1 / m)]
-        drawn.append(polyline([(axes.x(x), axes.y(y)) for x, y in bend], style))
-        drawn += [mark(axes.x(crowd.reduced), axes.y(crowd.measured), style) for crowd in crowds if crowd.m == m]
-    for place, (m, style) in enumerate(CHANCE_STYLES.items()):
-        drawn += legend_line(400, 76 + 22 * place, style, f"1 / min(q, m), m = {m}")
-    drawn.append(text(400, 124, "marks: measured", 12, "start"))
-    drawn.append(text(350, 418, "q: the packets of all its flows, divided by their greatest common divisor", 13))
-    drawn.append(upright(22, 215, "share of buckets that pass", 13))
-    write(path, 640, 434, drawn, "How often a bucket of several flows passes the purity test")
+    axes = Axes(92, 50, 560, 380, (1.6, 12000), (0.000003, 0.8), is_log=True)
+    drawn = [text(372, 24, "How often a bucket of several flows passes as one", 15, more='font-weight="bold"')]
+    drawn += frame(axes, (2, 4, 10, 32, 100, 512, 2000, 8000), (0.5, 0.1, 0.01, 0.001, 0.0001, 0.00001),
+                   x_words=lambda q: f"{q:,}", y_words=lambda share: f"1/{1 / share:,.0f}")
+    for (profile, m), style in CHANCE_STYLES.items():
+        bend = [(axes.x(q), axes.y(derived(profile, m, q))) for q in CHANCE_PLACES]
+        drawn.append(polyline(bend, style))
+        drawn += [mark(axes.x(crowd.reduced), axes.y(crowd.measured), style) for crowd in crowds
+                  if (crowd.profile, crowd.m) == (profile, m) and crowd.passed]
+    for place, ((profile, m), style) in enumerate(CHANCE_STYLES.items()):
+        drawn += legend_line(102, 342 + 20 * place, style, f"{profile}, m = {m}")
+    drawn.append(text(102, 424, "lines: derived; marks: measured", 12, "start"))
+    drawn.append(text(372, 468, "q: the packets of all its flows, divided by their greatest common divisor", 13))
+    drawn.append(upright(22, 240, "share of buckets that pass", 13))
+    write(path, 672, 484, drawn, "How often a bucket of several flows passes the purity test")

@@ -22,19 +22,24 @@ struct params make_params(uint64_t *seed, uint32_t d, uint32_t m) {
     return params;
 }
 
+void add_fingerprints(struct params *params, uint64_t *seed) {
+    params->fifth_a = 1 + number_below(seed, PRIME - 1);
+    params->fifth_b = number_below(seed, PRIME);
+}
+
 // Any number but 0, which no flow has.
-static uint32_t draw_flow(uint64_t *seed) {
+static uint32_t draw_flow(uint64_t *seed, uint32_t most_flow) {
     uint32_t flow;
     do
-        flow = number_below(seed, PRIME);
+        flow = number_below(seed, most_flow + 1);
     while (flow == 0);
     return flow;
 }
 
-void make_packets(struct packets *packets, uint64_t *seed, size_t length, uint32_t most_number) {
+void make_packets(struct packets *packets, uint64_t *seed, size_t length, uint32_t most_flow, uint32_t most_number) {
     packets->length = length;
     for (size_t i = 0; i < length; i++) {
-        packets->flows[i] = draw_flow(seed);
+        packets->flows[i] = draw_flow(seed, most_flow);
         packets->numbers[i] = 1 + number_below(seed, most_number);
     }
 }
@@ -66,7 +71,7 @@ void make_tables(struct entries *entries, uint64_t *seed, size_t slots, enum zer
         int is_zero = zeros == HALF ? i % 2 == dropped : zeros == ALL_BUT_ONE && i % slots != slots - 1;
         int32_t number = 1 + (int32_t)number_below(seed, most_number);
         int is_extra = number_below(seed, 2) == 1;
-        entries->flows[i] = draw_flow(seed);
+        entries->flows[i] = draw_flow(seed, MOST_FLOW);
         entries->counts[i] = is_zero ? 0 : is_extra ? -number : number;
     }
 }
@@ -79,11 +84,13 @@ static uint8_t *put_word(uint8_t *at, uint32_t word) {
 
 void make_stream(struct stream *stream, const struct params *params, const struct packets *packets) {
     uint8_t *at = stream->bytes;
-    *at++ = HEAD;
+    *at++ = has_fingerprints(params) ? FINGERPRINT_HEAD : HEAD;
     *at++ = (uint8_t)params->d;
     at = put_word(at, params->m);
     for (uint32_t i = 0; i < 4; i++)
         at = put_word(put_word(at, params->a[i]), params->b[i]);
+    if (has_fingerprints(params))
+        at = put_word(put_word(at, params->fifth_a), params->fifth_b);
     for (size_t i = 0; i < packets->length; i++) {
         *at++ = PACKETS;
         at = put_word(put_word(at, packets->flows[i]), packets->numbers[i]);

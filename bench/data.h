@@ -15,15 +15,18 @@ struct packets {
 
 struct stream {
     size_t length;
-    uint8_t bytes[HEAD_BYTES + PACKETS_BYTES * MOST_PACKETS + END_BYTES];
+    uint8_t bytes[FINGERPRINT_HEAD_BYTES + PACKETS_BYTES * MOST_PACKETS + END_BYTES];
 };
 
 struct params make_params(uint64_t *seed, uint32_t d, uint32_t m);
 
-// Flows anywhere among all flow numbers, each by 1 to most_number packets.
-void make_packets(struct packets *packets, uint64_t *seed, size_t length, uint32_t most_number);
+// Draws the pair of the fingerprints.
+void add_fingerprints(struct params *params, uint64_t *seed);
 
-// Puts other flows in their stead that all stand at one place of array 1.
+// Flows anywhere from 1 to most_flow, each by 1 to most_number packets.
+void make_packets(struct packets *packets, uint64_t *seed, size_t length, uint32_t most_flow, uint32_t most_number);
+
+// Puts other flows in their stead that all stand at one place of array 1, for parameters without fingerprints.
 void gather(struct packets *packets, uint64_t *seed, const struct params *params);
 
 // Which entries of a table have come to 0: none, one of each two neighbours, or all but the last.

@@ -8,7 +8,7 @@
 #include <string.h>
 #include <time.h>
 
-enum { MOST_CASES = 96, MOST_ROUNDS = 7, MOST_NUMBER = 64, SEED = 6 };
+enum { MOST_CASES = 144, MOST_ROUNDS = 7, MOST_NUMBER = 64, SEED = 6 };
 
 // Instructions are counted over fewer packets than are timed, since counting is slow and they are the same for every packet.
 enum { TIMED_PACKETS = MOST_PACKETS, COUNTED_PACKETS = 2048 };
@@ -34,7 +34,8 @@ enum { SHAPES = sizeof shapes / sizeof *shapes, EVEN_SHAPES = sizeof even_shapes
 
 // What is measured: an operation under parameters of a shape. A walk has so many lost flows in a hundred buckets, each by up to
 // most_lost packets, which stand anywhere or all at one place of array 1. `zeros` says which entries of a close have come to 0. A fold
-// is to m2 buckets an array, and `large` says whether the sketch has a flow of large_number packets besides.
+// is to m2 buckets an array, and `large` says whether the sketch has a flow of large_number packets besides. `fingerprints` says whether
+// the parameters have the pair for them.
 struct plan {
     const struct operation *operation;
     struct shape shape;
@@ -44,6 +45,7 @@ struct plan {
     enum zeros zeros;
     uint32_t m2;
     uint32_t large;
+    uint32_t fingerprints;
 };
 
 // More than half of what a count may be: where two buckets meet, only their sum can tell that it is within the limits.
@@ -65,22 +67,41 @@ static void add_folds(struct plans *all, uint32_t parts, uint32_t large) {
     }
 }
 
-static struct plans all_plans(void) {
-    static const struct operation *const plain[] = {&insert, &insert_all, &read_stream, &subtract};
-    static const uint32_t loads[] = {40, 60, 80};
-    static const uint32_t most_lost[] = {1, 64};
-    struct plans all = {0};
-    for (size_t i = 0; i < sizeof plain / sizeof *plain; i++)
-        for (size_t j = 0; j < SHAPES; j++)
-            all.plans[all.length++] = (struct plan){.operation = plain[i], .shape = shapes[j]};
+// An operation at every size.
+static void add_plain(struct plans *all, const struct operation *operation, uint32_t fingerprints) {
+    for (size_t j = 0; j < SHAPES; j++)
+        all->plans[all->length++] =
+            (struct plan){.operation = operation, .shape = shapes[j], .fingerprints = fingerprints};
+}
+
+// Walks of equal losses, then of losses that differ, at three loads and every size.
+static void add_peels(struct plans *all, const uint32_t loads[3], uint32_t fingerprints) {
+    static const uint32_t most_lost[] = {1, MOST_NUMBER};
     for (size_t k = 0; k < 2; k++)
-        for (size_t i = 0; i < sizeof loads / sizeof *loads; i++)
+        for (size_t i = 0; i < 3; i++)
             for (size_t j = 0; j < SHAPES; j++)
-                all.plans[all.length++] = (struct plan){
-                    .operation = &peel, .shape = shapes[j], .load = loads[i], .most_lost = most_lost[k]};
+                all->plans[all->length++] = (struct plan){.operation = &peel,
+                                                          .shape = shapes[j],
+                                                          .load = loads[i],
+                                                          .most_lost = most_lost[k],
+                                                          .fingerprints = fingerprints};
+}
+
+static struct plans all_plans(void) {
+    static const uint32_t loads[] = {40, 60, 80}, fingerprint_loads[] = {40, 60, 70};
+    struct plans all = {0};
+    add_plain(&all, &insert, 0);
+    add_plain(&all, &insert_all, 0);
+    add_plain(&all, &read_stream, 0);
+    add_plain(&all, &subtract, 0);
+    add_peels(&all, loads, 0);
     for (size_t j = 0; j < SHAPES; j++)
         all.plans[all.length++] = (struct plan){
-            .operation = &peel, .shape = shapes[j], .load = loads[0], .most_lost = most_lost[1], .one_place = 1};
+            .operation = &peel, .shape = shapes[j], .load = loads[0], .most_lost = MOST_NUMBER, .one_place = 1};
+    add_plain(&all, &insert, 1);
+    add_plain(&all, &insert_all, 1);
+    add_plain(&all, &read_stream, 1);
+    add_peels(&all, fingerprint_loads, 1);
     for (enum zeros zeros = NONE; zeros <= ALL_BUT_ONE; zeros++)
         for (size_t j = 0; j < EVEN_SHAPES; j++)
             all.plans[all.length++] = (struct plan){.operation = &close_tables, .shape = even_shapes[j], .zeros = zeros};
@@ -109,11 +130,14 @@ static void put_in_large(int32_t *counts, uint32_t *idsums) {
 static void prepare(const struct plan *plan, size_t packets) {
     uint64_t seed = SEED;
     given.params = make_params(&seed, plan->shape.d, plan->shape.m);
+    if (plan->fingerprints)
+        add_fingerprints(&given.params, &seed);
     size_t size = size_of(&given.params);
+    uint32_t most = most_flow(&given.params);
     if (plan->operation == &peel)
-        make_packets(&given.packets, &seed, size * plan->load / 100, plan->most_lost);
+        make_packets(&given.packets, &seed, size * plan->load / 100, most, plan->most_lost);
     else
-        make_packets(&given.packets, &seed, packets, MOST_NUMBER);
+        make_packets(&given.packets, &seed, packets, most, MOST_NUMBER);
     if (plan->one_place)
         gather(&given.packets, &seed, &given.params);
     make_stream(&given.stream, &given.params, &given.packets);
@@ -216,8 +240,9 @@ static double median(double *numbers, size_t length) {
 }
 
 static void print_plan(size_t number, const struct plan *plan) {
-    printf("%zu\t%s\t%u\t%u\t%u\t%u\t%u\t%d\t%u\t%u", number, plan->operation->name, plan->shape.d * plan->shape.m,
-           plan->shape.d, plan->load, plan->most_lost, plan->one_place, plan->zeros, plan->m2, plan->large);
+    printf("%zu\t%s\t%u\t%u\t%u\t%u\t%u\t%d\t%u\t%u\t%u", number, plan->operation->name, plan->shape.d * plan->shape.m,
+           plan->shape.d, plan->load, plan->most_lost, plan->one_place, plan->zeros, plan->m2, plan->large,
+           plan->fingerprints);
 }
 
 // How many packets, buckets or entries a run is over.
@@ -230,8 +255,9 @@ static double units_of(const struct plan *plan) {
 // Behind the plan: how the walk ended, the rounds, the nanoseconds a packet, bucket or entry of ours and of the baseline, the ratio.
 static void print_result(const struct plan *plan, size_t rounds, struct round medians, double ratio) {
     double units = units_of(plan);
-    printf("\t%d\t%u\t%zu\t%.2f\t%.2f\t%.3f\n", our_side.figures.ending, our_side.figures.pops, rounds,
-           1e9 * medians.ours / units, 1e9 * medians.baseline / units, ratio);
+    struct figures walk = plan->operation == &peel ? our_side.figures : (struct figures){0};
+    printf("\t%d\t%u\t%zu\t%.2f\t%.2f\t%.3f\n", walk.ending, walk.pops, rounds, 1e9 * medians.ours / units,
+           1e9 * medians.baseline / units, ratio);
     fflush(NULL);
 }
 

@@ -16,20 +16,31 @@ static uint32_t cells[1 << CELLS_LOG2];
 
 // The parameters as the face takes them.
 struct words {
-    uint32_t words[10];
+    uint32_t words[GABUNLITIK_PARAMS];
 };
 
 static struct words words_of(const struct params *params) {
-    struct words w = {{params->d, params->m}};
+    struct words w = {{
+        [GABUNLITIK_D] = params->d,
+        [GABUNLITIK_M] = params->m,
+        [GABUNLITIK_PRIME] = 1,
+        [GABUNLITIK_FIFTH_MULTIPLIER] = params->fifth_a,
+        [GABUNLITIK_FIFTH_OFFSET] = params->fifth_b,
+    }};
     for (int i = 0; i < 4; i++) {
-        w.words[2 + i] = params->a[i];
-        w.words[6 + i] = params->b[i];
+        w.words[GABUNLITIK_MULTIPLIERS + i] = params->a[i];
+        w.words[GABUNLITIK_OFFSETS + i] = params->b[i];
     }
     return w;
 }
 
 static struct params params_of(const struct words *w) {
-    struct params params = {.d = w->words[GABUNLITIK_D], .m = w->words[GABUNLITIK_M]};
+    struct params params = {
+        .d = w->words[GABUNLITIK_D],
+        .m = w->words[GABUNLITIK_M],
+        .fifth_a = w->words[GABUNLITIK_FIFTH_MULTIPLIER],
+        .fifth_b = w->words[GABUNLITIK_FIFTH_OFFSET],
+    };
     for (int i = 0; i < 4; i++) {
         params.a[i] = w->words[GABUNLITIK_MULTIPLIERS + i];
         params.b[i] = w->words[GABUNLITIK_OFFSETS + i];
