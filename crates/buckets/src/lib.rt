@@ -1,5 +1,7 @@
 // The buckets of a sketch one by one: a bucket's limits, and what an entry makes of its count and its idsum. Every public function takes
 // every input.
+#![tactic(auto)]
+
 ghost use Rattle.std.specs.Prelude.{◌≡◌, ◌&&◌, cond, ltb, eqb, length};
 ghost use Rattle.params.specs.Lists.{least};
 ghost use Rattle.params.specs.Params.{prime};

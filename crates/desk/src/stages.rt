@@ -13,7 +13,7 @@ use params::{Answer, Params, Refusal};
 use sketch::packets::put_in;
 
 // What stands where a record of a kind is due: it, not yet all of it, or something else.
-#[derive(Drop)]
+#[derive(Clone, Copy)]
 pub(crate) enum Due {
     Here,
     NotYet,
@@ -21,7 +21,7 @@ pub(crate) enum Due {
 }
 
 // How many packets were taken, and the answer for the next.
-#[derive(Drop)]
+#[derive(Clone, Copy)]
 pub(crate) struct Run {
     pub taken: usize,
     pub answer: Answer,

@@ -7,7 +7,7 @@ use params::{Answer, Params, Refusal};
 
 // What is due next: packets or the end of the upstream stream, the downstream one's head, its packets or end, or nothing more; or
 // the refusal of the input.
-#[derive(Drop)]
+#[derive(Clone, Copy)]
 pub enum Stage {
     UpstreamPackets,
     DownstreamHead,
@@ -18,7 +18,7 @@ pub enum Stage {
 
 // What is due, the offset of the next byte in the whole input, and how many records stood since the head. The offset is that of
 // the record at fault where the input is refused.
-#[derive(Drop)]
+#[derive(Clone, Copy)]
 pub struct State {
     pub stage: Stage,
     pub at: usize,
@@ -26,7 +26,7 @@ pub struct State {
 }
 
 // A state, and how many bytes were used on the way to it.
-#[derive(Drop)]
+#[derive(Clone, Copy)]
 pub struct Fed {
     pub state: State,
     pub used: usize,

@@ -1,4 +1,6 @@
 // example: what two switches of a line see, as sketches, and what was lost between them. README quotes the body of main.
+#![tactic(auto)]
+
 use lines::lines::LINE_ROOM;
 use params::Params;
 use peel::peeling::peel;

@@ -1,6 +1,8 @@
 // Arithmetic modulo a number p below 2^32 that is a parameter. Every function takes every input: what is read of a
 // number is its residue, so arguments need not be below p, and modulo 0 the only residue is 0. What holds of inverses and
 // flows holds where p is prime.
+#![tactic(auto)]
+
 ghost use Rattle.std.specs.Prelude.{◌≡◌, ◌*◌, pos, neg_ℤ};
 ghost use Rattle.field.specs.Residue.{residue};
 ghost use Rattle.field.specs.Flow.{inverse as «inverse_of», flow as «flow_of»};

@@ -46,21 +46,21 @@ pub(crate) const MULTIPLIER_5_IN_BODY: usize = OFFSET_4_IN_BODY + 4;
 pub(crate) const OFFSET_5_IN_BODY: usize = MULTIPLIER_5_IN_BODY + 4;
 
 // A flow and a number of its packets, or no whole record of packets.
-#[derive(Drop)]
+#[derive(Clone, Copy)]
 pub enum Packets {
     Of(u32, u32),
     No,
 }
 
 // An index, a count and an idsum, or no whole bucket.
-#[derive(Drop)]
+#[derive(Clone, Copy)]
 pub enum Bucket {
     Of(u32, i32, u32),
     No,
 }
 
 // How many records an end says there were, or no whole end.
-#[derive(Drop)]
+#[derive(Clone, Copy)]
 pub enum End {
     Of(u32),
     No,

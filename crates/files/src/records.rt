@@ -39,7 +39,7 @@ pub const END_LENGTH: usize = 1 + END_BODY;
 
 // What stands at an offset: a whole record of its kind, and where the next begins; one that is cut; one of no known kind; or
 // nothing.
-#[derive(Drop)]
+#[derive(Clone, Copy)]
 pub enum Record {
     Whole(u8, usize),
     Cut,

@@ -43,7 +43,7 @@ const MULTIPLIER_4_AT: usize = 1 + MULTIPLIER_4_IN_BODY;
 const MULTIPLIER_5_AT: usize = 1 + MULTIPLIER_5_IN_BODY;
 
 // How many bytes were written, or the refusal.
-#[derive(Drop)]
+#[derive(Clone, Copy)]
 pub enum Written {
     Bytes(usize),
     Refused(Refusal, usize),

@@ -1,5 +1,7 @@
 // Folding a stored sketch: the sketch with fewer buckets an array, in the lent slices of the larger one. Every call takes every input. What
 // cannot be done is refused by number, and a refusal alters nothing.
+#![tactic(auto)]
+
 ghost use Rattle.std.specs.Prelude.{◌≡◌, true, not, ◌&&◌, cond, ℕ, ◌+◌, ◌*◌, ◌<◌, ◌≤◌, ltb, pos, length, get_or};
 ghost use Rattle.field.specs.Residue.{residue};
 ghost use Rattle.params.specs.Lists.{below, least, map_from, touched};
@@ -99,7 +101,7 @@ fn judge(p: Params, m2: usize, counts: &[i32], idsums: &[u32]) -> Answer
 }
 
 // The whole sums of the buckets that go into one.
-#[derive(Drop)]
+#[derive(Clone, Copy)]
 struct Sums {
     count: i64,
     idsum: u64,

@@ -8,7 +8,7 @@ use desk::states::State;
 use params::Params;
 
 // The state that a turn leads to, and how many bytes are held then.
-#[derive(Drop)]
+#[derive(Clone, Copy)]
 pub struct Turned {
     pub state: State,
     pub held: usize,

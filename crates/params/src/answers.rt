@@ -2,7 +2,7 @@
 ghost use Rattle.std.specs.Prelude.{◌≡◌};
 ghost use Rattle.params.specs.Answers.{number_of};
 
-#[derive(Drop)]
+#[derive(Clone, Copy)]
 pub enum Refusal {
     Param,
     Length,
@@ -36,14 +36,14 @@ impl Refusal {
 
 // The index is that of the lowest bucket at fault for Damage and Range of lent sketches (for Range of a fold its index in the folded one), the
 // offset of the record at fault for a file that is read, and 0 for anything else.
-#[derive(Drop)]
+#[derive(Clone, Copy)]
 pub enum Answer {
     Done,
     Refused(Refusal, usize),
 }
 
 // A position or an index.
-#[derive(Drop)]
+#[derive(Clone, Copy)]
 pub enum Located {
     At(usize),
     Refused(Refusal, usize),

@@ -18,7 +18,7 @@ const MOST_FINGERPRINTED: u32 = 8388606;
 
 // d arrays of m buckets, room for four pairs of a multiplier and an offset, and the fifth pair, which gives flows their fingerprints. Both
 // of its numbers are 0 in the plain profile.
-#[derive(Drop)]
+#[derive(Clone, Copy)]
 pub struct Params {
     pub d: usize,
     pub m: usize,
@@ -30,7 +30,7 @@ pub struct Params {
 
 // The parameters that a call returns, or why there are none: they are all 0 then. An enum cannot hold an array, so that both come in one
 // struct.
-#[derive(Drop)]
+#[derive(Clone, Copy)]
 pub struct Obtained {
     pub answer: Answer,
     pub params: Params,

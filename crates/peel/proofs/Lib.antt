@@ -18,7 +18,7 @@ pub mod Taken
 pub mod Turns
 pub mod Begins
 pub mod Telling
-pub mod Peeled
+pub mod Peelings
 pub mod Promised
 pub mod InOrder
 pub mod Examples

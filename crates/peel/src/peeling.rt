@@ -16,7 +16,7 @@ use walk::Ending;
 
 // What a walk found: its ending, the entries of its closed table, the packets lost by its account (the sum of the positive counts) and the
 // extra ones (the sum of the negative counts, without their sign), and the pops made.
-#[derive(Drop)]
+#[derive(Clone, Copy)]
 pub struct Figures {
     pub ending: Ending,
     pub entries: usize,
@@ -25,7 +25,7 @@ pub struct Figures {
     pub pops: u32,
 }
 
-#[derive(Drop)]
+#[derive(Clone, Copy)]
 pub enum Peeled {
     Ended(Figures),
     Refused(Refusal, usize),

@@ -18,7 +18,7 @@ use crate::queue::clear;
 use params::{PRIME, Params};
 
 // How many entries a closed table has, the sum of their positive numbers, and that of the negative ones without their sign.
-#[derive(Drop)]
+#[derive(Clone, Copy)]
 pub(crate) struct Listed {
     pub entries: usize,
     pub lost: u64,

@@ -13,7 +13,7 @@ use buckets::{idsum_plus_minus, plus_minus, within};
 use params::Params;
 
 // After a take: how many buckets wait, how many are not all zero, and how many entries the table has.
-#[derive(Drop)]
+#[derive(Clone, Copy)]
 pub(crate) struct Taken {
     pub waiting: usize,
     pub nonzero: usize,

@@ -13,7 +13,7 @@ use params::Params;
 use walk::{Ending, Found};
 
 // How a walk ended, after how many pops, and how many entries its table has.
-#[derive(Drop)]
+#[derive(Clone, Copy)]
 pub(crate) struct Walked {
     pub ending: Ending,
     pub pops: u32,

@@ -12,7 +12,7 @@ use params::Params;
 const TURNS: u64 = u64::MAX;
 
 // What a read gave: so many bytes, none since the input has ended, or none since it failed.
-#[derive(Drop)]
+#[derive(Clone, Copy)]
 pub(crate) enum Got {
     Bytes(usize),
     End,
@@ -20,7 +20,7 @@ pub(crate) enum Got {
 }
 
 // What the records of the whole input lead to; or a read failed.
-#[derive(Drop)]
+#[derive(Clone, Copy)]
 pub(crate) enum Taken {
     All(State),
     Failed,

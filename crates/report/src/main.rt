@@ -3,6 +3,8 @@
 // A read or a write that fails is named on standard error; where a read fails there is no report.
 // Tests of what always holds, as that a part lies within its slice, stand in place of proofs; parts that start at 0 mostly say so,
 // since the check then finds their length by itself.
+#![tactic(auto)]
+
 mod input; // one read at a time; records as they come, into two sketches
 mod output; // the lines, all at once
 

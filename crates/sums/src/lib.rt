@@ -1,5 +1,7 @@
 // The sum and the difference of two sketches, bucket by bucket, into the first. Every call takes every input. What cannot be done is
 // refused by number, and a refusal alters nothing.
+#![tactic(auto)]
+
 ghost use Rattle.std.specs.Prelude.{◌≡◌, true, false, ◌&&◌, ℕ, ◌<◌, ◌≤◌, pos, length, get_or};
 ghost use Rattle.params.specs.Lists.{below, least};
 ghost use Rattle.params.specs.Params.{prime};

@@ -1,12 +1,14 @@
 // The walk that peels a sketch: how it may end, and the test of a popped bucket. What the walk is stands in specs/Walk.antt,
 // and what holds of it in proofs/; the crate `peel` does it.
+#![tactic(auto)]
+
 ghost use Rattle.std.specs.Prelude.{◌≡◌};
 ghost use Rattle.walk.specs.Purity.{guarded_test};
 
 use params::{PRIME, Params};
 
 // How a walk ends.
-#[derive(Drop)]
+#[derive(Clone, Copy)]
 pub enum Ending {
     Clean,
     Stuck,
@@ -16,7 +18,7 @@ pub enum Ending {
 }
 
 // What the test finds in a bucket: that it is not pure, or what is sketched for its flow.
-#[derive(Drop)]
+#[derive(Clone, Copy)]
 pub enum Found {
     Impure,
     Pure(u32),
