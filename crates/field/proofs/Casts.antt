@@ -22,7 +22,7 @@ back w z h = to_z-of_z (sfits_of h)
 
 -- an i32 cast to i64
 pub widened : {z : ℤ} → SFits w32 z → to_z w64 (of_z w64 (to_z w32 (of_z w32 z))) ≡ z
-widened f = as_is (to_z-of_z f) (sfits_widen tt f)
+widened f = as_is {w = w64} (to_z-of_z f) (sfits_widen tt f)
 
 pub widens : {z : ℤ} → SFits w32 z → SFits w64 (to_z w32 (of_z w32 z))
 widens {z} f = rw (to_z-of_z f) (sfits_widen tt f)
