@@ -1,0 +1,8 @@
+-- `face::filing::gabunlitik_write_stream` meets its contract: what the library promises of the call, returned in numbers.
+use Rattle.face.proofs.Returning.{written_returned}
+use Rattle.face.proofs.filing.gabunlitik_write_stream.Goals as goal
+
+pub returns : goal.returns
+returns c =
+    let held = rw c.params_of.ensures at c.write_stream-stream.ensures in
+    written_returned _ held.answer held c.return_written.ensures

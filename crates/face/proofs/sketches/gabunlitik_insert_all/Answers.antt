@@ -1,0 +1,8 @@
+-- `face::sketches::gabunlitik_insert_all` meets its contract: what the library promises of the call, returned in numbers.
+use Rattle.face.proofs.Returning.{returned}
+use Rattle.face.proofs.sketches.gabunlitik_insert_all.Goals as goal
+
+pub returns : goal.returns
+returns c =
+    let held = rw c.params_of.ensures at c.insert_all-all_inserted.ensures in
+    returned _ held.answer held c.return_answer.ensures

@@ -1,0 +1,19 @@
+-- `intake::turning::turn` meets its contract: what is held is fed, and the rest is moved.
+use Rattle.sketch.specs.Sketch.{sketch}
+use Rattle.intake.proofs.OneTurn.{turn_is}
+use Rattle.intake.proofs.turning.turn.Goals as goal
+
+pub returns : goal.returns
+returns c =
+    let a = c.args in
+    turn_is
+    {P = a.p}
+    {bs = a.buf.now}
+    {end = c.smaller-end.result}
+    {up = sketch a.up-counts.now a.up-idsums.now}
+    {down = sketch a.down-counts.now a.down-idsums.now}
+    {s = a.s}
+    {r = c.feed-fed.result}
+    c.smaller-end.ensures
+    c.feed-fed.ensures
+    c.to_front-left.ensures

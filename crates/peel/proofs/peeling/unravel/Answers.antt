@@ -1,0 +1,38 @@
+-- `peel::peeling::unravel` meets its contract: the walk, the close, the flows told, and the queue and the marks cleared.
+use mathlib.Core.Path.{ap, ◌∙◌}
+use mathlib.Core.List.{map}
+use Prim.Native.Nat.{◌≤◌}
+use native.Mathlib.Omega.{arith}
+use lib.ListN.{length}
+use Rattle.walk.specs.Walk.{Outcome, close, lost_of, extra_of}
+use Rattle.walk.specs.Shown.{tell}
+use Rattle.peel.proofs.Telling.{told_long, told_table, told_past}
+use Rattle.peel.proofs.peeling.unravel.Goals as goal
+
+pub tell-requires : goal.tell-requires
+tell-requires c =
+    let l = c.close-listed.ensures in
+    let w = c.walk_whole-walked in
+    omega (arith, l.within, l.long, w.ensures.room, w.auto.1.1.1.0)
+
+pub returns : goal.returns
+returns c =
+    let w = c.walk_whole-walked in
+    let l = c.close-listed.ensures in
+    let told = c.tell.ensures in
+    let e = w.ensures.outcome in
+    let r = c.close-listed.result.entries in
+    let inside : r ≤ length c.close-listed.new.flows = omega (arith, l.within, w.ensures.room, l.long, w.auto.1.1.1.0) in
+    record {
+      ending = ap (λ (o : Outcome). o.ending) e;
+      pops = ap (λ (o : Outcome). o.pops) e;
+      lost = l.lost ∙ ap lost_of e;
+      extra = l.extra ∙ ap extra_of e;
+      remainder = ap (λ (o : Outcome). o.remainder) e;
+      table = rw told (told_table _ r _ _ inside ∙ ap (map (tell _)) (l.table ∙ ap (λ (o : Outcome). close o.table) e));
+      room = omega (arith, inside, ap length told ∙ told_long _ r _);
+      past = λ k u. rw told (told_past _ r _ k u (l.past k u));
+      past_numbers = l.past_numbers;
+      queue = λ j. c.clear.ensures.zeros j (omega arith);
+      marks = λ j. c.clear-2.ensures.zeros j (omega arith);
+    }

@@ -1,0 +1,65 @@
+-- `peel::queue::start` meets its contract: the ring and the buckets that are still to be queued give the first queue.
+use mathlib.Core.Path.{sym, ◌∙◌}
+use mathlib.Core.Logic.{⊎_elim}
+use Prim.Native.Nat.{◌-◌}
+use native.Mathlib.Omega.{arith}
+use lib.IntN.{ℤ, pos}
+use lib.ListN.{get_or}
+use borrow.Author.Rules.{sfits_of}
+use Rattle.field.proofs.Casts.{zero_of_bits, bits_of_zero}
+use Rattle.buckets.proofs.Zeros.{is_zero_lem, not_zero}
+use Rattle.peel.proofs.Rings.{ring_nothing, ring_empty}
+use Rattle.peel.proofs.Queues.{first_none, first_past, first_join, first_all}
+use Rattle.peel.proofs.queue.start.Goals as goal
+
+pub loop-i-init : goal.loop-i-init
+loop-i-init c =
+    let h = c.requires in
+    let q = c.clear.ensures in
+    let m = c.clear-2.ensures in (
+      omega arith,
+      ring_empty _ _ _ (omega (arith, h.0, h.2)) (q.long ∙ sym h.0) (m.long ∙ h.1 ∙ sym h.0) (λ k. m.zeros k (omega arith)),
+      first_none (ring_nothing _ 0),
+      λ k. omega (arith, m.zeros k (omega arith)),
+    )
+
+pub push-waiting-requires : goal.push-waiting-requires
+push-waiting-requires c =
+    let h = c.requires in
+    let v = c.loop-i.invariant in
+    rw v.1.long (v.1, c.loop-i-test.true, omega (arith, h.0, h.3))
+
+pub loop-i-smaller : goal.loop-i-smaller
+loop-i-smaller c = omega arith
+
+pub loop-i-preserved : goal.loop-i-preserved
+loop-i-preserved c =
+    let v = c.loop-i.invariant in
+    let x : ℤ = get_or c.args.counts.now c.loop-i.i (pos 0) in
+    ⊎_elim
+    (λ w.
+    rw (w.8, w.9, w.10) (
+      omega arith,
+      rw v.1.long at w.3.ensures.ringed,
+      first_join v.2 c.loop-i-test.true (not_zero x (λ e. w.0.taken (bits_of_zero x e))) w.3.ensures.list,
+      λ k. w.3.ensures.above_marks k ∙ v.3 k,
+    ))
+    (λ w.
+    rw (w.1, w.2, w.3) (
+      omega arith,
+      v.1,
+      first_past v.2 c.loop-i-test.true (is_zero_lem x (zero_of_bits x (sfits_of c.t14-1.given) w.0.left)),
+      v.3,
+    ))
+    c.if-counts-i-ne0.branch
+
+pub shape_of-queue : goal.shape_of-queue
+shape_of-queue c = c.loop-i.invariant.1.long ∙ c.requires.0
+
+pub shape_of-marks : goal.shape_of-marks
+shape_of-marks c = let h = c.requires in c.loop-i.invariant.1.long_marks ∙ h.0 ∙ sym h.1
+
+pub returns : goal.returns
+returns c =
+    let v = c.loop-i.invariant in
+    record { list = first_all v.2 c.loop-i-test.false v.0; ringed = rw c.requires.0 at v.1; above_marks = v.3 }

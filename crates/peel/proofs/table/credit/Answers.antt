@@ -1,0 +1,52 @@
+-- `peel::table::credit` meets its contract: what the limits hold fits an entry's width.
+use mathlib.Core.Path.{◌≡◌, ap, ap₂, subst⁻¹, ◌∙◌}
+use mathlib.Core.Logic.{⊎_elim}
+use native.Mathlib.Omega.{arith}
+use lib.IntN.{ℤ, pos, ◌+ℤ◌}
+use lib.ListN.{length, get_or}
+use mir.Facts.{to_z-of_z}
+use mir.Syntax.{w32}
+use mir.Val.{SFits, to_z, of_z}
+use Rattle.field.proofs.Casts.{as_is, back}
+use Rattle.buckets.proofs.Limits.{limits_fit}
+use Rattle.peel.proofs.Entries.{table_held, credit_old, credit_new}
+use Rattle.peel.proofs.Chains.{relinked_old, relinked_past, relinked_new}
+use Rattle.peel.proofs.table.credit.Goals as goal
+use Rattle.peel.proofs.table.credit.Goals.{After-numbers-1}
+
+-- the entry that f has
+abbrev entry : (c : After-numbers-1) → ℤ
+entry c = get_or c.args.numbers.now c.args.at (pos 0)
+
+-- what the machine computes is the entry with c more, which fits
+sum_is : (c : After-numbers-1) → to_z w32 (of_z w32 (entry c)) +ℤ to_z w32 (of_z w32 c.args.c) ≡ entry c +ℤ c.args.c
+sum_is c = ap₂ ◌+ℤ◌ (back w32 (entry c) c.numbers-1.given) (to_z-of_z c.ranges.c)
+
+sum_fits : (c : After-numbers-1) → SFits w32 (entry c +ℤ c.args.c)
+sum_fits c = limits_fit _ (rw (table_held c.args.flows.now c.args.numbers.now c.args.n c.args.f c.args.at c.requires.0.0 c.if-at-n.true) at c.requires.0.4)
+
+pub overflow_add-numbers : goal.overflow_add-numbers
+overflow_add-numbers c = subst⁻¹ (SFits w32) (sum_is c) (sum_fits c)
+
+pub returns-then-at-n : goal.returns-then-at-n
+returns-then-at-n c = (
+  rw (as_is (sum_is c) (sum_fits c))
+      (credit_old _ _ _ _ _ c.requires.0.0 c.args.c c.if-at-n.true (omega (arith, c.requires.0.1, c.requires.0.3)) c.requires.0.3),
+  relinked_old,
+)
+
+pub shape_of-queue : goal.shape_of-queue
+shape_of-queue c = ⊎_elim (λ w. ap length w.8 ∙ w.3.kept.0) (λ w. ap length w.1) c.if-at-queue.branch
+
+pub shape_of-marks : goal.shape_of-marks
+shape_of-marks c = ⊎_elim (λ w. ap length w.9 ∙ w.3.kept.1.0) (λ w. ap length w.2) c.if-at-queue.branch
+
+pub returns : goal.returns
+returns c = (
+  rw (to_z-of_z c.ranges.c)
+      (credit_new _ _ _ _ _ c.requires.0.0 c.args.c c.if-at-n.false (omega (arith, c.requires.0.1, c.requires.0.2)) c.requires.0.2),
+  ⊎_elim
+      (λ w. rw (w.8, w.9) (relinked_new c.requires.0.0 c.if-at-n.false c.requires.0.2 w.0.taken c.requires.1.1 w.3.ensures))
+      (λ w. rw (w.1, w.2) (relinked_past c.requires.0.0 c.if-at-n.false c.requires.0.2 w.0.left))
+      c.if-at-queue.branch,
+)

@@ -1,0 +1,86 @@
+-- `peel::take::apply` meets its contract. The invariant: both slices are changed in the first i arrays, and `nonzero` counts what is not all zero in them.
+use mathlib.Core.Path.{◌≡◌, sym, ap, ap₂, ◌∙◌}
+use Prim.Native.Nat.{◌*◌, ◌-◌}
+use native.Mathlib.Omega.{arith}
+use lib.IntN.{pos}
+use lib.ListN.{length, get_or}
+use mir.Facts.{to_z-of_z}
+use borrow.Author.Rules.{rules}
+use Rattle.sketch.specs.Sketch.{sketch, changed_in}
+use Rattle.params.proofs.Changes.{length_touched}
+use Rattle.sketch.proofs.Standing.{Within, reach}
+use Rattle.sketch.proofs.ArrayTurns.{turns_start}
+use Rattle.peel.proofs.OneArray.{bucket_old, bucket_next}
+use Rattle.peel.proofs.take.apply.Goals as goal
+use Rattle.peel.proofs.take.apply.Goals.{At-loop-i, In-loop-i}
+
+-- the sketch keeps its lengths
+lens : (c : At-loop-i) → (length c.loop-i.counts ≡ c.args.d * c.args.m) × (length c.loop-i.idsums ≡ c.args.d * c.args.m)
+lens c = (
+  ap length c.loop-i.invariant.1 ∙ length_touched _ _ _ ∙ c.requires.0.0.counts_long,
+  ap length c.loop-i.invariant.2 ∙ length_touched _ _ _ ∙ c.requires.0.0.idsums_long,
+)
+
+-- what a turn reaches
+within : (c : In-loop-i) → Within c.args.d c.args.m c.loop-i.i (get_or c.args.ks.now c.loop-i.i 0)
+within c = reach c.loop-i.i c.requires.0.0 c.loop-i-test.true
+
+pub loop-i-init : goal.loop-i-init
+loop-i-init c = (search rules, turns_start (pos 0) _ _ _ _, turns_start 0 _ _ _ _, c.requires.0.1)
+
+pub overflow_mul-j : goal.overflow_mul-j
+overflow_mul-j c = omega (arith, within c)
+
+pub offset_bounds-ks-i : goal.offset_bounds-ks-i
+offset_bounds-ks-i c = omega (arith, (within c).few)
+
+pub bounds-ks-i : goal.bounds-ks-i
+bounds-ks-i c = (within (goal.at.bounds-ks-i c).In-loop-i).few
+
+pub overflow_add-j : goal.overflow_add-j
+overflow_add-j c = omega (arith, within (goal.at.overflow_add-j c).In-loop-i)
+
+pub take_one-nonzero-requires : goal.take_one-nonzero-requires
+take_one-nonzero-requires c =
+    let l = c.loop-i in
+    let h = c.loop-i-test.true in
+    let w = within (goal.at.take_one-nonzero-requires c).In-loop-i in
+    let e = lens (goal.at.take_one-nonzero-requires c).At-loop-i in
+    let r = c.requires.0.0 in
+    record {
+      inside = omega (arith, w.bucket, e.0);
+      inside_ids = omega (arith, w.bucket, e.1);
+      limits = rw (bucket_old (pos 0) c.args.m (λ j. get_or c.args.ks.now j 0) l.i _ c.args.counts.now _ r.m_low (r.inside l.i h) (omega (arith, w.bucket, r.counts_long)) l.invariant.1, to_z-of_z c.ranges.c) (c.requires.1.0 l.i h);
+      idsum = rw (bucket_old 0 c.args.m (λ j. get_or c.args.ks.now j 0) l.i _ c.args.idsums.now _ r.m_low (r.inside l.i h) (omega (arith, w.bucket, r.idsums_long)) l.invariant.2) (c.requires.1.1.0 l.i h);
+      small = c.requires.1.1.1;
+      counted = l.invariant.3;
+    }
+
+pub loop-i-preserved : goal.loop-i-preserved
+loop-i-preserved c =
+    let l = c.loop-i in
+    let h = c.loop-i-test.true in
+    let w = within (goal.at.loop-i-preserved c).In-loop-i in
+    let r = c.requires.0.0 in
+    let t = c.take_one-nonzero.ensures in (
+      omega arith,
+      bucket_next (pos 0) c.args.m (λ j. get_or c.args.ks.now j 0) l.i _ c.args.counts.now _ r.m_low (r.inside l.i h) (omega (arith, w.bucket, r.counts_long)) l.invariant.1 _ t.counts,
+      bucket_next 0 c.args.m (λ j. get_or c.args.ks.now j 0) l.i _ c.args.idsums.now _ r.m_low (r.inside l.i h) (omega (arith, w.bucket, r.idsums_long)) l.invariant.2 _ t.idsums,
+      t.counted,
+    )
+
+pub shape_of-counts : goal.shape_of-counts
+shape_of-counts c = (lens (goal.at.shape_of-counts c).At-loop-i).0 ∙ sym c.requires.0.0.counts_long
+
+pub shape_of-idsums : goal.shape_of-idsums
+shape_of-idsums c = (lens (goal.at.shape_of-idsums c).At-loop-i).1 ∙ sym c.requires.0.0.idsums_long
+
+pub returns : goal.returns
+unfolding changed_in
+returns c =
+    let l = c.loop-i in
+    let end : l.i ≡ c.args.d = omega arith in
+    record {
+      after = ap₂ sketch (rw (end, to_z-of_z c.ranges.c) at l.invariant.1) (rw end at l.invariant.2);
+      counted = l.invariant.3;
+    }

@@ -1,0 +1,89 @@
+-- `sketchfile::writing::put_all` meets its contract. The invariant: the records that are left, written from `at` on, give what is asked for.
+use mathlib.Core.Path.{◌≡◌, refl, sym, ap, ◌∙◌}
+use mathlib.Core.Logic.{⊎_elim}
+use mathlib.Core.List.{◌++◌}
+use Prim.Native.Nat.{◌+◌, ◌-◌, ◌≤◌}
+use native.Mathlib.Omega.{arith}
+use borrow.Author.Rules.{rules}
+use borrow.Author.Tests.{not-true, not-false}
+use lib.ListN.{length}
+use mir.Syntax.{w32}
+use Rattle.field.proofs.Casts.{back}
+use Rattle.sketch.specs.Sketch.{sketch, count_in, idsum_in}
+use Rattle.files.specs.Bytes.{overwritten, word_bytes}
+use Rattle.files.specs.Layout.{bucket_bytes}
+use Rattle.files.specs.Writing.{written}
+use Rattle.files.specs.Records.{bucket_length}
+use Rattle.files.proofs.Overwriting.{overwritten_none, length_written, written_next}
+use Rattle.sketchfile.specs.Writing.{zero_at, buckets_bytes}
+use Rattle.sketchfile.proofs.Written.{buckets_long, all_left, none_left, zero_next, nonzero_next}
+use Rattle.sketchfile.proofs.writing.put_all.Goals as goal
+use Rattle.sketchfile.proofs.writing.put_all.Goals.{After-all_zero, Then-not-all_zero}
+
+-- the bucket that a turn looks at
+tested : (c : After-all_zero) → c.all_zero.result ≡ zero_at (sketch c.args.counts.now c.args.idsums.now) c.loop-k.k
+tested c = rw (back w32 _ c.all_zero-arg-1.given) at c.all_zero.ensures
+
+-- one that has a record, and the room for it
+nonzero-here : (c : Then-not-all_zero) → let a = c.args in
+    let S = sketch a.counts.now a.idsums.now in
+    let k = c.loop-k.k in
+    buckets_bytes k (length a.counts.now - k) S ≡ bucket_bytes k (count_in S k) (idsum_in S k) ++ buckets_bytes (k + 1) (length a.counts.now - (k + 1)) S
+nonzero-here c = nonzero_next _ _ _ c.loop-k-test.true (sym (tested c.before) ∙ not-true _ c.if-not-all_zero.true-raw)
+
+room : (c : Then-not-all_zero) → c.loop-k.at + bucket_length ≤ length c.loop-k.out
+unfolding bucket_bytes word_bytes
+room c =
+    let a = c.args in
+    omega (arith, ap length (nonzero-here c), buckets_long (sketch a.counts.now a.idsums.now) 0 (length a.counts.now))
+
+pub loop-k-init : goal.loop-k-init
+loop-k-init c =
+    let a = c.args in
+    let all = all_left (sketch a.counts.now a.idsums.now) (length a.counts.now) in
+    (search rules, refl, omega (arith, ap length all), ap (overwritten a.out.now a.first) all)
+
+pub bounds-idsums-k : goal.bounds-idsums-k
+bounds-idsums-k c = omega arith
+
+pub overflow_cast-k : goal.overflow_cast-k
+overflow_cast-k c = omega arith
+
+pub bounds-idsums-k-then-not-all_zero : goal.bounds-idsums-k-then-not-all_zero
+bounds-idsums-k-then-not-all_zero c = omega arith
+
+pub overflow_add-at : goal.overflow_add-at
+overflow_add-at c = omega (arith, room (goal.at.overflow_add-at c).Then-not-all_zero)
+
+pub loop-k-preserved : goal.loop-k-preserved
+unfolding bucket_bytes word_bytes
+loop-k-preserved c =
+    let l = c.loop-k in
+    let a = c.args in
+    let S = sketch a.counts.now a.idsums.now in
+    ⊎_elim
+    (λ w.
+    let t : tie.Then1 invariant-loop decreases-loop = record { before = c; if1 = w.0 } in
+    let put : c.if-not-all_zero.out ≡ written l.out l.at (bucket_bytes l.k (count_in S l.k) (idsum_in S l.k)) = w.7 ∙ rw (back w32 _ w.2.given) at w.4.ensures in (
+      search rules,
+      ap length put ∙ length_written _ _ _ ∙ l.invariant.1,
+      omega (arith, w.8, ap length (nonzero-here t)),
+      written_next _ _ _ _ _ _ (ap (overwritten l.out l.at) (sym (nonzero-here t)) ∙ l.invariant.3) put (room t) w.8,
+    ))
+    (λ w.
+    let next = zero_next S (length a.counts.now) l.k c.loop-k-test.true (sym (tested (goal.at.loop-k-preserved c).After-all_zero) ∙ not-false _ w.0.left) in (
+      search rules,
+      ap length w.1 ∙ l.invariant.1,
+      omega (arith, w.2, ap length next),
+      rw (w.1, w.2) (ap (overwritten l.out l.at) (sym next) ∙ l.invariant.3),
+    ))
+    c.if-not-all_zero.branch
+
+pub returns : goal.returns
+returns c =
+    let l = c.loop-k in
+    let a = c.args in
+    let S = sketch a.counts.now a.idsums.now in
+    let n = length a.counts.now in
+    let none = none_left S n l.k c.loop-k-test.false in
+    (omega (arith, ap length none, buckets_long S 0 n), overwritten_none l.out l.at ∙ ap (overwritten l.out l.at) (sym none) ∙ l.invariant.3)
