@@ -22,7 +22,7 @@ less : (c : Then-minus) → to_z w64 (of_z w64 (to_z w32 (of_z w32 c.args.c))) -
 less c = ap₂ ◌-ℤ◌ (widened c.ranges.c) (widened c.ranges.e)
 
 pub overflow_sub-result : goal.overflow_sub-result
-overflow_sub-result c = subst⁻¹ (SFits w64) (less c) (wide true _ _ c.ranges.c c.ranges.e)
+overflow_sub-result c = subst⁻¹ (SFits w64) (less (goal.at.overflow_sub-result c).Then-minus) (wide true _ _ c.ranges.c c.ranges.e)
 
 pub overflow_cast-result-else-minus : goal.overflow_cast-result-else-minus
 overflow_cast-result-else-minus c = widens c.ranges.c
@@ -34,10 +34,10 @@ more : (c : Else-minus) → to_z w64 (of_z w64 (to_z w32 (of_z w32 c.args.c))) +
 more c = ap₂ ◌+ℤ◌ (widened c.ranges.c) (widened c.ranges.e)
 
 pub overflow_add-result : goal.overflow_add-result
-overflow_add-result c = subst⁻¹ (SFits w64) (more c) (wide false _ _ c.ranges.c c.ranges.e)
+overflow_add-result c = subst⁻¹ (SFits w64) (more (goal.at.overflow_add-result c).Else-minus) (wide false _ _ c.ranges.c c.ranges.e)
 
 pub returns-then-minus : goal.returns-then-minus
-returns-then-minus c = rw c.if-minus.true (to_z-of_z (sub-result c) ∙ less c)
+returns-then-minus c = rw c.if-minus.true (to_z-of_z (overflow_sub-result c) ∙ less (goal.at.returns-then-minus c).Then-minus)
 
 pub returns-else-minus : goal.returns-else-minus
-returns-else-minus c = rw c.if-minus.false (to_z-of_z (add-result c) ∙ more c)
+returns-else-minus c = rw c.if-minus.false (to_z-of_z (overflow_add-result c) ∙ more (goal.at.returns-else-minus c).Else-minus)

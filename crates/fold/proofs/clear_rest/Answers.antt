@@ -53,4 +53,4 @@ shape_of-idsums c = (lens (goal.at.shape_of-idsums c).At-loop-i).1
 pub returns : goal.returns
 returns c =
     let l = lens (goal.at.returns c).At-loop-i in
-    (each_all (pos 0) _ _ _ _ (omega arith) c.loop-i.invariant.2, each_all 0 _ _ _ _ (omega arith) c.loop-i.invariant.3)
+    record { counts_after = each_all (pos 0) _ _ _ _ (omega arith) c.loop-i.invariant.2; idsums_after = each_all 0 _ _ _ _ (omega arith) c.loop-i.invariant.3 }

@@ -25,7 +25,7 @@ loop-k-init c = (omega arith, aimed_first _ _, scan_start _ _)
 pub sources_fit-requires : goal.sources_fit-requires
 sources_fit-requires c =
     let h = c.requires in
-    ((omega (arith, short_step h, h.m_high), few_sources h, few_buckets h, h.idsums_long ∙ sym h.counts_long), sources_inside h c.loop-k.invariant.1 (omega arith))
+    record { step_bound = (omega (arith, short_step h, h.m_high), few_sources h, few_buckets h, h.idsums_long ∙ sym h.counts_long); by_index = sources_inside h c.loop-k.invariant.1 (omega arith) }
 
 -- the bucket that a turn looked at
 judged : (c : After-sources_fit) → let a = c.args in
@@ -73,7 +73,7 @@ aimed c =
 pub loop-k-preserved : goal.loop-k-preserved
 loop-k-preserved c =
     let v = c.loop-k.invariant in
-    (omega arith, aimed c, scan_next _ _ _ _ (omega arith) (judged (goal.at.loop-k-preserved c).After-sources_fit ∙ c.if-not-sources_fit.false-raw) v.2)
+    (omega arith, aimed (goal.at.loop-k-preserved c).Joined-j-m2, scan_next _ _ _ _ (omega arith) (judged (goal.at.loop-k-preserved c).After-sources_fit ∙ c.if-not-sources_fit.false-raw) v.2)
 
 pub returns : goal.returns
 returns c = scan_end _ _ _ _ (omega arith) c.loop-k.invariant.2

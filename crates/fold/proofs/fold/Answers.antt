@@ -19,8 +19,8 @@ pub returns-in_default : goal.returns-in_default
 returns-in_default c =
     let r = c.judge-r.ensures in
     record {
-      answer = c.none.ensures ∙ obtained_none _ r c.in_default.keys2;
-      after = rw (ap (λ o. o.answer) c.none.ensures) (kept_old _ _ _ c.in_default.keys2);
+      answer = c.none.ensures ∙ obtained_none _ r c.in_default.in_default-own.keys2;
+      after = rw (ap (λ o. o.answer) c.none.ensures) (kept_old _ _ _ c.in_default.in_default-own.keys2);
     }
 
 -- nothing was refused
@@ -28,12 +28,12 @@ done : (c : In-Done) → let a = c.args in FoldAccepted a.p a.m2 (sketch a.count
 done c = accepted _ _ _ (sym c.judge-r.ensures ∙ c.in-Done.is)
 
 pub gather-requires : goal.gather-requires
-gather-requires c = let d = done (goal.at.gather-requires c).In-Done in (d.asked, d.stays)
+gather-requires c = let d = done (goal.at.gather-requires c).In-Done in record { foldable = d.asked; by_index = d.stays }
 
 -- what `gather` stored has the old lengths
 stored-long : (c : After-gather) → let a = c.args in
     (length c.gather.new.counts ≡ length a.counts.now) × (length c.gather.new.idsums ≡ length a.idsums.now)
-stored-long c = (ap length c.gather.ensures.0 ∙ length_touched _ _ _, ap length c.gather.ensures.1 ∙ length_touched _ _ _)
+stored-long c = (ap length c.gather.ensures.counts_after ∙ length_touched _ _ _, ap length c.gather.ensures.idsums_after ∙ length_touched _ _ _)
 
 pub overflow_mul-p : goal.overflow_mul-p
 overflow_mul-p c = let h = (done (goal.at.overflow_mul-p c).In-Done).asked in omega (arith, fewer_buckets h, few_buckets h)
@@ -54,7 +54,7 @@ returns c =
       answer = ap (λ p. record { answer = c.judge-r.result; params = p }) c.resized.ensures ∙ obtained_done _ e q;
       after =
           ap₂ sketch
-          (c.clear_rest.ensures.0 ∙ ap (map_from 0 _) c.gather.ensures.0 ∙ front_and_zeros (pos 0) _ _ _ _ h.counts_long (omega (arith, fewer_buckets h, h.counts_long)))
-          (c.clear_rest.ensures.1 ∙ ap (map_from 0 _) c.gather.ensures.1 ∙ front_and_zeros 0 _ _ _ _ h.idsums_long (omega (arith, fewer_buckets h, h.counts_long)))
+          (c.clear_rest.ensures.counts_after ∙ ap (map_from 0 _) c.gather.ensures.counts_after ∙ front_and_zeros (pos 0) _ _ _ _ h.counts_long (omega (arith, fewer_buckets h, h.counts_long)))
+          (c.clear_rest.ensures.idsums_after ∙ ap (map_from 0 _) c.gather.ensures.idsums_after ∙ front_and_zeros 0 _ _ _ _ h.idsums_long (omega (arith, fewer_buckets h, h.counts_long)))
           ∙ kept_new _ _ _ q;
     }

@@ -12,7 +12,7 @@ use Rattle.fold.proofs.judge.Goals.{In-Done}
 
 pub returns-in_default : goal.returns-in_default
 unfolding fold_answer
-returns-in_default c = first_refused _ _ _ c.judge_lent-r.ensures c.in_default.keys2
+returns-in_default c = first_refused _ _ _ c.judge_lent-r.ensures c.in_default.in_default-own.keys2
 
 -- the parameters and the lengths were passed
 lent : (c : In-Done) → let a = c.args in lent_answer a.p (length a.counts.now) (length a.idsums.now) ≡ Done

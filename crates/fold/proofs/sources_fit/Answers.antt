@@ -24,19 +24,19 @@ loop-q-init c = (search rules, omega arith, (refl, omega arith), λ p l. absurd 
 
 -- the bucket of this turn lies within the slices
 inside : (c : In-loop-q) → c.loop-q.s < length c.args.counts.now
-inside c = rw c.loop-q.invariant.1 (c.requires.1 c.loop-q.q (omega arith))
+inside c = rw c.loop-q.invariant.1 (c.requires.by_index c.loop-q.q (omega arith))
 
 pub offset_bounds-counts-s : goal.offset_bounds-counts-s
-offset_bounds-counts-s c = omega (arith, inside c)
+offset_bounds-counts-s c = omega (arith, inside (goal.at.offset_bounds-counts-s c).In-loop-q)
 
 pub bounds-counts-s : goal.bounds-counts-s
-bounds-counts-s c = inside c
+bounds-counts-s c = inside (goal.at.bounds-counts-s c).In-loop-q
 
 pub offset_bounds-idsums-s : goal.offset_bounds-idsums-s
 offset_bounds-idsums-s c = omega (arith, inside (goal.at.offset_bounds-idsums-s c).In-loop-q)
 
 pub bounds-idsums-s : goal.bounds-idsums-s
-bounds-idsums-s c = omega (arith, inside (goal.at.bounds-idsums-s c).In-loop-q, c.requires.0)
+bounds-idsums-s c = omega (arith, inside (goal.at.bounds-idsums-s c).In-loop-q, c.requires.step_bound)
 
 -- what the turn found of it
 judged : (c : After-undamaged) → let a = c.args in
@@ -63,16 +63,16 @@ narrow : (c : After-count-1) → SFits w32 (get_or c.args.counts.now c.loop-q.s 
 narrow c = record { sfits = c.count-1.given }
 
 few : (c : In-loop-q) → c.loop-q.q < 16384
-few c = omega (arith, c.requires.0)
+few c = omega (arith, c.requires.step_bound)
 
 pub overflow_cast-count : goal.overflow_cast-count
-overflow_cast-count c = widens (narrow c)
+overflow_cast-count c = widens (narrow (goal.at.overflow_cast-count c).After-count-1)
 
 pub overflow_add-count : goal.overflow_add-count
-overflow_add-count c = let v = c.loop-q.invariant.2 in added_fits _ _ v.0 v.1 (narrow c) (few (goal.at.overflow_add-count c).In-loop-q)
+overflow_add-count c = let v = c.loop-q.invariant.2 in added_fits _ _ v.0 v.1 (narrow (goal.at.overflow_add-count c).After-count-1) (few (goal.at.overflow_add-count c).In-loop-q)
 
 pub overflow_add-s : goal.overflow_add-s
-overflow_add-s c = omega (arith, inside (goal.at.overflow_add-s c).In-loop-q, c.requires.0)
+overflow_add-s c = omega (arith, inside (goal.at.overflow_add-s c).In-loop-q, c.requires.step_bound)
 
 pub overflow_add-q : goal.overflow_add-q
 overflow_add-q c = omega (arith, few (goal.at.overflow_add-q c).In-loop-q)
@@ -86,7 +86,7 @@ loop-q-preserved c =
     let here = ap (λ (s : ℕ). get_or c.args.counts.now s (pos 0)) v.1 in (
       omega arith,
       omega (arith, v.1),
-      (added_is _ _ v.2.0 v.2.1 (narrow c) (few (goal.at.loop-q-preserved c).In-loop-q) here, added_small _ _ v.2.0 v.2.1 (narrow c) (few (goal.at.loop-q-preserved c).In-loop-q)),
+      (added_is _ _ v.2.0 v.2.1 (narrow (goal.at.loop-q-preserved c).After-count-1) (few (goal.at.loop-q-preserved c).In-loop-q) here, added_small _ _ v.2.0 v.2.1 (narrow (goal.at.loop-q-preserved c).After-count-1) (few (goal.at.loop-q-preserved c).In-loop-q)),
       below_more _ _ v.3 (judged (goal.at.loop-q-preserved c).After-undamaged ∙ not-false _ c.if-not-undamaged.false-raw),
     )
 

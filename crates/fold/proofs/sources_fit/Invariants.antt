@@ -4,15 +4,13 @@ use mathlib.Core.Path.{◌≡◌}
 use mathlib.Core.Bool.{true, not}
 use lib.IntN.{pos, nat_abs}
 use lib.ListN.{get_or}
-use mir.Syntax.{w64}
-use mir.Val.{to_z}
 use Rattle.buckets.specs.Buckets.{damaged_of}
 use Rattle.fold.specs.Fold.{total}
 use Rattle.fold.proofs.sources_fit.Given as goal
 
 abbrev pub invariant-loop-q : goal.invariant-loop-q
 invariant-loop-q l = (l.q ≤ l.n) × (l.s ≡ l.start + l.q * l.step)
-    × ((to_z w64 l.count ≡ total l.q (λ p. get_or l.counts (l.start + p * l.step) (pos 0))) × (nat_abs (to_z w64 l.count) ≤ l.q * 2147483648))
+    × ((l.count ≡ total l.q (λ p. get_or l.counts (l.start + p * l.step) (pos 0))) × (nat_abs l.count ≤ l.q * 2147483648))
     × ((p : ℕ) → p < l.q → not (damaged_of l.counts l.idsums (l.start + p * l.step)) ≡ true)
 
 abbrev pub decreases-loop-q : goal.decreases-loop-q

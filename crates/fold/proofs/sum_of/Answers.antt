@@ -20,44 +20,44 @@ loop-q-init c = (search rules, omega arith, (refl, omega arith), (refl, omega ar
 
 -- the bucket of this turn lies within the slices
 inside : (c : In-loop-q) → c.loop-q.s < length c.args.counts.now
-inside c = rw c.loop-q.invariant.1 (c.requires.1 c.loop-q.q (omega arith))
+inside c = rw c.loop-q.invariant.1 (c.requires.by_index c.loop-q.q (omega arith))
 
 pub offset_bounds-counts-s : goal.offset_bounds-counts-s
-offset_bounds-counts-s c = omega (arith, inside c)
+offset_bounds-counts-s c = omega (arith, inside (goal.at.offset_bounds-counts-s c).In-loop-q)
 
 pub bounds-counts-s : goal.bounds-counts-s
-bounds-counts-s c = inside c
+bounds-counts-s c = inside (goal.at.bounds-counts-s c).In-loop-q
 
 -- its count, as it was read
 fits : (c : After-count-1) → SFits w32 (get_or c.args.counts.now c.loop-q.s (pos 0))
 fits c = record { sfits = c.count-1.given }
 
 pub overflow_cast-count : goal.overflow_cast-count
-overflow_cast-count c = widens (fits c)
+overflow_cast-count c = widens (fits (goal.at.overflow_cast-count c).After-count-1)
 
 few : (c : In-loop-q) → c.loop-q.q < 16384
-few c = omega (arith, c.requires.0)
+few c = omega (arith, c.requires.step_bound)
 
 pub overflow_add-count : goal.overflow_add-count
-overflow_add-count c = let v = c.loop-q.invariant.2 in added_fits _ _ v.0 v.1 (fits c) (few (goal.at.overflow_add-count c).In-loop-q)
+overflow_add-count c = let v = c.loop-q.invariant.2 in added_fits _ _ v.0 v.1 (fits (goal.at.overflow_add-count c).After-count-1) (few (goal.at.overflow_add-count c).In-loop-q)
 
 pub offset_bounds-idsums-s : goal.offset_bounds-idsums-s
 offset_bounds-idsums-s c = omega (arith, inside (goal.at.offset_bounds-idsums-s c).In-loop-q)
 
 pub bounds-idsums-s : goal.bounds-idsums-s
-bounds-idsums-s c = omega (arith, inside (goal.at.bounds-idsums-s c).In-loop-q, c.requires.0)
+bounds-idsums-s c = omega (arith, inside (goal.at.bounds-idsums-s c).In-loop-q, c.requires.step_bound)
 
 pub overflow_cast-idsum : goal.overflow_cast-idsum
 overflow_cast-idsum c = omega (arith, c.shared_slice_known-1.given c.loop-q.s)
 
 pub overflow_add-idsum : goal.overflow_add-idsum
-overflow_add-idsum c = omega (arith, c.shared_slice_known-1.given c.loop-q.s, c.loop-q.invariant.3.1, c.requires.0)
+overflow_add-idsum c = omega (arith, c.shared_slice_known-1.given c.loop-q.s, c.loop-q.invariant.3.1, c.requires.step_bound)
 
 pub overflow_add-s : goal.overflow_add-s
-overflow_add-s c = omega (arith, inside (goal.at.overflow_add-s c).In-loop-q, c.requires.0)
+overflow_add-s c = omega (arith, inside (goal.at.overflow_add-s c).In-loop-q, c.requires.step_bound)
 
 pub overflow_add-q : goal.overflow_add-q
-overflow_add-q c = omega (arith, c.requires.0)
+overflow_add-q c = omega (arith, c.requires.step_bound)
 
 pub loop-q-smaller : goal.loop-q-smaller
 loop-q-smaller c = omega arith
@@ -76,4 +76,4 @@ pub returns : goal.returns
 returns c =
     let v = c.loop-q.invariant in
     let end : c.loop-q.q ≡ c.args.n = omega arith in
-    (rw end at v.2.0, rw end at v.3.0)
+    record { count_value = rw end at v.2.0; idsum_value = rw end at v.3.0 }

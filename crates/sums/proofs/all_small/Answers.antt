@@ -12,13 +12,10 @@ use borrow.Author.Rules.{rules}
 use borrow.Author.Tests.{ne_eqb, not-true, not-false}
 use Rattle.field.proofs.Casts.{back}
 use Rattle.params.specs.Lists.{below}
-use Rattle.sketch.specs.Sketch.{Sketch, sketch, small_at}
+use Rattle.sketch.specs.Sketch.{sketch}
 use Rattle.sums.proofs.all_small.Goals as goal
 use Rattle.sums.proofs.all_small.Goals.{After-is_small-in-loop-i, Joined-not-is_small, Joined-not-is_small-2}
-
--- bucket k is small in both sketches
-abbrev both : Sketch → Sketch → ℕ → Bool
-both S T k = small_at S k && small_at T k
+use Rattle.sums.proofs.all_small.Invariants.{both}
 
 -- a count before and after a test: it grows where the test fails, by 1, so that it is 0 as long as each test held
 abbrev Counted : ℕ → ℕ → Bool → Type 0
@@ -60,7 +57,7 @@ pub loop-i-preserved : goal.loop-i-preserved
 loop-i-preserved c =
     let v = c.loop-i.invariant in
     let x = first_counted (goal.at.loop-i-preserved c).Joined-not-is_small in
-    let y = second-counted c in
+    let y = second-counted (goal.at.loop-i-preserved c).Joined-not-is_small-2 in
     (omega arith, omega arith, counted-both _ _ _ _ _ _ _ v.2 x y (judged (goal.at.loop-i-preserved c).After-is_small-in-loop-i))
 
 pub returns : goal.returns

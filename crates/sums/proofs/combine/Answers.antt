@@ -5,15 +5,15 @@ use Rattle.sums.proofs.TwoSketches.{combine_done}
 use Rattle.sums.proofs.combine.Goals as goal
 
 pub returns-in_default : goal.returns-in_default
-returns-in_default c = record { answer = c.judge-r.ensures; after = kept_old _ _ _ c.in_default.keys2 }
+returns-in_default c = record { answer = c.judge-r.ensures; after = kept_old _ _ _ c.in_default.in_default-own.keys2 }
 
 pub put_all-requires : goal.put_all-requires
 put_all-requires c =
     let h = combine_done _ _ _ _ _ (sym c.judge-r.ensures ∙ c.in-Done.is) in
-    (h.0, (h.1, h.2))
+    record { idsums_len = h.0; by_index = h.1; by_index_2 = h.2 }
 
 pub returns : goal.returns
 returns c = record {
   answer = c.judge-r.ensures;
-  after = c.put_all_lem.ensures ∙ kept_new _ _ _ c.in-Done.is;
+  after = c.put_all.ensures ∙ kept_new _ _ _ c.in-Done.is;
 }

@@ -17,7 +17,7 @@ judged : (c : After-within)
     → leaves c.args.minus c.args.counts.now c.args.other_counts.now c.loop-i.i ≡ not c.within.result
 unfolding leaves
 judged c =
-    let e = rw (back w64 _ c.plus_minus.type-inv) at c.within.ensures in
+    let e = rw (back w64 _ c.plus_minus.type_inv) at c.within.ensures in
     let h = rw (back w32 _ c.plus_minus-arg-1.given, back w32 _ c.plus_minus-arg-in-loop-i-1.given) at c.plus_minus.ensures in
     ap not (sym (e ∙ ap in_limits h))
 

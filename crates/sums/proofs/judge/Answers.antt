@@ -14,10 +14,10 @@ sketch-lent c = sym c.judge_both-r.ensures ∙ c.in-Done.is
 
 pub returns-in_default : goal.returns-in_default
 unfolding combine_answer
-returns-in_default c = first_refused _ _ _ c.judge_both-r.ensures c.in_default.keys2
+returns-in_default c = first_refused _ _ _ c.judge_both-r.ensures c.in_default.in_default-own.keys2
 
 pub all_small-requires : goal.all_small-requires
-all_small-requires c = let h = both_lent_done _ _ _ _ _ _ (sketch-lent c) in (same_lengths h, small_lengths h)
+all_small-requires c = let h = both_lent_done _ _ _ _ _ _ (sketch-lent (goal.at.all_small-requires c).In-Done) in record { idsums_len = same_lengths h; counts_len_bound = small_lengths h }
 
 pub returns-then-all_small : goal.returns-then-all_small
 unfolding combine_answer

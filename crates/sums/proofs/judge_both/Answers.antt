@@ -22,7 +22,9 @@ alike c = test_held c.same.ensures c.if-not-same.false-raw
 
 -- the lengths of the first sketch
 lengths-is : (c : After-judge_dimensions-r) → let a = c.args in c.judge_dimensions-r.result ≡ lengths_answer a.p a.c a.s
-lengths-is c = c.judge_dimensions-r.ensures ∙ lengths_left _ _ _ (good-first c.before.before.before.before.before)
+lengths-is c =
+    let good-first : good_params c.args.p ≡ true = test_held c.check.ensures c.if-not-check.false-raw in
+    c.judge_dimensions-r.ensures ∙ lengths_left _ _ _ (good-first)
 
 pub returns-then-not-check : goal.returns-then-not-check
 unfolding both_lent_answer
@@ -38,7 +40,7 @@ returns-then-not-same c = rw (good-first (goal.at.returns-then-not-same c).Else-
 
 pub returns-in_default : goal.returns-in_default
 unfolding both_lent_answer
-returns-in_default c = rw (good-first (goal.at.returns-in_default c).Else-not-check, good-second (goal.at.returns-in_default c).Else-not-check-2, alike (goal.at.returns-in_default c).Else-not-same) (first_refused _ _ _ (lengths-is (goal.at.returns-in_default c).After-judge_dimensions-r) c.in_default.keys2)
+returns-in_default c = rw (good-first (goal.at.returns-in_default c).Else-not-check, good-second (goal.at.returns-in_default c).Else-not-check-2, alike (goal.at.returns-in_default c).Else-not-same) (first_refused _ _ _ (lengths-is (goal.at.returns-in_default c).After-judge_dimensions-r) c.in_default.in_default-own.keys2)
 
 pub returns : goal.returns
 unfolding both_lent_answer first

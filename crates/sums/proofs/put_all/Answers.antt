@@ -38,7 +38,9 @@ bounds-other_counts-i c = omega (arith, lens (goal.at.bounds-other_counts-i c).A
 
 -- the bucket of this turn, its new count at the wide width, and that this stays within the limits
 inside : (c : After-plus_minus) → c.loop-i.i < length c.args.counts.now
-inside c = omega (arith, lens c.before.before.before.before)
+inside c =
+    let lens : (length c.loop-i.counts ≡ length c.args.counts.now) × (length c.loop-i.idsums ≡ length c.args.idsums.now) = (each_long (pos 0) _ _ _ _ c.loop-i.invariant.1, each_long 0 _ _ _ _ c.loop-i.invariant.2) in
+    omega (arith, lens)
 
 new : (c : After-plus_minus) → let a = c.args in
     c.plus_minus.result ≡ plus_minus a.minus (get_or a.counts.now c.loop-i.i (pos 0)) (get_or a.other_counts.now c.loop-i.i (pos 0))
@@ -47,10 +49,10 @@ new c = rw (back w32 _ c.plus_minus-arg-1.given, back w32 _ c.plus_minus-arg-in-
 
 stays : (c : After-plus_minus) → let a = c.args in
     in_limits (plus_minus a.minus (get_or a.counts.now c.loop-i.i (pos 0)) (get_or a.other_counts.now c.loop-i.i (pos 0))) ≡ true
-stays c = c.requires.1.0 _ (inside c)
+stays c = c.requires.by_index _ (inside c)
 
 pub overflow_cast-counts : goal.overflow_cast-counts
-overflow_cast-counts c = narrows (sfits_of c.plus_minus.type-inv) (new c) (stays c)
+overflow_cast-counts c = narrows (sfits_of c.plus_minus.type_inv) (new (goal.at.overflow_cast-counts c).After-plus_minus) (stays (goal.at.overflow_cast-counts c).After-plus_minus)
 
 pub offset_bounds-counts-i-in-loop-i : goal.offset_bounds-counts-i-in-loop-i
 offset_bounds-counts-i-in-loop-i c = omega (arith, lens (goal.at.offset_bounds-counts-i-in-loop-i c).At-loop-i)
@@ -85,11 +87,11 @@ loop-i-smaller c = omega (arith, lens (goal.at.loop-i-smaller c).At-loop-i)
 pub loop-i-preserved : goal.loop-i-preserved
 loop-i-preserved c =
     let l = lens (goal.at.loop-i-preserved c).At-loop-i in
-    let below = c.requires.1.1 c.loop-i.i (inside (goal.at.loop-i-preserved c).After-plus_minus) in
+    let below = c.requires.by_index_2 c.loop-i.i (inside (goal.at.loop-i-preserved c).After-plus_minus) in
     let k : c.loop-i.i < length c.args.idsums.now = omega arith in
     let v = c.loop-i.invariant in (
       omega arith,
-      each_next (pos 0) _ _ _ _ _ (inside (goal.at.loop-i-preserved c).After-plus_minus) v.1 (narrowed (sfits_of c.plus_minus.type-inv) (new (goal.at.loop-i-preserved c).After-plus_minus) (stays (goal.at.loop-i-preserved c).After-plus_minus)),
+      each_next (pos 0) _ _ _ _ _ (inside (goal.at.loop-i-preserved c).After-plus_minus) v.1 (narrowed (sfits_of c.plus_minus.type_inv) (new (goal.at.loop-i-preserved c).After-plus_minus) (stays (goal.at.loop-i-preserved c).After-plus_minus)),
       each_next 0 _ _ _ _ _ k v.2 (rw (each_old 0 _ _ _ _ k v.2) at c.idsum_plus_minus.ensures ∙ idsum_plus_minus_is _ _ _ below.0 below.1),
     )
 

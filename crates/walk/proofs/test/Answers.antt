@@ -48,7 +48,10 @@ there c = sketched_stands (P c) (x c) c.args.k
 by-flow : (c : After-is_sketched) → let a = c.args in
     guarded_test (P c) a.k a.c a.s ≡ cond (good_dimensions (P c)) (only_if (is_sketched (P c)) (cond (there c) (Pure (x c)) Impure)) Impure
 unfolding test_in
-by-flow c = rw (ne_eqb _ 0 (λ e. c.if-raise-eq0.false (residue_is c.before.before.before ∙ e)), ← flow_is c.before)
+by-flow c =
+    let residue_is : c.raise.result ≡ residue prime c.args.c = c.raise.ensures ∙ ap (residue prime) (to_z-of_z c.ranges.c) in
+    let flow_is : c.flow-x.result ≡ flow prime c.args.c c.args.s = c.flow-x.ensures ∙ ap (λ z. flow prime z c.args.s) (to_z-of_z c.ranges.c) in
+    rw (ne_eqb _ 0 (λ e. c.if-raise-eq0.false (residue_is ∙ e)), ← flow_is)
 
 pub returns-then-not-is_sketched : goal.returns-then-not-is_sketched
 returns-then-not-is_sketched c = sym (by-flow (goal.at.returns-then-not-is_sketched c).After-is_sketched ∙ ap (λ w. cond (good_dimensions (P (goal.at.returns-then-not-is_sketched c).After-is_sketched)) w Impure) (only_if_fails (is_sketched (P (goal.at.returns-then-not-is_sketched c).After-is_sketched)) (there (goal.at.returns-then-not-is_sketched c).After-is_sketched) (x (goal.at.returns-then-not-is_sketched c).After-is_sketched) (test_failed c.is_sketched.ensures c.if-not-is_sketched.true-raw)) ∙ same_either (good_dimensions (P (goal.at.returns-then-not-is_sketched c).After-is_sketched)) Impure)

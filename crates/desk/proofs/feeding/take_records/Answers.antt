@@ -28,7 +28,7 @@ returns-then-not-offsets_fit c =
     record { state = rw far; used = omega arith; upstream = rw far; downstream = rw far }
 
 -- else 64 bits hold all that the bytes lead to
-near : (c : Else-not-offsets_fit) → offsets_fit (hand c.before.before.before.before.before) c.args.s ≡ true
+near : (c : Else-not-offsets_fit) → offsets_fit (hand) c.args.s ≡ true
 unfolding offsets_fit
 near c = test_held c.offsets_fit.ensures c.if-not-offsets_fit.false-raw
 
@@ -36,8 +36,8 @@ pub packets_stage-upstream_taken-requires : goal.packets_stage-upstream_taken-re
 packets_stage-upstream_taken-requires c = near (goal.at.packets_stage-upstream_taken-requires c).Else-not-offsets_fit
 
 -- stage after stage: what its function gives is what the definition says
-came-to-upstream-taken : (c : After-packets_stage-upstream_taken) → Came (hand c.before.before.before.before.before.before.before.before) c.args.s c.packets_stage-upstream_taken.result (upstream_taken c.args.p (hand c.before.before.before.before.before.before.before.before) (up c.before.before.before.before.before.before.before.before) (down c.before.before.before.before.before.before.before.before) c.args.s)
-came-to-upstream-taken c = packets_first _ _ _ _ _ c.packets_stage-upstream_taken.ensures.0
+came-to-upstream-taken : (c : After-packets_stage-upstream_taken) → Came (hand) c.args.s c.packets_stage-upstream_taken.result (upstream_taken c.args.p (hand) (up) (down) c.args.s)
+came-to-upstream-taken c = packets_first _ _ _ _ _ c.packets_stage-upstream_taken.ensures.value
 
 pub overflow_sub-i : goal.overflow_sub-i
 overflow_sub-i c = (came-to-upstream-taken (goal.at.overflow_sub-i c).After-packets_stage-upstream_taken).onward.low
@@ -51,8 +51,13 @@ slice_bounds-end_stage-start c = (came-to-upstream-taken (goal.at.slice_bounds-e
 pub end_stage-upstream_ended-requires : goal.end_stage-upstream_ended-requires
 end_stage-upstream_ended-requires c = part_fits (came-to-upstream-taken (goal.at.end_stage-upstream_ended-requires c).After-packets_stage-upstream_taken) (near (goal.at.end_stage-upstream_ended-requires c).Else-not-offsets_fit)
 
-came-to-upstream-ended : (c : After-end_stage-upstream_ended) → Came (hand c.before.before.before.before.before.before.before.before.before.before.before.before.before.before) c.args.s c.end_stage-upstream_ended.result (upstream_ended c.args.p (hand c.before.before.before.before.before.before.before.before.before.before.before.before.before.before) (up c.before.before.before.before.before.before.before.before.before.before.before.before.before.before) (down c.before.before.before.before.before.before.before.before.before.before.before.before.before.before) c.args.s)
-came-to-upstream-ended c = then_end (came-to-upstream-taken c.before.before.before.before.before.before) _ c.end_stage-upstream_ended.ensures
+came-to-upstream-ended : (c : After-end_stage-upstream_ended) → Came (hand) c.args.s c.end_stage-upstream_ended.result (upstream_ended c.args.p (hand) (up) (down) c.args.s)
+came-to-upstream-ended c =
+    let hand : List ℕ = c.args.bytes.now in
+    let up : Sketch = sketch c.args.up-counts.now c.args.up-idsums.now in
+    let down : Sketch = sketch c.args.down-counts.now c.args.down-idsums.now in
+    let came-to-upstream-taken : Came (hand) c.args.s c.packets_stage-upstream_taken.result (upstream_taken c.args.p (hand) (up) (down) c.args.s) = packets_first _ _ _ _ _ c.packets_stage-upstream_taken.ensures.value in
+    then_end (came-to-upstream-taken) _ c.end_stage-upstream_ended.ensures
 
 pub overflow_sub-j : goal.overflow_sub-j
 overflow_sub-j c = (came-to-upstream-ended (goal.at.overflow_sub-j c).After-end_stage-upstream_ended).onward.low
@@ -66,8 +71,14 @@ slice_bounds-head_stage-start c = (came-to-upstream-ended (goal.at.slice_bounds-
 pub head_stage-headed-requires : goal.head_stage-headed-requires
 head_stage-headed-requires c = part_fits (came-to-upstream-ended (goal.at.head_stage-headed-requires c).After-end_stage-upstream_ended) (near (goal.at.head_stage-headed-requires c).Else-not-offsets_fit)
 
-came-to-downstream-headed : (c : After-head_stage-headed) → Came (hand c.before.before.before.before.before.before.before.before.before.before.before.before.before.before.before.before.before) c.args.s c.head_stage-headed.result (downstream_headed c.args.p (hand c.before.before.before.before.before.before.before.before.before.before.before.before.before.before.before.before.before) (up c.before.before.before.before.before.before.before.before.before.before.before.before.before.before.before.before.before) (down c.before.before.before.before.before.before.before.before.before.before.before.before.before.before.before.before.before) c.args.s)
-came-to-downstream-headed c = then_head (came-to-upstream-ended c.before.before.before) _ _ c.head_stage-headed.ensures
+came-to-downstream-headed : (c : After-head_stage-headed) → Came (hand) c.args.s c.head_stage-headed.result (downstream_headed c.args.p (hand) (up) (down) c.args.s)
+came-to-downstream-headed c =
+    let hand : List ℕ = c.args.bytes.now in
+    let up : Sketch = sketch c.args.up-counts.now c.args.up-idsums.now in
+    let down : Sketch = sketch c.args.down-counts.now c.args.down-idsums.now in
+    let came-to-upstream-taken : Came (hand) c.args.s c.packets_stage-upstream_taken.result (upstream_taken c.args.p (hand) (up) (down) c.args.s) = packets_first _ _ _ _ _ c.packets_stage-upstream_taken.ensures.value in
+    let came-to-upstream-ended : Came (hand) c.args.s c.end_stage-upstream_ended.result (upstream_ended c.args.p (hand) (up) (down) c.args.s) = then_end (came-to-upstream-taken) _ c.end_stage-upstream_ended.ensures in
+    then_head (came-to-upstream-ended) _ _ c.head_stage-headed.ensures
 
 pub overflow_sub-k : goal.overflow_sub-k
 overflow_sub-k c = (came-to-downstream-headed (goal.at.overflow_sub-k c).After-head_stage-headed).onward.low
@@ -81,8 +92,15 @@ slice_bounds-packets_stage-start c = (came-to-downstream-headed (goal.at.slice_b
 pub packets_stage-downstream_taken-requires : goal.packets_stage-downstream_taken-requires
 packets_stage-downstream_taken-requires c = part_fits (came-to-downstream-headed (goal.at.packets_stage-downstream_taken-requires c).After-head_stage-headed) (near (goal.at.packets_stage-downstream_taken-requires c).Else-not-offsets_fit)
 
-came-to-downstream-taken : (c : After-packets_stage-downstream_taken) → Came (hand c.before.before.before.before.before.before.before.before.before.before.before.before.before.before.before.before.before.before.before.before.before.before) c.args.s c.packets_stage-downstream_taken.result (downstream_taken c.args.p (hand c.before.before.before.before.before.before.before.before.before.before.before.before.before.before.before.before.before.before.before.before.before.before) (up c.before.before.before.before.before.before.before.before.before.before.before.before.before.before.before.before.before.before.before.before.before.before) (down c.before.before.before.before.before.before.before.before.before.before.before.before.before.before.before.before.before.before.before.before.before.before) c.args.s)
-came-to-downstream-taken c = then_packets (came-to-downstream-headed c.before.before.before.before.before) _ _ _ c.packets_stage-downstream_taken.ensures.0
+came-to-downstream-taken : (c : After-packets_stage-downstream_taken) → Came (hand) c.args.s c.packets_stage-downstream_taken.result (downstream_taken c.args.p (hand) (up) (down) c.args.s)
+came-to-downstream-taken c =
+    let hand : List ℕ = c.args.bytes.now in
+    let up : Sketch = sketch c.args.up-counts.now c.args.up-idsums.now in
+    let down : Sketch = sketch c.args.down-counts.now c.args.down-idsums.now in
+    let came-to-upstream-taken : Came (hand) c.args.s c.packets_stage-upstream_taken.result (upstream_taken c.args.p (hand) (up) (down) c.args.s) = packets_first _ _ _ _ _ c.packets_stage-upstream_taken.ensures.value in
+    let came-to-upstream-ended : Came (hand) c.args.s c.end_stage-upstream_ended.result (upstream_ended c.args.p (hand) (up) (down) c.args.s) = then_end (came-to-upstream-taken) _ c.end_stage-upstream_ended.ensures in
+    let came-to-downstream-headed : Came (hand) c.args.s c.head_stage-headed.result (downstream_headed c.args.p (hand) (up) (down) c.args.s) = then_head (came-to-upstream-ended) _ _ c.head_stage-headed.ensures in
+    then_packets (came-to-downstream-headed) _ _ _ c.packets_stage-downstream_taken.ensures.value
 
 pub overflow_sub-l : goal.overflow_sub-l
 overflow_sub-l c = (came-to-downstream-taken (goal.at.overflow_sub-l c).After-packets_stage-downstream_taken).onward.low
@@ -96,8 +114,16 @@ slice_bounds-end_stage-start-2 c = (came-to-downstream-taken (goal.at.slice_boun
 pub end_stage-downstream_ended-requires : goal.end_stage-downstream_ended-requires
 end_stage-downstream_ended-requires c = part_fits (came-to-downstream-taken (goal.at.end_stage-downstream_ended-requires c).After-packets_stage-downstream_taken) (near (goal.at.end_stage-downstream_ended-requires c).Else-not-offsets_fit)
 
-came-to-downstream-ended : (c : After-end_stage-downstream_ended) → Came (hand c.before.before.before.before.before.before.before.before.before.before.before.before.before.before.before.before.before.before.before.before.before.before.before.before.before.before.before.before) c.args.s c.end_stage-downstream_ended.result (downstream_ended c.args.p (hand c.before.before.before.before.before.before.before.before.before.before.before.before.before.before.before.before.before.before.before.before.before.before.before.before.before.before.before.before) (up c.before.before.before.before.before.before.before.before.before.before.before.before.before.before.before.before.before.before.before.before.before.before.before.before.before.before.before.before) (down c.before.before.before.before.before.before.before.before.before.before.before.before.before.before.before.before.before.before.before.before.before.before.before.before.before.before.before.before) c.args.s)
-came-to-downstream-ended c = then_end (came-to-downstream-taken c.before.before.before.before.before.before) _ c.end_stage-downstream_ended.ensures
+came-to-downstream-ended : (c : After-end_stage-downstream_ended) → Came (hand) c.args.s c.end_stage-downstream_ended.result (downstream_ended c.args.p (hand) (up) (down) c.args.s)
+came-to-downstream-ended c =
+    let hand : List ℕ = c.args.bytes.now in
+    let up : Sketch = sketch c.args.up-counts.now c.args.up-idsums.now in
+    let down : Sketch = sketch c.args.down-counts.now c.args.down-idsums.now in
+    let came-to-upstream-taken : Came (hand) c.args.s c.packets_stage-upstream_taken.result (upstream_taken c.args.p (hand) (up) (down) c.args.s) = packets_first _ _ _ _ _ c.packets_stage-upstream_taken.ensures.value in
+    let came-to-upstream-ended : Came (hand) c.args.s c.end_stage-upstream_ended.result (upstream_ended c.args.p (hand) (up) (down) c.args.s) = then_end (came-to-upstream-taken) _ c.end_stage-upstream_ended.ensures in
+    let came-to-downstream-headed : Came (hand) c.args.s c.head_stage-headed.result (downstream_headed c.args.p (hand) (up) (down) c.args.s) = then_head (came-to-upstream-ended) _ _ c.head_stage-headed.ensures in
+    let came-to-downstream-taken : Came (hand) c.args.s c.packets_stage-downstream_taken.result (downstream_taken c.args.p (hand) (up) (down) c.args.s) = then_packets (came-to-downstream-headed) _ _ _ c.packets_stage-downstream_taken.ensures.value in
+    then_end (came-to-downstream-taken) _ c.end_stage-downstream_ended.ensures
 
 pub overflow_sub-m : goal.overflow_sub-m
 overflow_sub-m c = (came-to-downstream-ended (goal.at.overflow_sub-m c).After-end_stage-downstream_ended).onward.low
@@ -108,8 +134,17 @@ slice_bounds-nothing_stage-count c = (came-to-downstream-ended (goal.at.slice_bo
 pub slice_bounds-nothing_stage-start : goal.slice_bounds-nothing_stage-start
 slice_bounds-nothing_stage-start c = (came-to-downstream-ended (goal.at.slice_bounds-nothing_stage-start c).After-end_stage-downstream_ended).onward.within
 
-came-to-all : (c : After-nothing_stage-fed) → Came (hand c.before.before.before.before.before.before.before.before.before.before.before.before.before.before.before.before.before.before.before.before.before.before.before.before.before.before.before.before.before.before.before) c.args.s c.nothing_stage-fed.result (fed_state c.args.p (hand c.before.before.before.before.before.before.before.before.before.before.before.before.before.before.before.before.before.before.before.before.before.before.before.before.before.before.before.before.before.before.before) (up c.before.before.before.before.before.before.before.before.before.before.before.before.before.before.before.before.before.before.before.before.before.before.before.before.before.before.before.before.before.before.before) (down c.before.before.before.before.before.before.before.before.before.before.before.before.before.before.before.before.before.before.before.before.before.before.before.before.before.before.before.before.before.before.before) c.args.s)
-came-to-all c = then_nothing (came-to-downstream-ended c.before.before.before) _ c.nothing_stage-fed.ensures
+came-to-all : (c : After-nothing_stage-fed) → Came (hand) c.args.s c.nothing_stage-fed.result (fed_state c.args.p (hand) (up) (down) c.args.s)
+came-to-all c =
+    let hand : List ℕ = c.args.bytes.now in
+    let up : Sketch = sketch c.args.up-counts.now c.args.up-idsums.now in
+    let down : Sketch = sketch c.args.down-counts.now c.args.down-idsums.now in
+    let came-to-upstream-taken : Came (hand) c.args.s c.packets_stage-upstream_taken.result (upstream_taken c.args.p (hand) (up) (down) c.args.s) = packets_first _ _ _ _ _ c.packets_stage-upstream_taken.ensures.value in
+    let came-to-upstream-ended : Came (hand) c.args.s c.end_stage-upstream_ended.result (upstream_ended c.args.p (hand) (up) (down) c.args.s) = then_end (came-to-upstream-taken) _ c.end_stage-upstream_ended.ensures in
+    let came-to-downstream-headed : Came (hand) c.args.s c.head_stage-headed.result (downstream_headed c.args.p (hand) (up) (down) c.args.s) = then_head (came-to-upstream-ended) _ _ c.head_stage-headed.ensures in
+    let came-to-downstream-taken : Came (hand) c.args.s c.packets_stage-downstream_taken.result (downstream_taken c.args.p (hand) (up) (down) c.args.s) = then_packets (came-to-downstream-headed) _ _ _ c.packets_stage-downstream_taken.ensures.value in
+    let came-to-downstream-ended : Came (hand) c.args.s c.end_stage-downstream_ended.result (downstream_ended c.args.p (hand) (up) (down) c.args.s) = then_end (came-to-downstream-taken) _ c.end_stage-downstream_ended.ensures in
+    then_nothing (came-to-downstream-ended) _ c.nothing_stage-fed.ensures
 
 pub overflow_sub-result : goal.overflow_sub-result
 overflow_sub-result c = (came-to-all (goal.at.overflow_sub-result c).After-nothing_stage-fed).onward.low
@@ -126,6 +161,6 @@ returns c =
     record {
       state = rw reach (came-to-all (goal.at.returns c).After-nothing_stage-fed).same;
       used = refl;
-      upstream = rw reach c.packets_stage-upstream_taken.ensures.1;
-      downstream = rw reach (then_sketch (came-to-downstream-headed (goal.at.returns c).After-head_stage-headed) _ _ _ c.packets_stage-downstream_taken.ensures.1);
+      upstream = rw reach c.packets_stage-upstream_taken.ensures.idsums_after;
+      downstream = rw reach (then_sketch (came-to-downstream-headed (goal.at.returns c).After-head_stage-headed) _ _ _ c.packets_stage-downstream_taken.ensures.idsums_after);
     }

@@ -10,7 +10,7 @@ use Rattle.desk.proofs.heads.begin.Goals as goal
 use Rattle.desk.proofs.heads.begin.Goals.{In-Done}
 
 pub returns-in_default : goal.returns-in_default
-returns-in_default c = first_refused_head _ _ c.head-h.ensures c.in_default.keys2
+returns-in_default c = first_refused_head _ _ c.head-h.ensures c.in_default.in_default-own.keys2
 
 -- the head says its parameters
 said : (c : In-Done) → (head_answer c.args.bytes.now ≡ Done) × (c.head-h.result.params ≡ params_in c.args.bytes.now)

@@ -12,7 +12,7 @@ use Rattle.desk.proofs.heads.judge_downstream_head.Goals as goal
 use Rattle.desk.proofs.heads.judge_downstream_head.Goals.{Else-not-few_enough, In-Done}
 
 pub returns-in_default : goal.returns-in_default
-returns-in_default c = second_refused _ _ c.requires (rw (ap (λ h. h.answer) c.head-h.ensures) at c.in_default.keys2)
+returns-in_default c = second_refused _ _ c.requires (rw (ap (λ h. h.answer) c.head-h.ensures) at c.in_default.in_default-own.keys2)
 
 -- the head says its parameters, and is good
 said : (c : In-Done) → (head_answer c.args.bytes.now ≡ Done) × (c.head-h.result.params ≡ params_in c.args.bytes.now)
@@ -29,7 +29,9 @@ returns-then-not-few_enough c = second_too_large _ _ (good (goal.at.returns-then
 
 -- and have few enough buckets
 small : (c : Else-not-few_enough) → few_enough (params_in c.args.bytes.now) ≡ true
-small c = ap few_enough (sym (said c.before.before.before).1) ∙ test_held c.few_enough.ensures c.if-not-few_enough.false-raw
+small c =
+    let said : (head_answer c.args.bytes.now ≡ Done) × (c.head-h.result.params ≡ params_in c.args.bytes.now) = head_says _ _ c.head-h.ensures c.in-Done.is in
+    ap few_enough (sym (said).1) ∙ test_held c.few_enough.ensures c.if-not-few_enough.false-raw
 
 pub returns-then-not-same : goal.returns-then-not-same
 returns-then-not-same c = second_other _ _ (good (goal.at.returns-then-not-same c).In-Done) (small (goal.at.returns-then-not-same c).Else-not-few_enough)

@@ -13,11 +13,11 @@ use Rattle.desk.proofs.stages.packets_stage.Goals.{After-take_packets-run}
 
 pub returns-then-not-is_due : goal.returns-then-not-is_due
 unfolding packets_stage packets_sketch
-returns-then-not-is_due c = let e = test_failed c.is_due.ensures c.if-not-is_due.true-raw in (rw e, rw e)
+returns-then-not-is_due c = let e = test_failed c.is_due.ensures c.if-not-is_due.true-raw in record { value = rw e; idsums_after = rw e }
 
 -- the packets that were taken lie within the bytes
 within : (c : After-take_packets-run) → packets_length * c.take_packets-run.result.taken ≤ length c.args.bytes.now
-within c = rw (ap (λ r. r.taken) c.take_packets-run.ensures.0) (taken_bytes _ _ _)
+within c = rw (ap (λ r. r.taken) c.take_packets-run.ensures.value) (taken_bytes _ _ _)
 
 pub overflow_mul-result : goal.overflow_mul-result
 overflow_mul-result c = omega (arith, bounded _ _ c.requires, within (goal.at.overflow_mul-result c).After-take_packets-run)
@@ -33,4 +33,4 @@ unfolding packets_stage packets_sketch packets_state
 returns c =
     let run = c.take_packets-run.ensures in
     let due = test_held c.is_due.ensures c.if-not-is_due.false-raw in
-    (rw (due, c.stage_after.ensures, run.0), rw due run.1)
+    record { value = rw (due, c.stage_after.ensures, run.0); idsums_after = rw due run.1 }

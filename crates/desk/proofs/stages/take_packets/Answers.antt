@@ -25,7 +25,7 @@ there c = packets_there _ _ _ _ (sym (c.packets_at-found.ensures ∙ ap (packets
 -- none do
 none : (c : In_default)
     → is_kind packets_kind (record_at c.args.bytes.now (packet_from 0 c.loop-flow.true)) ≡ false
-none c = packets_not_there _ _ _ (c.packets_at-found.ensures ∙ ap (packets_at _) c.loop-flow.invariant.0) c.in_default.keys2
+none c = packets_not_there _ _ _ (c.packets_at-found.ensures ∙ ap (packets_at _) c.loop-flow.invariant.0) c.in_default.in_default-own.keys2
 
 pub shape_of-counts-in_default-answer : goal.shape_of-counts-in_default-answer
 shape_of-counts-in_default-answer c = (stepped_long c.put_in-answer.ensures).counts ∙ c.loop-flow.invariant.1
@@ -37,9 +37,9 @@ pub returns-in_default-answer : goal.returns-in_default-answer
 returns-in_default-answer c =
     let l = c.loop-flow in
     let z = c.put_in-answer.ensures in
-    let refused = c.in_default-answer.keys2 in
+    let refused = c.in_default-answer.in_default-answer-own.keys2 in
     let r = run_refused _ _ _ _ _ l.invariant.3 _ _ (there (goal.at.returns-in_default-answer c).In-Of) _ z.answer refused in
-    (r.0, z.after ∙ sym (kept_old _ _ _ refused) ∙ r.1)
+    record { value = r.0; idsums_after = z.after ∙ sym (kept_old _ _ _ refused) ∙ r.1 }
 
 pub overflow_add-at : goal.overflow_add-at
 overflow_add-at c = let l = c.loop-flow in omega (arith, l.invariant.0, next_ends _ 0 _ _ _ _ l.invariant.3 _ _ (there (goal.at.overflow_add-at c).In-Of))
@@ -69,4 +69,4 @@ pub shape_of-idsums : goal.shape_of-idsums
 shape_of-idsums c = c.loop-flow.invariant.2
 
 pub returns : goal.returns
-returns c = run_ended _ _ _ _ _ c.loop-flow.invariant.3 (none c)
+returns c = run_ended _ _ _ _ _ c.loop-flow.invariant.3 (none (goal.at.returns c).In_default)

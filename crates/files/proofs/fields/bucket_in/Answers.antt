@@ -14,5 +14,5 @@ returns-then-body-ne-BUCKET_BODY c = rw (ne_eqb _ _ c.if-body-ne-BUCKET_BODY.tru
 pub returns : goal.returns
 unfolding bucket_in_body
 returns c =
-    let count = back w32 _ c.count_of-count.type-inv ∙ c.count_of-count.ensures ∙ ap count_of c.word.ensures in
+    let count = back w32 _ c.count_of-count.type_inv ∙ c.count_of-count.ensures ∙ ap count_of c.word.ensures in
     rw (eq-eqb _ _ c.if-body-ne-BUCKET_BODY.false, count, c.word-2.ensures, c.word-3.ensures)

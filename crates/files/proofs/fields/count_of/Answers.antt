@@ -19,10 +19,10 @@ narrow : (c : Else-n-lt2147483648) → SFits w32 (count_of c.args.n)
 narrow c = sfits_to_z c.ranges.n
 
 pub overflow_sub-result : goal.overflow_sub-result
-overflow_sub-result c = subst⁻¹ (SFits w64) (computed c) (sfits_widen tt (narrow c))
+overflow_sub-result c = subst⁻¹ (SFits w64) (computed (goal.at.overflow_sub-result c).Else-n-lt2147483648) (sfits_widen tt (narrow (goal.at.overflow_sub-result c).Else-n-lt2147483648))
 
 pub overflow_cast-result-3 : goal.overflow_cast-result-3
-overflow_cast-result-3 c = subst⁻¹ (SFits w32) (to_z-of_z (sub-result c) ∙ computed c) (narrow c)
+overflow_cast-result-3 c = subst⁻¹ (SFits w32) (to_z-of_z (overflow_sub-result c) ∙ computed (goal.at.overflow_cast-result-3 c).Else-n-lt2147483648) (narrow (goal.at.overflow_cast-result-3 c).Else-n-lt2147483648)
 
 pub returns : goal.returns
-returns c = to_z-of_z (cast-result-3 c) ∙ to_z-of_z (sub-result c) ∙ computed c
+returns c = to_z-of_z (overflow_cast-result-3 c) ∙ to_z-of_z (overflow_sub-result c) ∙ computed (goal.at.returns c).Else-n-lt2147483648

@@ -24,7 +24,9 @@ params_in-p-requires c = head_body_long _ c.body.ensures (headed (goal.at.params
 
 -- and its parameters were read
 said : (c : After-params_in-p) → c.params_in-p.result ≡ params_in c.args.bytes.now
-said c = c.params_in-p.ensures ∙ body_params _ c.body.ensures (headed c.before.before)
+said c =
+    let headed : is_head (record_at c.args.bytes.now 0) ≡ true = test_held c.is_head.ensures c.if-not-is_head.false-raw in
+    c.params_in-p.ensures ∙ body_params _ c.body.ensures (headed)
 
 pub bounds-bytes-0 : goal.bounds-bytes-0
 bounds-bytes-0 c = head_inside _ 0 (headed (goal.at.bounds-bytes-0 c).Else-not-is_head)
@@ -33,8 +35,10 @@ bounds-bytes-0 c = head_inside _ 0 (headed (goal.at.bounds-bytes-0 c).Else-not-i
 judged : (c : After-good_head) → c.good_head.result ≡ good_head c.args.bytes.now
 unfolding good_head
 judged c =
+    let headed : is_head (record_at c.args.bytes.now 0) ≡ true = test_held c.is_head.ensures c.if-not-is_head.false-raw in
+    let said : c.params_in-p.result ≡ params_in c.args.bytes.now = c.params_in-p.ensures ∙ body_params _ c.body.ensures (headed) in
     let bs = c.args.bytes.now in
-    c.good_head.ensures ∙ ap (λ p. good_params p && eqb (get_or bs 0 0) (head_kind_of p)) (said c.before.before)
+    c.good_head.ensures ∙ ap (λ p. good_params p && eqb (get_or bs 0 0) (head_kind_of p)) (said)
 
 pub returns-then-not-good_head : goal.returns-then-not-good_head
 returns-then-not-good_head c = c.none-then-not-good_head.ensures ∙ bad_head _ (headed (goal.at.returns-then-not-good_head c).Else-not-is_head) (test_failed (judged (goal.at.returns-then-not-good_head c).After-good_head) c.if-not-good_head.true-raw)

@@ -11,7 +11,7 @@ use Rattle.files.proofs.heads.judge_parameters.Goals as goal
 use Rattle.files.proofs.heads.judge_parameters.Goals.{Else-not-check, In-Done}
 
 pub returns-in_default : goal.returns-in_default
-returns-in_default c = head_refused _ _ _ (ap (λ h. h.answer) c.head-h.ensures) c.in_default.keys2
+returns-in_default c = head_refused _ _ _ (ap (λ h. h.answer) c.head-h.ensures) c.in_default.in_default-own.keys2
 
 -- the head says its parameters
 headed : (c : In-Done) → head_answer c.args.bytes.now ≡ Done

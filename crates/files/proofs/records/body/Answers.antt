@@ -11,7 +11,7 @@ pub returns-in_default : goal.returns-in_default
 returns-in_default c =
     let a = c.args in
     let e = c.record_at-found.ensures in
-    let n = not_whole c.record_at-found.result a.at a.bytes.now c.in_default.keys2 in
+    let n = not_whole c.record_at-found.result a.at a.bytes.now c.in_default.in_default-own.keys2 in
     record { content = rw (← e) (sym n.1); block = refl; offset = rw (← e, n.2) (sym (add-zero _)) }
 
 -- the record is whole
@@ -19,16 +19,16 @@ whole : (c : In-Whole) → Stands c.args.bytes.now c.args.at c.in-Whole.field-0 
 whole c = stands_whole _ _ _ _ (sym c.record_at-found.ensures ∙ c.in-Whole.is)
 
 pub overflow_add-start : goal.overflow_add-start
-overflow_add-start c = omega (arith, whole c)
+overflow_add-start c = omega (arith, whole (goal.at.overflow_add-start c).In-Whole)
 
 pub slice_bounds-result-count : goal.slice_bounds-result-count
-slice_bounds-result-count c = omega (arith, whole c)
+slice_bounds-result-count c = omega (arith, whole (goal.at.slice_bounds-result-count c).In-Whole)
 
 pub slice_bounds-result-start : goal.slice_bounds-result-start
-slice_bounds-result-start c = omega (arith, whole c)
+slice_bounds-result-start c = omega (arith, whole (goal.at.slice_bounds-result-start c).In-Whole)
 
 pub slice_bounds-result-end-2 : goal.slice_bounds-result-end-2
-slice_bounds-result-end-2 c = (whole c).within
+slice_bounds-result-end-2 c = (whole (goal.at.slice_bounds-result-end-2 c).In-Whole).within
 
 pub returns : goal.returns
 unfolding body_of body_start

@@ -36,19 +36,19 @@ pub overflow_cast-result : goal.overflow_cast-result
 overflow_cast-result c = widens c.ranges.c
 
 pub overflow_add-result : goal.overflow_add-result
-overflow_add-result c = subst⁻¹ (SFits w64) (sum_is c) (word_fits c)
+overflow_add-result c = subst⁻¹ (SFits w64) (sum_is (goal.at.overflow_add-result c).Then-c-lt0) (word_fits (goal.at.overflow_add-result c).Then-c-lt0)
 
 pub overflow_cast-result-then-c-lt0 : goal.overflow_cast-result-then-c-lt0
-overflow_cast-result-then-c-lt0 c = cast_asks (as_is (sum_is c) (word_fits c)) (Fits-of_z c.ranges.c)
+overflow_cast-result-then-c-lt0 c = cast_asks (as_is (sum_is (goal.at.overflow_cast-result-then-c-lt0 c).Then-c-lt0) (word_fits (goal.at.overflow_cast-result-then-c-lt0 c).Then-c-lt0)) (Fits-of_z c.ranges.c)
 
 pub returns-then-c-lt0 : goal.returns-then-c-lt0
-returns-then-c-lt0 c = ap nat_abs (as_is (sum_is c) (word_fits c))
+returns-then-c-lt0 c = ap nat_abs (as_is (sum_is (goal.at.returns-then-c-lt0 c).Then-c-lt0) (word_fits (goal.at.returns-then-c-lt0 c).Then-c-lt0))
 
 as-word : (c : Else-c-lt0) → to_z w32 (of_z w32 c.args.c) ≡ pos (of_z w32 c.args.c)
 as-word c = to_z-of_z c.ranges.c ∙ own-word _ (tested c.ranges.c ∙ c.if-c-lt0.false)
 
 pub overflow_cast-result-2 : goal.overflow_cast-result-2
-overflow_cast-result-2 c = cast_asks (as-word c) (Fits-of_z c.ranges.c)
+overflow_cast-result-2 c = cast_asks (as-word (goal.at.overflow_cast-result-2 c).Else-c-lt0) (Fits-of_z c.ranges.c)
 
 pub returns : goal.returns
-returns c = ap nat_abs (as-word c)
+returns c = ap nat_abs (as-word (goal.at.returns c).Else-c-lt0)

@@ -13,14 +13,14 @@ use Rattle.files.proofs.writing.put_packets.Goals as goal
 use Rattle.files.proofs.writing.put_packets.Goals.{Else-not-fits}
 
 room : (c : Else-not-fits) → c.args.at + packets_length ≤ length c.args.out.now
-room c = leb-true _ _ (test_held c.fits2.ensures c.if-not-fits.false-raw)
+room c = leb-true _ _ (test_held c.fits.ensures c.if-not-fits.false-raw)
 
 pub returns-then-not-fits : goal.returns-then-not-fits
 unfolding packet_bytes word_bytes
-returns-then-not-fits c = sym (written_not _ _ _ (leb-false _ _ (test_failed c.fits2.ensures c.if-not-fits.true-raw)))
+returns-then-not-fits c = sym (written_not _ _ _ (leb-false _ _ (test_failed c.fits.ensures c.if-not-fits.true-raw)))
 
 pub bounds-out-at : goal.bounds-out-at
-bounds-out-at c = omega (arith, room c)
+bounds-out-at c = omega (arith, room (goal.at.bounds-out-at c).Else-not-fits)
 
 pub overflow_add-at : goal.overflow_add-at
 overflow_add-at c = omega (arith, room (goal.at.overflow_add-at c).Else-not-fits)

@@ -14,4 +14,4 @@ returns c =
     rw some (line_in_the_rest _ _ _ _ (omega arith) (length_left _ _ _ (omega arith) c.ranges.count (omega arith)) (rw (to_z-of_z c.ranges.count) at c.left_line.ensures))
 
 pub overflow_add-result : goal.overflow_add-result
-overflow_add-result c = omega (arith, (returns-2 c).1)
+overflow_add-result c = omega (arith, (returns c).1)

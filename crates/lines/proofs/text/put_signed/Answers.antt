@@ -34,7 +34,7 @@ pub overflow_add-z : goal.overflow_add-z
 overflow_add-z c = rw (read (goal.at.overflow_add-z c).Then-z-lt0) (record { fits = omega (arith, abs_of_sfits c.ranges.z) })
 
 pub put_decimal-requires : goal.put_decimal-requires
-put_decimal-requires c = let a = c.args in omega (arith, length-set a.out.now a.at 45, length_decimal _ (add-put-decimal-2 c).ranges)
+put_decimal-requires c = let a = c.args in omega (arith, length-set a.out.now a.at 45, length_decimal _ (overflow_add-z c).ranges)
 
 pub shape_of-out-then-z-lt0 : goal.shape_of-out-then-z-lt0
 shape_of-out-then-z-lt0 c = let a = c.args in omega (arith, length-set a.out.now a.at 45)
@@ -53,7 +53,7 @@ pub overflow_cast-z-2 : goal.overflow_cast-z-2
 overflow_cast-z-2 c = cast_asks (plain (goal.at.overflow_cast-z-2 c).Else-z-lt0) (record { fits = omega (arith, abs_of_sfits c.ranges.z) })
 
 pub put_decimal-requires-2 : goal.put_decimal-requires-2
-put_decimal-requires-2 c = omega (arith, length_decimal _ (cast-put-decimal-2 c).1.fits)
+put_decimal-requires-2 c = omega (arith, length_decimal _ (overflow_cast-z-2 c).1.fits)
 
 pub returns : goal.returns
 returns c =

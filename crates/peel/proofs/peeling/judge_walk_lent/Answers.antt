@@ -19,7 +19,9 @@ long c = (lent_done _ _ _ (sketch-lent c)).1
 -- so were the other lengths
 passed : (c : Else-flows-gt65536) → let a = c.args in Lent a.p a.flows a.numbers a.queue a.marks
 passed c =
-    let e = long c.before.before.before.before in
+    let sketch-lent : lent_answer c.args.p c.args.counts c.args.idsums ≡ Done = sym c.judge_lent-r.ensures ∙ c.in-Done.is in
+    let long : c.args.counts ≡ c.args.p.d * c.args.p.m = (lent_done _ _ _ (sketch-lent)).1 in
+    let e = long in
     record {
       queue_long = c.if-queue-counts.false ∙ e;
       marks_long = c.if-marks-counts.false ∙ e;
@@ -28,7 +30,7 @@ passed c =
     }
 
 pub returns-in_default : goal.returns-in_default
-returns-in_default c = sketch_refused _ _ _ _ _ _ _ _ c.judge_lent-r.ensures c.in_default.keys2
+returns-in_default c = sketch_refused _ _ _ _ _ _ _ _ c.judge_lent-r.ensures c.in_default.in_default-own.keys2
 
 pub returns-then-queue-counts : goal.returns-then-queue-counts
 returns-then-queue-counts c = ill_lent _ _ _ _ _ _ _ (sketch-lent (goal.at.returns-then-queue-counts c).In-Done) (λ l. c.if-queue-counts.true (l.queue_long ∙ sym (long (goal.at.returns-then-queue-counts c).In-Done)))
@@ -43,4 +45,4 @@ pub returns-then-flows-gt65536 : goal.returns-then-flows-gt65536
 returns-then-flows-gt65536 c = ill_lent _ _ _ _ _ _ _ (sketch-lent (goal.at.returns-then-flows-gt65536 c).In-Done) (λ l. omega (arith, c.if-flows-gt65536.true, l.few))
 
 pub returns : goal.returns
-returns c = well_lent _ _ _ _ _ _ _ (sketch-lent (goal.at.returns c).In-Done) (passed c)
+returns c = well_lent _ _ _ _ _ _ _ (sketch-lent (goal.at.returns c).In-Done) (passed (goal.at.returns c).Else-flows-gt65536)

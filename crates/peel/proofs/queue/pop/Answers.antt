@@ -14,7 +14,7 @@ overflow_mul-marks c =
     omega (arith, c.slice_known-1.given k)
 
 pub bounds-marks-k-2 : goal.bounds-marks-k-2
-bounds-marks-k-2 c = slice-read-marks c
+bounds-marks-k-2 c = bounds-marks-k c
 
 pub returns : goal.returns
 returns c = ring_pop c.requires.0 c.requires.1

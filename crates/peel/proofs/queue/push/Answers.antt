@@ -19,10 +19,10 @@ pub overflow_add-queue : goal.overflow_add-queue
 overflow_add-queue c = let h = c.requires in omega (arith, c.slice_known-then-marks-k-eq0-1.given c.ring_place-at.result, h.1, h.2)
 
 pub offset_bounds-queue-at-then-marks-k-eq0 : goal.offset_bounds-queue-at-then-marks-k-eq0
-offset_bounds-queue-at-then-marks-k-eq0 c = mul-queue c
+offset_bounds-queue-at-then-marks-k-eq0 c = offset_bounds-queue-at c
 
 pub bounds-queue-at-then-marks-k-eq0 : goal.bounds-queue-at-then-marks-k-eq0
-bounds-queue-at-then-marks-k-eq0 c = slice-read-queue c
+bounds-queue-at-then-marks-k-eq0 c = bounds-queue-at c
 
 pub overflow_mul-marks : goal.overflow_mul-marks
 overflow_mul-marks c = omega (arith, c.slice_known-then-marks-k-eq0-2-1.given c.args.k)

@@ -21,10 +21,10 @@ within : (c : In-loop-i) → Within c.args.d c.args.m c.loop-i.i (get_or c.args.
 within c = reach c.loop-i.i c.requires.0 c.loop-i-test.true
 
 pub overflow_mul-j : goal.overflow_mul-j
-overflow_mul-j c = omega (arith, (within c).bucket, (within c).size)
+overflow_mul-j c = omega (arith, (within (goal.at.overflow_mul-j c).In-loop-i).bucket, (within (goal.at.overflow_mul-j c).In-loop-i).size)
 
 pub offset_bounds-ks-i : goal.offset_bounds-ks-i
-offset_bounds-ks-i c = omega (arith, (within c).few)
+offset_bounds-ks-i c = omega (arith, (within (goal.at.offset_bounds-ks-i c).In-loop-i).few)
 
 pub bounds-ks-i : goal.bounds-ks-i
 bounds-ks-i c = (within (goal.at.bounds-ks-i c).In-loop-i).few

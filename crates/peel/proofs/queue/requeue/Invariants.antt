@@ -1,4 +1,5 @@
 -- `peel::queue::requeue` meets its contract: the rest of the requeueing, from the ring as it stands, gives the queue that the whole gives from the ring at the start.
+use mathlib.Core.List.{[]}
 use Prim.Native.Nat.{◌+◌, ◌*◌, ◌-◌, ◌≤◌}
 use lib.ListN.{get_or}
 use Rattle.sketch.specs.Sketch.{sketch}

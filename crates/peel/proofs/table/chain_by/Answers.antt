@@ -14,10 +14,10 @@ scaled_fits : (x n : ℕ) → x ≤ 65535 → n ≤ 65536 → x * n ≤ 65535 * 
 scaled_fits x n h k = mul-le-mul {n₁ = x} {m₁ = n} {n₂ = 65535} {m₂ = 65536} h k
 
 pub overflow_mul-value : goal.overflow_mul-value
-overflow_mul-value c = omega (arith, product_fits c)
+overflow_mul-value c = omega (arith, product_fits (goal.at.overflow_mul-value c).Start)
 
 pub overflow_add-value : goal.overflow_add-value
-overflow_add-value c = omega (arith, product_fits c)
+overflow_add-value c = omega (arith, product_fits (goal.at.overflow_add-value c).Start)
 
 pub overflow_mul-result : goal.overflow_mul-result
 overflow_mul-result c = omega (arith, scaled_fits ((c.args.a * c.args.f + c.args.b) % 2147483647 * 2654435769 % 4294967296 / 65536) c.args.chains (omega arith) c.requires)

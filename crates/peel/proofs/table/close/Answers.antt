@@ -37,25 +37,33 @@ small c = omega (arith, abs_parts (number c), abs_of_sfits (fits c))
 -- where it is not 0 it stands in the first slot that is free, moved or not
 kept : (c : Joined-entries-i) → let l = c.loop-i in Holds l.entries (row l.flows l.numbers l.i) l.flows l.numbers c.if-entries-i.flows c.if-entries-i.numbers
 kept c =
+    let number : ℤ = get_or c.loop-i.numbers c.loop-i.i (pos 0) in
+    let fits : SFits w32 (number) = sfits_of c.c-1.given in
     let v = c.loop-i.invariant in
     ⊎_elim
     (λ w.
-    rw (w.2, w.3, to_z-of_z (fits c.before.before))
+    rw (w.2, w.3, to_z-of_z (fits))
     (holds_written (omega (arith, v.2, c.requires.0)) (omega (arith, v.3, c.requires.0, c.requires.1))))
     (λ w. rw (w.1, w.2) (holds_in_place (omega (arith, w.0.left, v.0))))
     c.if-entries-i.branch
 
-lost_by_lem : (c : After-up-lost) → c.up-lost.result ≡ up (number c.before.before.before)
-lost_by_lem c = c.up-lost.ensures ∙ ap up (to_z-of_z (fits c.before.before.before))
+lost_by_lem : (c : After-up-lost) → c.up-lost.result ≡ up (number)
+lost_by_lem c =
+    let number : ℤ = get_or c.loop-i.numbers c.loop-i.i (pos 0) in
+    let fits : SFits w32 (number) = sfits_of c.c-1.given in
+    c.up-lost.ensures ∙ ap up (to_z-of_z (fits))
 
-extra_by_lem : (c : After-down-extra) → c.down-extra.result ≡ down (number c.before.before.before.before)
-extra_by_lem c = c.down-extra.ensures ∙ ap down (to_z-of_z (fits c.before.before.before.before))
+extra_by_lem : (c : After-down-extra) → c.down-extra.result ≡ down (number)
+extra_by_lem c =
+    let number : ℤ = get_or c.loop-i.numbers c.loop-i.i (pos 0) in
+    let fits : SFits w32 (number) = sfits_of c.c-1.given in
+    c.down-extra.ensures ∙ ap down (to_z-of_z (fits))
 
 pub overflow_add-lost : goal.overflow_add-lost
-overflow_add-lost c = record { fits = omega (arith, small (goal.at.overflow_add-lost c).After-c-1, lost_by_lem c, c.loop-i.invariant.4, c.loop-i.invariant.0, c.loop-i.invariant.1, c.requires.2) }
+overflow_add-lost c = record { fits = omega (arith, small (goal.at.overflow_add-lost c).After-c-1, lost_by_lem (goal.at.overflow_add-lost c).After-up-lost, c.loop-i.invariant.4, c.loop-i.invariant.0, c.loop-i.invariant.1, c.requires.2) }
 
 pub overflow_add-extra : goal.overflow_add-extra
-overflow_add-extra c = record { fits = omega (arith, small (goal.at.overflow_add-extra c).After-c-1, extra_by_lem c, c.loop-i.invariant.4, c.loop-i.invariant.0, c.loop-i.invariant.1, c.requires.2) }
+overflow_add-extra c = record { fits = omega (arith, small (goal.at.overflow_add-extra c).After-c-1, extra_by_lem (goal.at.overflow_add-extra c).After-down-extra, c.loop-i.invariant.4, c.loop-i.invariant.0, c.loop-i.invariant.1, c.requires.2) }
 
 pub loop-i-smaller : goal.loop-i-smaller
 loop-i-smaller c = omega arith

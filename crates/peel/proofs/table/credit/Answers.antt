@@ -23,15 +23,15 @@ sum_is : (c : After-numbers-1) → to_z w32 (of_z w32 (entry c)) +ℤ to_z w32 (
 sum_is c = ap₂ ◌+ℤ◌ (back w32 (entry c) c.numbers-1.given) (to_z-of_z c.ranges.c)
 
 sum_fits : (c : After-numbers-1) → SFits w32 (entry c +ℤ c.args.c)
-sum_fits c = limits_fit _ (rw (table_held c.args.flows.now c.args.numbers.now c.args.n c.args.f c.args.at c.requires.0.0 c.if-at-n.true) at c.requires.0.4)
+sum_fits c = limits_fit _ (rw (table_held c.args.flows.now c.args.numbers.now c.args.n c.args.f c.args.at c.requires.finds.0 c.if-at-n.true) at c.requires.finds.4)
 
 pub overflow_add-numbers : goal.overflow_add-numbers
-overflow_add-numbers c = subst⁻¹ (SFits w32) (sum_is c) (sum_fits c)
+overflow_add-numbers c = subst⁻¹ (SFits w32) (sum_is (goal.at.overflow_add-numbers c).After-numbers-1) (sum_fits (goal.at.overflow_add-numbers c).After-numbers-1)
 
 pub returns-then-at-n : goal.returns-then-at-n
 returns-then-at-n c = (
-  rw (as_is (sum_is c) (sum_fits c))
-      (credit_old _ _ _ _ _ c.requires.0.0 c.args.c c.if-at-n.true (omega (arith, c.requires.0.1, c.requires.0.3)) c.requires.0.3),
+  rw (as_is (sum_is (goal.at.returns-then-at-n c).After-numbers-1) (sum_fits (goal.at.returns-then-at-n c).After-numbers-1))
+      (credit_old _ _ _ _ _ c.requires.finds.0 c.args.c c.if-at-n.true (omega (arith, c.requires.finds.1, c.requires.finds.3)) c.requires.finds.3),
   relinked_old,
 )
 
@@ -44,9 +44,9 @@ shape_of-marks c = ⊎_elim (λ w. ap length w.9 ∙ w.3.kept.1.0) (λ w. ap len
 pub returns : goal.returns
 returns c = (
   rw (to_z-of_z c.ranges.c)
-      (credit_new _ _ _ _ _ c.requires.0.0 c.args.c c.if-at-n.false (omega (arith, c.requires.0.1, c.requires.0.2)) c.requires.0.2),
+      (credit_new _ _ _ _ _ c.requires.finds.0 c.args.c c.if-at-n.false (omega (arith, c.requires.finds.1, c.requires.finds.2)) c.requires.finds.2),
   ⊎_elim
-      (λ w. rw (w.8, w.9) (relinked_new c.requires.0.0 c.if-at-n.false c.requires.0.2 w.0.taken c.requires.1.1 w.3.ensures))
-      (λ w. rw (w.1, w.2) (relinked_past c.requires.0.0 c.if-at-n.false c.requires.0.2 w.0.left))
+      (λ w. rw (w.8, w.9) (relinked_new c.requires.finds.0 c.if-at-n.false c.requires.finds.2 w.0.taken c.requires.queue_len_bound.1 w.3.ensures))
+      (λ w. rw (w.1, w.2) (relinked_past c.requires.finds.0 c.if-at-n.false c.requires.finds.2 w.0.left))
       c.if-at-queue.branch,
 )

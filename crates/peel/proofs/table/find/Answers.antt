@@ -20,7 +20,7 @@ pub loop-x-init : goal.loop-x-init
 loop-x-init c = follow_first c.requires.0
 
 pub offset_bounds-flows-e : goal.offset_bounds-flows-e
-offset_bounds-flows-e c = omega (arith, in_table c, c.well-formed.0.1)
+offset_bounds-flows-e c = omega (arith, in_table (goal.at.offset_bounds-flows-e c).In-loop-x, c.well-formed.0.1)
 
 pub bounds-flows-e : goal.bounds-flows-e
 bounds-flows-e c = in_table (goal.at.bounds-flows-e c).In-loop-x

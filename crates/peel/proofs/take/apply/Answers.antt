@@ -17,22 +17,22 @@ use Rattle.peel.proofs.take.apply.Goals.{At-loop-i, In-loop-i}
 -- the sketch keeps its lengths
 lens : (c : At-loop-i) → (length c.loop-i.counts ≡ c.args.d * c.args.m) × (length c.loop-i.idsums ≡ c.args.d * c.args.m)
 lens c = (
-  ap length c.loop-i.invariant.1 ∙ length_touched _ _ _ ∙ c.requires.0.0.counts_long,
-  ap length c.loop-i.invariant.2 ∙ length_touched _ _ _ ∙ c.requires.0.0.idsums_long,
+  ap length c.loop-i.invariant.1 ∙ length_touched _ _ _ ∙ c.requires.within_arrays.0.counts_long,
+  ap length c.loop-i.invariant.2 ∙ length_touched _ _ _ ∙ c.requires.within_arrays.0.idsums_long,
 )
 
 -- what a turn reaches
 within : (c : In-loop-i) → Within c.args.d c.args.m c.loop-i.i (get_or c.args.ks.now c.loop-i.i 0)
-within c = reach c.loop-i.i c.requires.0.0 c.loop-i-test.true
+within c = reach c.loop-i.i c.requires.within_arrays.0 c.loop-i-test.true
 
 pub loop-i-init : goal.loop-i-init
-loop-i-init c = (search rules, turns_start (pos 0) _ _ _ _, turns_start 0 _ _ _ _, c.requires.0.1)
+loop-i-init c = (search rules, turns_start (pos 0) _ _ _ _, turns_start 0 _ _ _ _, c.requires.within_arrays.1)
 
 pub overflow_mul-j : goal.overflow_mul-j
-overflow_mul-j c = omega (arith, within c)
+overflow_mul-j c = omega (arith, within (goal.at.overflow_mul-j c).In-loop-i)
 
 pub offset_bounds-ks-i : goal.offset_bounds-ks-i
-offset_bounds-ks-i c = omega (arith, (within c).few)
+offset_bounds-ks-i c = omega (arith, (within (goal.at.offset_bounds-ks-i c).In-loop-i).few)
 
 pub bounds-ks-i : goal.bounds-ks-i
 bounds-ks-i c = (within (goal.at.bounds-ks-i c).In-loop-i).few
@@ -46,13 +46,13 @@ take_one-nonzero-requires c =
     let h = c.loop-i-test.true in
     let w = within (goal.at.take_one-nonzero-requires c).In-loop-i in
     let e = lens (goal.at.take_one-nonzero-requires c).At-loop-i in
-    let r = c.requires.0.0 in
+    let r = c.requires.within_arrays.0 in
     record {
       inside = omega (arith, w.bucket, e.0);
       inside_ids = omega (arith, w.bucket, e.1);
-      limits = rw (bucket_old (pos 0) c.args.m (λ j. get_or c.args.ks.now j 0) l.i _ c.args.counts.now _ r.m_low (r.inside l.i h) (omega (arith, w.bucket, r.counts_long)) l.invariant.1, to_z-of_z c.ranges.c) (c.requires.1.0 l.i h);
-      idsum = rw (bucket_old 0 c.args.m (λ j. get_or c.args.ks.now j 0) l.i _ c.args.idsums.now _ r.m_low (r.inside l.i h) (omega (arith, w.bucket, r.idsums_long)) l.invariant.2) (c.requires.1.1.0 l.i h);
-      small = c.requires.1.1.1;
+      limits = rw (bucket_old (pos 0) c.args.m (λ j. get_or c.args.ks.now j 0) l.i _ c.args.counts.now _ r.m_low (r.inside l.i h) (omega (arith, w.bucket, r.counts_long)) l.invariant.1, to_z-of_z c.ranges.c) (c.requires.by_index l.i h);
+      idsum = rw (bucket_old 0 c.args.m (λ j. get_or c.args.ks.now j 0) l.i _ c.args.idsums.now _ r.m_low (r.inside l.i h) (omega (arith, w.bucket, r.idsums_long)) l.invariant.2) (c.requires.by_index_2.0 l.i h);
+      small = c.requires.by_index_2.1;
       counted = l.invariant.3;
     }
 
@@ -61,7 +61,7 @@ loop-i-preserved c =
     let l = c.loop-i in
     let h = c.loop-i-test.true in
     let w = within (goal.at.loop-i-preserved c).In-loop-i in
-    let r = c.requires.0.0 in
+    let r = c.requires.within_arrays.0 in
     let t = c.take_one-nonzero.ensures in (
       omega arith,
       bucket_next (pos 0) c.args.m (λ j. get_or c.args.ks.now j 0) l.i _ c.args.counts.now _ r.m_low (r.inside l.i h) (omega (arith, w.bucket, r.counts_long)) l.invariant.1 _ t.counts,
@@ -70,10 +70,10 @@ loop-i-preserved c =
     )
 
 pub shape_of-counts : goal.shape_of-counts
-shape_of-counts c = (lens (goal.at.shape_of-counts c).At-loop-i).0 ∙ sym c.requires.0.0.counts_long
+shape_of-counts c = (lens (goal.at.shape_of-counts c).At-loop-i).0 ∙ sym c.requires.within_arrays.0.counts_long
 
 pub shape_of-idsums : goal.shape_of-idsums
-shape_of-idsums c = (lens (goal.at.shape_of-idsums c).At-loop-i).1 ∙ sym c.requires.0.0.idsums_long
+shape_of-idsums c = (lens (goal.at.shape_of-idsums c).At-loop-i).1 ∙ sym c.requires.within_arrays.0.idsums_long
 
 pub returns : goal.returns
 unfolding changed_in

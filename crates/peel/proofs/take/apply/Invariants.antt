@@ -3,8 +3,6 @@ use mathlib.Core.Path.{◌≡◌}
 use Prim.Native.Nat.{◌-◌, ◌≤◌}
 use lib.IntN.{pos, ◌-ℤ◌}
 use lib.ListN.{get_or}
-use mir.Syntax.{w32}
-use mir.Val.{to_z}
 use Rattle.field.specs.Residue.{residue}
 use Rattle.params.specs.Lists.{touched}
 use Rattle.params.specs.Params.{prime}
@@ -14,7 +12,7 @@ use Rattle.peel.proofs.take.apply.Given as goal
 
 abbrev pub invariant-loop-i : goal.invariant-loop-i
 invariant-loop-i l = (l.i ≤ l.d)
-    × (l.counts ≡ touched (stands_in l.i l.m (λ j. get_or l.ks j 0)) (λ k x. x -ℤ to_z w32 l.c) l.initial.counts)
+    × (l.counts ≡ touched (stands_in l.i l.m (λ j. get_or l.ks j 0)) (λ k x. x -ℤ l.c) l.initial.counts)
     × (l.idsums ≡ touched (stands_in l.i l.m (λ j. get_or l.ks j 0)) (λ k x. residue prime (pos x -ℤ pos l.s)) l.initial.idsums)
     × (l.nonzero ≡ nonzero_buckets l.counts l.idsums)
 

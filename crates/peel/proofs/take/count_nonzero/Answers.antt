@@ -24,7 +24,7 @@ pub loop-i-init : goal.loop-i-init
 loop-i-init c = (omega arith, omega arith, zero-add _)
 
 pub overflow_add-nonzero : goal.overflow_add-nonzero
-overflow_add-nonzero c = omega (arith, one c, c.loop-i.invariant.1, c.loop-i.invariant.0, c.well-formed.0.0)
+overflow_add-nonzero c = omega (arith, one (goal.at.overflow_add-nonzero c).After-one_if_nonzero-nonzero, c.loop-i.invariant.1, c.loop-i.invariant.0, c.well-formed.0.0)
 
 pub loop-i-smaller : goal.loop-i-smaller
 loop-i-smaller c = omega arith
@@ -32,8 +32,8 @@ loop-i-smaller c = omega arith
 pub loop-i-preserved : goal.loop-i-preserved
 loop-i-preserved c = (
   omega arith,
-  omega (arith, one c),
-  omega (arith, one-is c, c.loop-i.invariant.2, nonzero_step c.args.counts.now c.args.idsums.now c.loop-i.i (omega arith) (omega (arith, c.requires))),
+  omega (arith, one (goal.at.loop-i-preserved c).After-one_if_nonzero-nonzero),
+  omega (arith, one-is (goal.at.loop-i-preserved c).After-one_if_nonzero-nonzero, c.loop-i.invariant.2, nonzero_step c.args.counts.now c.args.idsums.now c.loop-i.i (omega arith) (omega (arith, c.requires))),
 )
 
 pub returns : goal.returns

@@ -8,6 +8,6 @@ use Rattle.peel.proofs.take.fits.Goals as goal
 pub returns : goal.returns
 returns c = c.within.ensures
     ∙ ap in_limits
-    (to_z-of_z (sfits_of c.plus_minus.type-inv)
+    (to_z-of_z (sfits_of c.plus_minus.type_inv)
     ∙ c.plus_minus.ensures
     ∙ ap₂ (plus_minus c.args.minus) (to_z-of_z c.ranges.x) (to_z-of_z c.ranges.c))

@@ -35,20 +35,20 @@ pub apply-still_nonzero-requires : goal.apply-still_nonzero-requires
 apply-still_nonzero-requires c =
     let t = c.requires in
     let h = t.holds in
-    rw (to_z-of_z c.ranges.c) ((reached h.dimensions h.sane.long h.sane.long_ids t.positions, h.counted), (t.fits, (λ i e. h.sane.idsums _, t.small)))
+    rw (to_z-of_z c.ranges.c) record { within_arrays = (reached h.dimensions h.sane.long h.sane.long_ids t.positions, h.counted); by_index = t.fits; by_index_2 = (λ i e. h.sane.idsums _, t.small) }
 
 pub credit-listed-requires : goal.credit-listed-requires
 credit-listed-requires c =
     let t = c.requires in
     let h = t.holds in
-    rw (to_z-of_z c.ranges.c) (
-      (t.finds, h.slots, t.slot, h.room, t.entry),
-      (
+    rw (to_z-of_z c.ranges.c) record {
+      finds = (t.finds, h.slots, t.slot, h.room, t.entry);
+      queue_len_bound = (
         rw h.ringed.long (dimensions_small h.dimensions),
         chain-below (goal.at.credit-listed-requires c).Start,
         omega (arith, (h.chained.newest c.args.chain).within),
-      ),
-    )
+      );
+    }
 
 pub requeue-queued-requires : goal.requeue-queued-requires
 requeue-queued-requires c =

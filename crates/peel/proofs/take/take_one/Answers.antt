@@ -26,10 +26,15 @@ v-is c = rw (to_z-of_z (x_fits c), to_z-of_z c.ranges.c) (to_z-of_z (limits_fit 
 
 -- what the bucket counts after and counted before, and so how many buckets are not all zero
 new_is : (c : After-one_if_nonzero) → c.one_if_nonzero.result ≡ one_if_nonzero (get_or c.args.counts.now c.args.j (pos 0) -ℤ c.args.c) c.idsum_plus_minus-w.result
-new_is c = rw (v-is c.before.before.before) at c.one_if_nonzero.ensures
+new_is c =
+    let x_fits : SFits w32 (get_or c.args.counts.now c.args.j (pos 0)) = sfits_of c.x-1.given in
+    let v-is : let a = c.args in to_z w32 (of_z w32 (to_z w32 (of_z w32 (get_or a.counts.now a.j (pos 0))) -ℤ to_z w32 (of_z w32 a.c))) ≡ get_or a.counts.now a.j (pos 0) -ℤ a.c = rw (to_z-of_z (x_fits), to_z-of_z c.ranges.c) (to_z-of_z (limits_fit _ c.requires.limits)) in
+    rw (v-is) at c.one_if_nonzero.ensures
 
 old-is : (c : After-one_if_nonzero-2) → c.one_if_nonzero-2.result ≡ one_if_nonzero (get_or c.args.counts.now c.args.j (pos 0)) (get_or c.args.idsums.now c.args.j 0)
-old-is c = rw (to_z-of_z (x_fits c.before.before.before.before)) at c.one_if_nonzero-2.ensures
+old-is c =
+    let x_fits : SFits w32 (get_or c.args.counts.now c.args.j (pos 0)) = sfits_of c.x-1.given in
+    rw (to_z-of_z (x_fits)) at c.one_if_nonzero-2.ensures
 
 account : (c : After-one_if_nonzero-2) → nonzero_buckets (set c.args.counts.now c.args.j (get_or c.args.counts.now c.args.j (pos 0) -ℤ c.args.c)) (set c.args.idsums.now c.args.j c.idsum_plus_minus-w.result) + c.one_if_nonzero-2.result
     ≡ c.args.nonzero + c.one_if_nonzero.result
@@ -45,12 +50,12 @@ overflow_add-result c =
     omega (arith, c.requires.counted, nonzero_most c.args.counts.now c.args.idsums.now, c.well-formed.0.0)
 
 pub overflow_sub-result : goal.overflow_sub-result
-overflow_sub-result c = omega (arith, account c)
+overflow_sub-result c = omega (arith, account (goal.at.overflow_sub-result c).After-one_if_nonzero-2)
 
 pub returns : goal.returns
 returns c = rw (v-is (goal.at.returns c).After-x-1)
     (record {
       counts = refl;
       idsums = ap (set c.args.idsums.now c.args.j) (c.idsum_plus_minus-w.ensures ∙ idsum_plus_minus_is true _ _ c.requires.idsum c.requires.small);
-      counted = omega (arith, account c);
+      counted = omega (arith, account (goal.at.returns c).After-one_if_nonzero-2);
     })

@@ -40,7 +40,9 @@ room_of : (c : At-walk) → c.walk.entries ≤ length c.args.flows.now
 room_of c = omega (arith, c.walk.invariant.0.holds.room, c.walk.invariant.0.long)
 
 popped_is : (c : After-pop-k) → Popped (c.args.p.d * c.args.p.m) c.walk.queue c.walk.marks c.pop-k.new.marks c.walk.head c.walk.waiting c.pop-k.result
-popped_is c = rw (size_is c.before.before.before.before.before) at c.pop-k.ensures
+popped_is c =
+    let size_is : length c.walk.queue ≡ c.args.p.d * c.args.p.m = c.walk.invariant.0.holds.ringed.long in
+    rw (size_is) at c.pop-k.ensures
 
 unclean-of : (c : After-pop-k) → c.walk.nonzero ≡ 0 → ⊥
 unclean-of c = c.if-nonzero-eq0.false
@@ -57,7 +59,7 @@ lent_of c =
 at_head : (c : At-walk) → Lengths (lent_of c) (slices c.walk.counts c.walk.idsums c.walk.flows c.walk.numbers c.walk.queue c.walk.marks)
 at_head c = c.walk.invariant.1
 
-at_pop : (c : After-pop-k) → Lengths (lent_of c.before.before.before.before.before) (slices c.walk.counts c.walk.idsums c.walk.flows c.walk.numbers c.walk.queue c.pop-k.new.marks)
+at_pop : (c : After-pop-k) → Lengths (lent_of) (slices c.walk.counts c.walk.idsums c.walk.flows c.walk.numbers c.walk.queue c.pop-k.new.marks)
 at_pop c = let v = c.walk.invariant.0 in same_lengths c.requires (turn.popped_holds v (unclean-of c) (popped_is c) (more_of c)) v.long
 
 abbrev count-of : (c : After-test-found) → ℤ
@@ -78,8 +80,12 @@ flow c = c.in-Pure.f
 abbrev ks-of : (c : At-loop-i) → List ℕ
 ks-of c = c.positions.new.ks
 
-pure_is : (c : At-loop-i) → pure_test c.args.p c.pop-k.result (count-of c.before.before.before.before.before.before) (get_or c.walk.idsums c.pop-k.result 0) ≡ Pure (flow c)
-pure_is c = sym (test-is c.before.before.before.before.before.before) ∙ c.in-Pure.is
+pure_is : (c : At-loop-i) → pure_test c.args.p c.pop-k.result (count-of) (get_or c.walk.idsums c.pop-k.result 0) ≡ Pure (flow c)
+pure_is c =
+    let count-of : ℤ = get_or c.walk.counts c.pop-k.result (pos 0) in
+    let c_is : to_z w32 (of_z w32 (count-of)) ≡ count-of = to_z-of_z w32 _ (record { sfits = c.c-1.given }) in
+    let test-is : c.test-found.result ≡ pure_test c.args.p c.pop-k.result (count-of) (get_or c.walk.idsums c.pop-k.result 0) = (rw (c_is) at c.test-found.ensures) ∙ guarded_is_pure _ _ _ c.requires.dimensions in
+    sym (test-is) ∙ c.in-Pure.is
 
 positions-are : (c : At-loop-i) → Positioned c.args.p (flow c) (ks-of c)
 positions-are c = subst⁻¹ (Positioned c.args.p (flow c)) c.positions.ensures
@@ -93,23 +99,44 @@ abbrev marks-of : (c : At-loop-i) → List ℕ
 marks-of c = c.pop-k.new.marks
 
 chain-below : (c : At-loop-i) → chain_key c.args.p (flow c) < length (marks-of c)
-chain-below c = omega (arith, key_below (flow c) c.requires.dimensions, (popped_is c.before.before.before.before.before.before.before.before.before.before.before.before).ringed.long_marks)
+chain-below c =
+    let size_is : length c.walk.queue ≡ c.args.p.d * c.args.p.m = c.walk.invariant.0.holds.ringed.long in
+    let popped_is : Popped (c.args.p.d * c.args.p.m) c.walk.queue c.walk.marks c.pop-k.new.marks c.walk.head c.walk.waiting c.pop-k.result = rw (size_is) at c.pop-k.ensures in
+    omega (arith, key_below (flow c) c.requires.dimensions, (popped_is).ringed.long_marks)
 
 -- along it f can be looked up
 chained-is : (c : At-loop-i) → Chained (c.args.p.d * c.args.p.m) c.walk.flows c.walk.queue (marks-of c) c.walk.entries (flow c) (chain_key c.args.p (flow c))
-chained-is c = turn.chained c.walk.invariant.0 (unclean-of c.before.before.before.before.before.before.before.before.before.before.before.before) (popped_is c.before.before.before.before.before.before.before.before.before.before.before.before) (more_of c.before.before.before.before.before.before.before.before.before.before.before.before) (pure_is c) (positions-are c)
+chained-is c =
+    let unclean-of : c.walk.nonzero ≡ 0 → ⊥ = c.if-nonzero-eq0.false in
+    let size_is : length c.walk.queue ≡ c.args.p.d * c.args.p.m = c.walk.invariant.0.holds.ringed.long in
+    let popped_is : Popped (c.args.p.d * c.args.p.m) c.walk.queue c.walk.marks c.pop-k.new.marks c.walk.head c.walk.waiting c.pop-k.result = rw (size_is) at c.pop-k.ensures in
+    let more_of : c.walk.pops ≡ c.args.allowance → ⊥ = c.if-pops-allowance.false in
+    turn.chained c.walk.invariant.0 (unclean-of) (popped_is) (more_of) (pure_is c) (positions-are c)
 
 -- f's bucket in the array that i others stand before, and what the test of it says
-bucket : (c : In-loop-i) → Within c.args.p.d c.args.p.m c.loop-i.i (get_or (ks-of c.before) c.loop-i.i 0)
-bucket c = reach c.loop-i.i (reached-is c.before) c.loop-i-test.true
+bucket : (c : In-loop-i) → Within c.args.p.d c.args.p.m c.loop-i.i (get_or (ks-of) c.loop-i.i 0)
+bucket c =
+    let ks-of : List ℕ = c.positions.new.ks in
+    let flow : ℕ = c.in-Pure.f in
+    let positions-are : Positioned c.args.p (flow) (ks-of) = subst⁻¹ (Positioned c.args.p (flow)) c.positions.ensures
+    (positions_found c.args.p (flow) _ c.requires.dimensions c.walk.invariant.2) in
+    let reached-is : WithinArrays c.args.p.d c.args.p.m (ks-of) (length c.walk.counts) (length c.walk.idsums) = let h = c.walk.invariant.0.holds in reached h.dimensions h.sane.long h.sane.long_ids (positions-are) in
+    reach c.loop-i.i (reached-is) c.loop-i-test.true
 
-fits-is : (c : After-fits-then-at-entries) → c.fits-then-at-entries.result ≡ fits_at c.args.p.m (ks-of c.before.before.before.before.before.before) c.walk.counts (count-of c.before.before.before.before.before.before.before.before.before.before.before.before) c.loop-i.i
-fits-is c = rw (to_z-of_z w32 (get_or c.walk.counts (c.loop-i.i * c.args.p.m + get_or (ks-of c.before.before.before.before.before.before) c.loop-i.i 0) (pos 0)) (record { sfits = c.fits-arg-1.given }), c_is c.before.before.before.before.before.before.before.before.before.before.before.before)
+fits-is : (c : After-fits-then-at-entries) → c.fits-then-at-entries.result ≡ fits_at c.args.p.m (ks-of) c.walk.counts (count-of) c.loop-i.i
+fits-is c =
+    let ks-of : List ℕ = c.positions.new.ks in
+    let count-of : ℤ = get_or c.walk.counts c.pop-k.result (pos 0) in
+    let c_is : to_z w32 (of_z w32 (count-of)) ≡ count-of = to_z-of_z w32 _ (record { sfits = c.c-1.given }) in
+    rw (to_z-of_z w32 (get_or c.walk.counts (c.loop-i.i * c.args.p.m + get_or (ks-of) c.loop-i.i 0) (pos 0)) (record { sfits = c.fits-arg-1.given }), c_is)
     at c.fits-then-at-entries.ensures
 
 all_fit : (c : After-loop-i) → (i : ℕ) → i < c.args.p.d
-    → fits_at c.args.p.m (ks-of c.before) c.walk.counts (count-of c.before.before.before.before.before.before.before) i ≡ true
-all_fit c i h = rw (c_is c.before.before.before.before.before.before.before) at (c.loop-i.invariant.1 i (omega arith))
+    → fits_at c.args.p.m (ks-of) c.walk.counts (count-of) i ≡ true
+all_fit c i h =
+    let count-of : ℤ = get_or c.walk.counts c.pop-k.result (pos 0) in
+    let c_is : to_z w32 (of_z w32 (count-of)) ≡ count-of = to_z-of_z w32 _ (record { sfits = c.c-1.given }) in
+    rw (c_is) at (c.loop-i.invariant.1 i (omega arith))
 
 -- the entry of f, where it has one
 more-is : (c : tie.After-fits3 invariant-loop decreases-loop invariant-walk decreases-walk) → let f = c.before.before.before in let l = f.before.before.before.before.before.before in
@@ -121,7 +148,7 @@ more-is c =
     at c.fits3.ensures
 
 entry : (c : Joined-at-entries) → c.find-at.result < c.walk.entries
-    → in_limits (get_or c.walk.numbers c.find-at.result (pos 0) +ℤ count-of c.before.before.before.before.before.before.before.before.before.before) ≡ true
+    → in_limits (get_or c.walk.numbers c.find-at.result (pos 0) +ℤ count-of) ≡ true
 entry c h = ⊎_elim (λ w. sym (more-is (record { before = record { before = record { before = c; if5 = w.0 }; fits-arg2 = w.1 }; fits3 = w.2 })) ∙ not-false _ w.3.left) (λ w. absurd (omega arith)) c.if-at-entries.branch
 
 free : (c : Joined-at-entries) → c.walk.entries ≤ c.find-at.result → c.find-at.result ≡ length c.args.flows.now → ⊥
@@ -133,8 +160,12 @@ after-of c =
     let l = c.take_flow-taken.new.1.1 in
     slices l.0 l.1.0 l.1.1.0 l.1.1.1.0 l.1.1.1.1.0 l.1.1.1.1.1.0
 
-took-is : (c : After-take_flow-taken) → Took c.args.p (slices c.walk.counts c.walk.idsums c.walk.flows c.walk.numbers c.walk.queue (marks-of c.before.before.before.before.before.before.before.before.before.before.before.before)) (ring_place (c.args.p.d * c.args.p.m) c.walk.head 1) (c.walk.waiting - 1) c.walk.entries (flow c.before.before.before.before.before.before.before.before.before.before.before.before) (count-of c.before.before.before.before.before.before.before.before.before.before.before.before.before.before.before.before.before.before) (get_or c.walk.idsums c.pop-k.result 0) c.take_flow-taken.result (after-of c)
-took-is c = rw (place_is c.before.before.before.before.before.before.before.before.before.before.before.before.before.before.before.before.before.before, c_is c.before.before.before.before.before.before.before.before.before.before.before.before.before.before.before.before.before.before) at c.take_flow-taken.ensures
+took-is : (c : After-take_flow-taken) → Took c.args.p (slices c.walk.counts c.walk.idsums c.walk.flows c.walk.numbers c.walk.queue (marks-of)) (ring_place (c.args.p.d * c.args.p.m) c.walk.head 1) (c.walk.waiting - 1) c.walk.entries (flow) (count-of) (get_or c.walk.idsums c.pop-k.result 0) c.take_flow-taken.result (after-of c)
+took-is c =
+    let place_is : c.ring_place-head.result ≡ ring_place (c.args.p.d * c.args.p.m) c.walk.head 1 = rw c.requires.ringed.long at c.ring_place-head.ensures in
+    let count-of : ℤ = get_or c.walk.counts c.pop-k.result (pos 0) in
+    let c_is : to_z w32 (of_z w32 (count-of)) ≡ count-of = to_z-of_z w32 _ (record { sfits = c.c-1.given }) in
+    rw (place_is, c_is) at c.take_flow-taken.ensures
 
 pub walk-init : goal.walk-init
 walk-init c = (
@@ -169,13 +200,13 @@ pub overflow_mul-j : goal.overflow_mul-j
 overflow_mul-j c = omega (arith, (bucket (goal.at.overflow_mul-j c).In-loop-i).bucket, (bucket (goal.at.overflow_mul-j c).In-loop-i).size)
 
 pub overflow_add-j : goal.overflow_add-j
-overflow_add-j c = omega (arith, (bucket c).bucket, (bucket c).size)
+overflow_add-j c = omega (arith, (bucket (goal.at.overflow_add-j c).In-loop-i).bucket, (bucket (goal.at.overflow_add-j c).In-loop-i).size)
 
 pub offset_bounds-counts-j : goal.offset_bounds-counts-j
-offset_bounds-counts-j c = omega (arith, (bucket c).bucket, (bucket c).size)
+offset_bounds-counts-j c = omega (arith, (bucket (goal.at.offset_bounds-counts-j c).In-loop-i).bucket, (bucket (goal.at.offset_bounds-counts-j c).In-loop-i).size)
 
 pub slice_copy_out-fits : goal.slice_copy_out-fits
-slice_copy_out-fits c = omega (arith, (bucket c).bucket, c.walk.invariant.0.holds.sane.long)
+slice_copy_out-fits c = omega (arith, (bucket (goal.at.slice_copy_out-fits c).In-loop-i).bucket, c.walk.invariant.0.holds.sane.long)
 
 pub loop-i-preserved : goal.loop-i-preserved
 loop-i-preserved c = (omega arith, below_more _ _ c.loop-i.invariant.1 (rw (c_is (goal.at.loop-i-preserved c).After-test-found) (sym (fits-is (goal.at.loop-i-preserved c).After-fits-then-at-entries) ∙ not-false _ c.if-not-fits.false-raw)))

@@ -3,8 +3,6 @@ use mathlib.Core.Path.{◌≡◌}
 use mathlib.Core.Bool.{true}
 use Prim.Native.Nat.{ℕ, ◌-◌, ◌≤◌, ◌<◌}
 use lib.ListN.{length}
-use mir.Syntax.{w32}
-use mir.Val.{to_z}
 use Rattle.walk.specs.Walk.{run}
 use Rattle.walk.specs.Purity.{rule_of}
 use Rattle.peel.specs.Slices.{slices}
@@ -13,7 +11,7 @@ use Rattle.peel.proofs.Turns.{Inv, Lengths}
 use Rattle.peel.proofs.walking.walk.Given as goal
 
 abbrev pub invariant-loop-i : goal.invariant-loop-i
-invariant-loop-i l = (l.i ≤ l.d) × ((j : ℕ) → j < l.i → fits_at l.m l.ks l.counts (to_z w32 l.c) j ≡ true)
+invariant-loop-i l = (l.i ≤ l.d) × ((j : ℕ) → j < l.i → fits_at l.m l.ks l.counts l.c j ≡ true)
 
 abbrev pub decreases-loop-i : goal.decreases-loop-i
 decreases-loop-i l = l.d - l.i

@@ -15,7 +15,7 @@ room c =
     omega (arith, many, r.ensures.fits)
 
 pub overflow_add-held : goal.overflow_add-held
-overflow_add-held c = omega (arith, room c)
+overflow_add-held c = omega (arith, room (goal.at.overflow_add-held c).In-Bytes)
 
 pub loop-turns-preserved : goal.loop-turns-preserved
-loop-turns-preserved c = (omega arith, room c)
+loop-turns-preserved c = (omega arith, room (goal.at.loop-turns-preserved c).In-Bytes)

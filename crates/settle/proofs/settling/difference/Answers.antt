@@ -5,7 +5,7 @@ use Rattle.settle.proofs.Settled.{not_lent, lent_first}
 use Rattle.settle.proofs.settling.difference.Goals as goal
 
 pub returns-in_default : goal.returns-in_default
-returns-in_default c = (not_lent _ _ _ _ _ _ _ _ c.judge_walk_lent-r.ensures c.in_default.keys2, kept_old _ _ _ c.in_default.keys2)
+returns-in_default c = (not_lent _ _ _ _ _ _ _ _ c.judge_walk_lent-r.ensures c.in_default.in_default-own.keys2, kept_old _ _ _ c.in_default.in_default-own.keys2)
 
 pub returns : goal.returns
 returns c = (

@@ -29,10 +29,14 @@ returns-then-p-i c = rw (good (goal.at.returns-then-p-i c).Else-not-check, le-le
 asked : (c : Else-p-i)
     → let a = c.args in
     (good_params a.p && (leb 1 a.i && leb a.i a.p.d)) ≡ true
-asked c = rw (good c.before.before.before, le-leb 1 _ c.if-i-lt1.false, le-leb _ _ c.if-p-i.false)
+asked c =
+    let good : good_params c.args.p ≡ true = test_held c.check.ensures c.if-not-check.false-raw in
+    rw (good, le-leb 1 _ c.if-i-lt1.false, le-leb _ _ c.if-p-i.false)
 
 long : (c : After-size) → c.size.result ≡ size c.args.p
-long c = rw (good c.before.before.before.before) at c.size.ensures
+long c =
+    let good : good_params c.args.p ≡ true = test_held c.check.ensures c.if-not-check.false-raw in
+    rw (good) at c.size.ensures
 
 pub returns-then-len-size : goal.returns-then-len-size
 unfolding array_answer

@@ -9,26 +9,26 @@ use Rattle.sketch.proofs.arrays.array_idsums.Goals as goal
 use Rattle.sketch.proofs.arrays.array_idsums.Goals.{In-Done}
 
 pub returns-in_default : goal.returns-in_default
-returns-in_default c = refused_stretch c.array-r.ensures c.in_default.keys2
+returns-in_default c = refused_stretch c.array-r.ensures c.in_default.in_default-own.keys2
 
 -- what `array` tells of the stretch
 within : (c : In-Done) → let a = c.args in Asked a.p a.i × (length a.idsums.now ≡ size a.p)
 within c = array_done _ _ _ (sym c.array-r.ensures ∙ c.in-Done.is)
 
 pub overflow_sub-at : goal.overflow_sub-at
-overflow_sub-at c = (within c).0.low
+overflow_sub-at c = (within (goal.at.overflow_sub-at c).In-Done).0.low
 
 pub overflow_mul-at : goal.overflow_mul-at
-overflow_mul-at c = omega (arith, within c)
+overflow_mul-at c = omega (arith, within (goal.at.overflow_mul-at c).In-Done)
 
 pub overflow_add-end : goal.overflow_add-end
-overflow_add-end c = omega (arith, within c)
+overflow_add-end c = omega (arith, within (goal.at.overflow_add-end c).In-Done)
 
 pub offset_bounds-idsums-at : goal.offset_bounds-idsums-at
-offset_bounds-idsums-at c = omega (arith, within c)
+offset_bounds-idsums-at c = omega (arith, within (goal.at.offset_bounds-idsums-at c).In-Done)
 
 pub slice_bounds-idsums-end : goal.slice_bounds-idsums-end
-slice_bounds-idsums-end c = omega (arith, within c)
+slice_bounds-idsums-end c = omega (arith, within (goal.at.slice_bounds-idsums-end c).In-Done)
 
 pub returns : goal.returns
 returns c = done_stretch c.array-r.ensures c.in-Done.is

@@ -56,7 +56,4 @@ pub returns : goal.returns
 returns c =
     let l = lens (goal.at.returns c).At-loop-i in
     let e : c.loop-i.i ≡ length c.args.counts.now = omega arith in
-    let h : c.loop-i.i ≡ length c.args.idsums.now = omega arith in (
-      rw e at c.loop-i.invariant.1 ∙ fill_all (pos 0) c.args.counts.now,
-      rw h at c.loop-i.invariant.2 ∙ fill_all 0 c.args.idsums.now,
-    )
+    let h : c.loop-i.i ≡ length c.args.idsums.now = omega arith in record { counts_after = rw e at c.loop-i.invariant.1 ∙ fill_all (pos 0) c.args.counts.now; idsums_after = rw h at c.loop-i.invariant.2 ∙ fill_all 0 c.args.idsums.now }

@@ -6,7 +6,7 @@ use Rattle.sketch.proofs.packets.entry.Goals as goal
 
 pub returns-in_default : goal.returns-in_default
 unfolding entry_answer
-returns-in_default c = first_refused _ _ _ c.judge_dimensions-r.ensures c.in_default.keys2
+returns-in_default c = first_refused _ _ _ c.judge_dimensions-r.ensures c.in_default.in_default-own.keys2
 
 pub returns : goal.returns
 unfolding entry_answer

@@ -24,10 +24,10 @@ pub loop-i-init : goal.loop-i-init
 loop-i-init c = (search rules, arrays_start _ _ _ _)
 
 pub overflow_mul-k : goal.overflow_mul-k
-overflow_mul-k c = omega (arith, within c)
+overflow_mul-k c = omega (arith, within (goal.at.overflow_mul-k c).In-loop-i)
 
 pub offset_bounds-ks-i : goal.offset_bounds-ks-i
-offset_bounds-ks-i c = omega (arith, within c)
+offset_bounds-ks-i c = omega (arith, within (goal.at.offset_bounds-ks-i c).In-loop-i)
 
 pub bounds-ks-i : goal.bounds-ks-i
 bounds-ks-i c = (within (goal.at.bounds-ks-i c).In-loop-i).few

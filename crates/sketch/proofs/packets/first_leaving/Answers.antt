@@ -22,16 +22,16 @@ judged : (c : After-within)
     → leaves_at c.args.minus (to_z w32 (of_z w32 c.args.n)) c.args.counts.now (c.loop-i.i * c.args.m + get_or c.args.ks.now c.loop-i.i 0) ≡ not c.within.result
 judged c =
     let sum = rw (back w32 _ c.plus_minus-arg-1.given) at c.plus_minus.ensures in
-    ap not (sym (rw (back w64 _ c.plus_minus.type-inv, sum) at c.within.ensures))
+    ap not (sym (rw (back w64 _ c.plus_minus.type_inv, sum) at c.within.ensures))
 
 pub loop-i-init : goal.loop-i-init
 loop-i-init c = (search rules, arrays_start _ _ _ _)
 
 pub overflow_mul-k : goal.overflow_mul-k
-overflow_mul-k c = omega (arith, within c)
+overflow_mul-k c = omega (arith, within (goal.at.overflow_mul-k c).In-loop-i)
 
 pub offset_bounds-ks-i : goal.offset_bounds-ks-i
-offset_bounds-ks-i c = omega (arith, within c)
+offset_bounds-ks-i c = omega (arith, within (goal.at.offset_bounds-ks-i c).In-loop-i)
 
 pub bounds-ks-i : goal.bounds-ks-i
 bounds-ks-i c = (within (goal.at.bounds-ks-i c).In-loop-i).few

@@ -6,7 +6,7 @@ use Rattle.params.proofs.Rules.{lent_done}
 use Rattle.sketch.proofs.packets.fresh.Goals as goal
 
 pub returns-in_default : goal.returns-in_default
-returns-in_default c = record { answer = c.judge_lent-r.ensures; after = kept_old _ _ _ c.in_default.keys2 }
+returns-in_default c = record { answer = c.judge_lent-r.ensures; after = kept_old _ _ _ c.in_default.in_default-own.keys2 }
 
 pub clear-requires : goal.clear-requires
 clear-requires c =
@@ -20,5 +20,5 @@ returns c =
     let h = lent_done _ _ _ (sym c.judge_lent-r.ensures ∙ done) in
     record {
       answer = c.judge_lent-r.ensures;
-      after = ap₂ sketch (rw h.1 at c.clear.ensures.0) (rw h.2 at c.clear.ensures.1) ∙ kept_new _ _ _ done;
+      after = ap₂ sketch (rw h.1 at c.clear.ensures.counts_after) (rw h.2 at c.clear.ensures.idsums_after) ∙ kept_new _ _ _ done;
     }

@@ -31,7 +31,7 @@ restored : (c : After-withdraw_first)
     → sketch c.withdraw_first.new.counts c.withdraw_first.new.idsums ≡ sketch c.args.counts.now c.args.idsums.now
 restored c =
     let l = c.loop-i in
-    let refused = c.in_default.keys2 in
+    let refused = c.in_default.in_default-own.keys2 in
     c.withdraw_first.ensures.back _ l.invariant.3 (c.put_listed-r.ensures.after ∙ sym (kept_old _ _ _ refused) ∙ l.invariant.4)
 
 pub shape_of-counts-in_default : goal.shape_of-counts-in_default
@@ -43,7 +43,7 @@ shape_of-idsums-in_default c = ap (λ S. length S.idsums) (restored (goal.at.sha
 pub returns-in_default : goal.returns-in_default
 returns-in_default c =
     let l = c.loop-i in
-    let refused = c.in_default.keys2 in
+    let refused = c.in_default.in_default-own.keys2 in
     record {
       answer = packet_refused _ _ _ _ l.i _ (omega arith) (omega arith) l.invariant.5 _ c.put_listed-r.ensures.answer refused;
       after_all = restored (goal.at.returns-in_default c).After-withdraw_first ∙ kept_old _ _ _ refused;

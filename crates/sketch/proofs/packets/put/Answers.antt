@@ -17,12 +17,9 @@ new : (c : After-plus_minus) → let a = c.args in c.plus_minus.result ≡ plus_
 new c = rw (back w32 _ c.plus_minus-arg-1.given, to_z-of_z c.ranges.n) at c.plus_minus.ensures
 
 pub overflow_cast-counts : goal.overflow_cast-counts
-overflow_cast-counts c = narrows (sfits_of c.plus_minus.type-inv) (new c) c.requires.1.0
+overflow_cast-counts c = narrows (sfits_of c.plus_minus.type_inv) (new (goal.at.overflow_cast-counts c).After-plus_minus) c.requires.n_value
 
 pub returns : goal.returns
 returns c =
     let a = c.args in
-    let below = c.requires.1.1 in (
-      ap (set a.counts.now a.j) (narrowed (sfits_of c.plus_minus.type-inv) (new (goal.at.returns c).After-plus_minus) c.requires.1.0),
-      ap (set a.idsums.now a.j) (c.idsum_plus_minus.ensures ∙ idsum_plus_minus_is a.minus _ _ below.0 below.1),
-    )
+    let below = c.requires.j_bound in record { counts_after = ap (set a.counts.now a.j) (narrowed (sfits_of c.plus_minus.type_inv) (new (goal.at.returns c).After-plus_minus) c.requires.n_value); idsums_after = ap (set a.idsums.now a.j) (c.idsum_plus_minus.ensures ∙ idsum_plus_minus_is a.minus _ _ below.0 below.1) }

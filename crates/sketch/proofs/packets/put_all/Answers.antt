@@ -16,19 +16,19 @@ use Rattle.sketch.proofs.packets.put_all.Goals.{At-loop-i, In-loop-i}
 -- the sketch keeps its lengths
 lens : (c : At-loop-i) → (length c.loop-i.counts ≡ c.args.d * c.args.m) × (length c.loop-i.idsums ≡ c.args.d * c.args.m)
 lens c = (
-  ap length c.loop-i.invariant.1 ∙ length_touched _ _ _ ∙ c.requires.0.counts_long,
-  ap length c.loop-i.invariant.2 ∙ length_touched _ _ _ ∙ c.requires.0.idsums_long,
+  ap length c.loop-i.invariant.1 ∙ length_touched _ _ _ ∙ c.requires.within_arrays.counts_long,
+  ap length c.loop-i.invariant.2 ∙ length_touched _ _ _ ∙ c.requires.within_arrays.idsums_long,
 )
 
 -- what a turn reaches
 within : (c : In-loop-i) → Within c.args.d c.args.m c.loop-i.i (get_or c.args.ks.now c.loop-i.i 0)
-within c = reach c.loop-i.i c.requires.0 c.loop-i-test.true
+within c = reach c.loop-i.i c.requires.within_arrays c.loop-i-test.true
 
 pub loop-i-init : goal.loop-i-init
 loop-i-init c = (search rules, turns_start (pos 0) _ _ _ _, turns_start 0 _ _ _ _)
 
 pub offset_bounds-ks-i : goal.offset_bounds-ks-i
-offset_bounds-ks-i c = omega (arith, within c)
+offset_bounds-ks-i c = omega (arith, within (goal.at.offset_bounds-ks-i c).In-loop-i)
 
 pub bounds-ks-i : goal.bounds-ks-i
 bounds-ks-i c = (within (goal.at.bounds-ks-i c).In-loop-i).few
@@ -68,27 +68,25 @@ put-requires c =
     let l = c.loop-i in
     let h = c.loop-i-test.true in
     let w = within (goal.at.put-requires c).In-loop-i in
-    let r = c.requires.0 in
-    let small = r.inside l.i h in (
-      (
+    let r = c.requires.within_arrays in
+    let small = r.inside l.i h in record {
+      j_in_bounds = (
         turn_long (pos 0) c.args.m (λ j. get_or c.args.ks.now j 0) l.i _ c.args.counts.now _ r.m_low (omega arith) small l.invariant.1,
         turn_long 0 c.args.m (λ j. get_or c.args.ks.now j 0) l.i _ c.args.idsums.now _ r.m_low (omega arith) small l.invariant.2,
-      ),
-      (
-        rw (turn_old (pos 0) c.args.m (λ j. get_or c.args.ks.now j 0) l.i _ c.args.counts.now _ r.m_low (omega arith) small l.invariant.1, to_z-of_z c.ranges.n) (c.requires.1.0 l.i h),
-        (
-          rw (turn_old 0 c.args.m (λ j. get_or c.args.ks.now j 0) l.i _ c.args.idsums.now _ r.m_low (omega arith) small l.invariant.2) (c.requires.1.1.0 l.i h),
-          c.requires.1.1.1,
-        ),
-      ),
-    )
+      );
+      n_value = rw (turn_old (pos 0) c.args.m (λ j. get_or c.args.ks.now j 0) l.i _ c.args.counts.now _ r.m_low (omega arith) small l.invariant.1, to_z-of_z c.ranges.n) (c.requires.by_index l.i h);
+      j_bound = (
+        rw (turn_old 0 c.args.m (λ j. get_or c.args.ks.now j 0) l.i _ c.args.idsums.now _ r.m_low (omega arith) small l.invariant.2) (c.requires.by_index_2.0 l.i h),
+        c.requires.by_index_2.1,
+      );
+    }
 
 pub loop-i-preserved : goal.loop-i-preserved
 loop-i-preserved c =
     let l = c.loop-i in
     let h = c.loop-i-test.true in
     let w = within (goal.at.loop-i-preserved c).In-loop-i in
-    let r = c.requires.0 in
+    let r = c.requires.within_arrays in
     let small = r.inside l.i h in
     let z = c.put.ensures in (
       omega arith,
@@ -97,10 +95,10 @@ loop-i-preserved c =
     )
 
 pub shape_of-counts : goal.shape_of-counts
-shape_of-counts c = (lens (goal.at.shape_of-counts c).At-loop-i).0 ∙ sym c.requires.0.counts_long
+shape_of-counts c = (lens (goal.at.shape_of-counts c).At-loop-i).0 ∙ sym c.requires.within_arrays.counts_long
 
 pub shape_of-idsums : goal.shape_of-idsums
-shape_of-idsums c = (lens (goal.at.shape_of-idsums c).At-loop-i).1 ∙ sym c.requires.0.idsums_long
+shape_of-idsums c = (lens (goal.at.shape_of-idsums c).At-loop-i).1 ∙ sym c.requires.within_arrays.idsums_long
 
 pub returns : goal.returns
 unfolding changed_in

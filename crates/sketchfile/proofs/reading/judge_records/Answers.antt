@@ -23,13 +23,14 @@ bucket c = found_bucket c.loop-index.invariant.0 c.bucket_at-found.ensures c.in-
 judged : (c : After-judge_bucket-r)
     → c.judge_bucket-r.result ≡ bucket_judged c.args.size c.args.bytes.now c.loop-index.n
 judged c =
+    let bucket : Found c.args.bytes.now c.loop-index.n c.loop-index.at c.in-Of.index c.in-Of.c c.in-Of.s = found_bucket c.loop-index.invariant.0 c.bucket_at-found.ensures c.in-Of.is in
     let l = c.loop-index in
-    as_judged _ l.invariant.0 (bucket c.before) l.invariant.1 (back w32 _ c.known_told-1.given.1.0.1) c.judge_bucket-r.ensures
+    as_judged _ l.invariant.0 (bucket) l.invariant.1 (back w32 _ c.known_told-1.given.1.0.1) c.judge_bucket-r.ensures
 
 pub returns-in_default-r : goal.returns-in_default-r
 returns-in_default-r c =
     let l = c.loop-index in
-    bucket_refused _ (bucket (goal.at.returns-in_default-r c).In-Of) l.invariant.2 (judged (goal.at.returns-in_default-r c).After-judge_bucket-r) c.in_default-r.keys2
+    bucket_refused _ (bucket (goal.at.returns-in_default-r c).In-Of) l.invariant.2 (judged (goal.at.returns-in_default-r c).After-judge_bucket-r) c.in_default-r.in_default-r-own.keys2
 
 pub overflow_add-at : goal.overflow_add-at
 overflow_add-at c = omega (arith, bucket (goal.at.overflow_add-at c).In-Of)

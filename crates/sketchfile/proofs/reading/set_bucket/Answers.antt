@@ -5,4 +5,4 @@ use lib.Seq.{set_out}
 use Rattle.sketchfile.proofs.reading.set_bucket.Goals as goal
 
 pub returns-then-counts-k : goal.returns-then-counts-k
-returns-then-counts-k c = (sym (set_out _ _ _ c.if-counts-k.true), sym (set_out _ _ _ (omega arith)))
+returns-then-counts-k c = record { counts_after = sym (set_out _ _ _ c.if-counts-k.true); idsums_after = sym (set_out _ _ _ (omega arith)) }

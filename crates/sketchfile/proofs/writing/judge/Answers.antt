@@ -32,15 +32,20 @@ few c = let h = lent_done _ _ _ (lent_right c) in omega (arith, dimensions_small
 roomy : (c : Else-room-head_length) → let a = c.args in
     let S = sketch a.counts.now a.idsums.now in
     refuse_at (length a.counts.now) (damaged_at S) Damage Done ≡ sketch_write_answer a.p S a.room
-roomy c = sketch_passed _ _ _ (lent_right c.before.before.before) (omega (arith, c.head_length.ensures))
+roomy c =
+    let lent_right : let a = c.args in lent_answer a.p (length a.counts.now) (length a.idsums.now) ≡ Done = sym c.judge_lent-r.ensures ∙ c.in-Done.is in
+    sketch_passed _ _ _ (lent_right) (omega (arith, c.head_length.ensures))
 
 searched : (c : After-first_damaged-x) → let a = c.args in
     c.first_damaged-x.result ≡ least 0 (length a.counts.now) (damaged_at (sketch a.counts.now a.idsums.now))
-searched c = rw (eq-eqb _ _ (same c.before.before.before.before)) at c.first_damaged-x.ensures
+searched c =
+    let lent_right : let a = c.args in lent_answer a.p (length a.counts.now) (length a.idsums.now) ≡ Done = sym c.judge_lent-r.ensures ∙ c.in-Done.is in
+    let same : let a = c.args in length a.counts.now ≡ length a.idsums.now = let h = lent_done _ _ _ (lent_right) in h.1 ∙ sym h.2 in
+    rw (eq-eqb _ _ (same)) at c.first_damaged-x.ensures
 
 pub returns-in_default : goal.returns-in_default
 unfolding sketch_write_answer
-returns-in_default c = first_refused _ _ _ c.judge_lent-r.ensures c.in_default.keys2
+returns-in_default c = first_refused _ _ _ c.judge_lent-r.ensures c.in_default.in_default-own.keys2
 
 pub nonzero_buckets-requires : goal.nonzero_buckets-requires
 nonzero_buckets-requires c = same (goal.at.nonzero_buckets-requires c).In-Done

@@ -29,7 +29,9 @@ nonzero-here : (c : Then-not-all_zero) → let a = c.args in
     let S = sketch a.counts.now a.idsums.now in
     let k = c.loop-k.k in
     buckets_bytes k (length a.counts.now - k) S ≡ bucket_bytes k (count_in S k) (idsum_in S k) ++ buckets_bytes (k + 1) (length a.counts.now - (k + 1)) S
-nonzero-here c = nonzero_next _ _ _ c.loop-k-test.true (sym (tested c.before) ∙ not-true _ c.if-not-all_zero.true-raw)
+nonzero-here c =
+    let tested : c.all_zero.result ≡ zero_at (sketch c.args.counts.now c.args.idsums.now) c.loop-k.k = rw (back w32 _ c.all_zero-arg-1.given) at c.all_zero.ensures in
+    nonzero_next _ _ _ c.loop-k-test.true (sym (tested) ∙ not-true _ c.if-not-all_zero.true-raw)
 
 room : (c : Then-not-all_zero) → c.loop-k.at + bucket_length ≤ length c.loop-k.out
 unfolding bucket_bytes word_bytes
@@ -86,4 +88,4 @@ returns c =
     let S = sketch a.counts.now a.idsums.now in
     let n = length a.counts.now in
     let none = none_left S n l.k c.loop-k-test.false in
-    (omega (arith, ap length none, buckets_long S 0 n), overwritten_none l.out l.at ∙ ap (overwritten l.out l.at) (sym none) ∙ l.invariant.3)
+    record { value = omega (arith, ap length none, buckets_long S 0 n); out_after = overwritten_none l.out l.at ∙ ap (overwritten l.out l.at) (sym none) ∙ l.invariant.3 }

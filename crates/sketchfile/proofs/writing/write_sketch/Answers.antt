@@ -19,7 +19,7 @@ passed : (c : In-Done) → let a = c.args in
 passed c = writing_done _ _ _ (sym c.judge-r.ensures ∙ c.in-Done.is)
 
 pub put_all-at-requires : goal.put_all-at-requires
-put_all-at-requires c = let h = passed (goal.at.put_all-at-requires c).In-Done in ((h.0.counts ∙ sym h.0.idsums, writable_few h.0), omega (arith, h.1))
+put_all-at-requires c = let h = passed (goal.at.put_all-at-requires c).In-Done in record { counts_len = (h.0.counts ∙ sym h.0.idsums, writable_few h.0); idsums_in_bounds = omega (arith, h.1) }
 
 pub overflow_cast-n : goal.overflow_cast-n
 overflow_cast-n c =
@@ -37,7 +37,7 @@ returns-in-Done c =
     let a = c.args in
     let S = sketch a.counts.now a.idsums.now in
     let h = passed (goal.at.returns-in-Done c).In-Done in
-    let records = c.put_all_lem in
+    let records = c.put_all-at in
     let end : records.result ≡ first.result + bucket_length * nonzero_from 0 (size a.p) S = rw h.0.counts at records.ensures.0 in
     let count : (records.result - first.result) / bucket_length ≡ nonzero_from 0 (size a.p) S = omega arith in
     let judged = c.judge-r.ensures in

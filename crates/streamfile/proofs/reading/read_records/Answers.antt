@@ -27,7 +27,7 @@ there c = packets_there _ _ _ _ (sym (c.packets_at-found.ensures ∙ ap (packets
 -- none do
 none : (c : In_default)
     → let bs = c.args.bytes.now in is_kind packets_kind (record_at bs (packet_offset bs c.loop-flow.n)) ≡ false
-none c = packets_not_there _ _ _ (c.packets_at-found.ensures ∙ ap (packets_at _) c.loop-flow.invariant.0) c.in_default.keys2
+none c = packets_not_there _ _ _ (c.packets_at-found.ensures ∙ ap (packets_at _) c.loop-flow.invariant.0) c.in_default.in_default-own.keys2
 
 pub withdraw_packets-requires : goal.withdraw_packets-requires
 withdraw_packets-requires c = gone_within _ _ _ _ _ _ c.loop-flow.invariant.3
@@ -37,7 +37,7 @@ restored : (c : After-withdraw_packets)
     → sketch c.withdraw_packets.new.counts c.withdraw_packets.new.idsums ≡ sketch c.args.counts.now c.args.idsums.now
 restored c =
     let g = c.loop-flow.invariant.3 in
-    let refused = c.in_default-r.keys2 in
+    let refused = c.in_default-r.in_default-r-own.keys2 in
     c.withdraw_packets.ensures.back _ g.accepted (c.put_in-r.ensures.after ∙ sym (kept_old _ _ _ refused) ∙ g.made)
 
 pub shape_of-counts-in_default-r : goal.shape_of-counts-in_default-r
@@ -49,7 +49,7 @@ shape_of-idsums-in_default-r c = ap (λ S. length S.idsums) (restored (goal.at.s
 pub returns-in_default-r : goal.returns-in_default-r
 returns-in_default-r c =
     let l = c.loop-flow in
-    let refused = c.in_default-r.keys2 in
+    let refused = c.in_default-r.in_default-r-own.keys2 in
     let returned = c.at_offset.ensures ∙ ap (λ a. at_offset a c.put_in-r.result) l.invariant.0 in
     record {
       answer = returned ∙ packet_refused _ _ _ _ _ l.invariant.3 _ _ (there (goal.at.returns-in_default-r c).In-Of) _ c.put_in-r.ensures.answer refused;
@@ -83,8 +83,9 @@ withdraw_packets-requires-in_default-e c = gone_within _ _ _ _ _ _ c.loop-flow.i
 -- the end decides, and where it is refused the sketch is what it was
 ended : (c : After-judge_end-e) → c.judge_end-e.result ≡ packets_judged c.args.p c.args.bytes.now (sketch c.args.counts.now c.args.idsums.now)
 ended c =
+    let none : let bs = c.args.bytes.now in is_kind packets_kind (record_at bs (packet_offset bs c.loop-flow.n)) ≡ false = packets_not_there _ _ _ (c.packets_at-found.ensures ∙ ap (packets_at _) c.loop-flow.invariant.0) c.in_default.in_default-own.keys2 in
     let l = c.loop-flow in
-    c.judge_end-e.ensures ∙ ap (λ a. end_answer c.args.bytes.now a l.n) l.invariant.0 ∙ end_judged _ _ _ _ _ l.invariant.3 (none c.before)
+    c.judge_end-e.ensures ∙ ap (λ a. end_answer c.args.bytes.now a l.n) l.invariant.0 ∙ end_judged _ _ _ _ _ l.invariant.3 (none)
 
 restored-at-end : (c : After-withdraw_packets-in_default-e)
     → sketch c.withdraw_packets-in_default-e.new.counts c.withdraw_packets-in_default-e.new.idsums ≡ sketch c.args.counts.now c.args.idsums.now
@@ -99,7 +100,7 @@ shape_of-idsums-in_default-e c = ap (λ S. length S.idsums) (restored-at-end (go
 pub returns-in_default-e : goal.returns-in_default-e
 returns-in_default-e c = record {
   answer = ended (goal.at.returns-in_default-e c).After-judge_end-e;
-  after_all = restored-at-end (goal.at.returns-in_default-e c).After-withdraw_packets-in_default-e ∙ kept_old _ _ _ c.in_default-e.keys2;
+  after_all = restored-at-end (goal.at.returns-in_default-e c).After-withdraw_packets-in_default-e ∙ kept_old _ _ _ c.in_default-e.in_default-e-own.keys2;
 }
 
 pub shape_of-counts : goal.shape_of-counts

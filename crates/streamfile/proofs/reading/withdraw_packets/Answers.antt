@@ -23,10 +23,10 @@ earlier : (c : In-loop-i) → c.loop-i.i - 1 < packets_in c.args.bytes.now
 earlier c = let l = c.loop-i in omega (arith, c.requires, l.invariant.0, c.loop-i-test.true)
 
 pub overflow_mul-i : goal.overflow_mul-i
-overflow_mul-i c = omega (arith, packet_within _ _ _ (earlier c))
+overflow_mul-i c = omega (arith, packet_within _ _ _ (earlier (goal.at.overflow_mul-i c).In-loop-i))
 
 pub overflow_add-first : goal.overflow_add-first
-overflow_add-first c = omega (arith, packet_within _ _ _ (earlier c), c.head_length_in-first.ensures)
+overflow_add-first c = omega (arith, packet_within _ _ _ (earlier (goal.at.overflow_add-first c).In-loop-i), c.head_length_in-first.ensures)
 
 -- so packets are found there
 place : (c : After-packets_at-found)
@@ -37,19 +37,22 @@ place c =
 
 always-found : (c : In_default) → ⊥
 always-found c =
+    let earlier : c.loop-i.i - 1 < packets_in c.args.bytes.now = let l = c.loop-i in omega (arith, c.requires, l.invariant.0, c.loop-i-test.true) in
+    let place : let bs = c.args.bytes.now in c.packets_at-found.result ≡ packets_at bs (packet_offset bs (c.loop-i.i - 1)) = let bs = c.args.bytes.now in
+    c.packets_at-found.ensures ∙ ap (λ (o : ℕ). packets_at bs (packet_from o (c.loop-i.i - 1))) c.head_length_in-first.ensures in
     let bs = c.args.bytes.now in
-    let whole = whole_within packets_kind (packet_offset bs) bs _ (earlier c.before.before.before) in
-    let none = packets_not_there _ _ _ (place c.before.before) c.in_default.keys2 in
+    let whole = whole_within packets_kind (packet_offset bs) bs _ (earlier) in
+    let none = packets_not_there _ _ _ (place) c.in_default.in_default-own.keys2 in
     true≢false (sym whole ∙ none)
 
 pub shape_of-counts-in_default : goal.shape_of-counts-in_default
-shape_of-counts-in_default c = absurd (always-found c)
+shape_of-counts-in_default c = absurd (always-found (goal.at.shape_of-counts-in_default c).In_default)
 
 pub shape_of-idsums-in_default : goal.shape_of-idsums-in_default
-shape_of-idsums-in_default c = absurd (always-found c)
+shape_of-idsums-in_default c = absurd (always-found (goal.at.shape_of-idsums-in_default c).In_default)
 
 pub returns-in_default : goal.returns-in_default
-returns-in_default c = absurd (always-found c)
+returns-in_default c = absurd (always-found (goal.at.returns-in_default c).In_default)
 
 pub loop-i-preserved : goal.loop-i-preserved
 loop-i-preserved c =

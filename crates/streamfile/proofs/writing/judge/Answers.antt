@@ -16,12 +16,14 @@ good : (c : Else-not-check) → good_params c.args.p ≡ true
 good c = test_held c.check.ensures c.if-not-check.false-raw
 
 passed : (c : Else-room-head_length) → let a = c.args in Passed a.p a.flows.now a.numbers.now a.room
-passed c = record {
-  good = good c.before.before.before.before;
-  same = c.if-n-numbers.false;
-  few = c.if-n-gt65536.false;
-  room = omega (arith, c.head_length.ensures, c.if-room-head_length.false);
-}
+passed c =
+    let good : good_params c.args.p ≡ true = test_held c.check.ensures c.if-not-check.false-raw in
+    record {
+      good = good;
+      same = c.if-n-numbers.false;
+      few = c.if-n-gt65536.false;
+      room = omega (arith, c.head_length.ensures, c.if-room-head_length.false);
+    }
 
 pub returns-then-not-check : goal.returns-then-not-check
 unfolding stream_write_answer

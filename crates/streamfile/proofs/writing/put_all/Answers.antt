@@ -1,5 +1,6 @@
 -- `streamfile::writing::put_all` meets its contract. The invariant: the records that are left, written from `at` on, give what is asked for.
 use mathlib.Core.Path.{◌≡◌, refl, sym, ap, ◌∙◌}
+use mathlib.Core.List.{[]}
 use Prim.Native.Nat.{◌-◌}
 use native.Mathlib.Omega.{arith}
 use borrow.Author.Rules.{rules}

@@ -12,7 +12,7 @@ passed : (c : In-Done) → let a = c.args in Passed a.p a.flows.now a.numbers.no
 passed c = writing_passed _ _ _ _ (sym c.judge-r.ensures ∙ c.in-Done.is)
 
 pub put_all-requires : goal.put_all-requires
-put_all-requires c = let h = passed (goal.at.put_all-requires c).In-Done in (h.same, omega arith)
+put_all-requires c = let h = passed (goal.at.put_all-requires c).In-Done in record { flows_len = h.same; flows_in_bounds = omega arith }
 
 pub overflow_mul-at : goal.overflow_mul-at
 overflow_mul-at c = omega (arith, passed (goal.at.overflow_mul-at c).In-Done)
@@ -37,7 +37,7 @@ returns-in-Done c =
     let written =
     overwritten_file a.p a.out.now (packets_bytes a.flows.now a.numbers.now) (length a.flows.now) _ _ h.good first (omega arith) (omega arith)
     c.put_head.ensures
-    c.put_all_lem.ensures
+    c.put_all.ensures
     c.put_end.ensures in
     record {
       answer = returned_length judged _ _ c.in-Done.is (omega (arith, stream_long a.p a.flows.now a.numbers.now h.same));

@@ -16,7 +16,7 @@ placed : (c : After-sketched) → c.sketched.result ≡ sketched c.args.self c.a
 placed c = sketched_of _ _ _ (flow_done _ _ _ (sym c.asked-asked.ensures ∙ c.in-Done.is)) c.sketched.ensures
 
 pub overflow_sub-result : goal.overflow_sub-result
-overflow_sub-result c = (right c).low
+overflow_sub-result c = (right (goal.at.overflow_sub-result c).In-Done).low
 
 pub overflow_mul-result : goal.overflow_mul-result
 overflow_mul-result c = omega (arith, right (goal.at.overflow_mul-result c).In-Done)

@@ -15,7 +15,7 @@ unfolding dimensions_answer
 returns-then-not-good_dimensions c = simp (test_failed c.good_dimensions.ensures c.if-not-good_dimensions.true-raw)
 
 pub lengths-requires : goal.lengths-requires
-lengths-requires c = dimensions _ (passed c)
+lengths-requires c = dimensions _ (passed (goal.at.lengths-requires c).Else-not-good_dimensions)
 
 pub returns : goal.returns
 unfolding dimensions_answer

@@ -15,7 +15,7 @@ unfolding lent_answer
 returns-then-not-check c = simp (test_failed c.check.ensures c.if-not-check.true-raw)
 
 pub lengths-requires : goal.lengths-requires
-lengths-requires c = good_dimensions_lem _ (passed c)
+lengths-requires c = good_dimensions_lem _ (passed (goal.at.lengths-requires c).Else-not-check)
 
 pub returns : goal.returns
 unfolding lent_answer

@@ -15,7 +15,7 @@ placed : (c : After-sketched) → c.sketched.result ≡ sketched c.args.self c.a
 placed c = sketched_of _ _ _ (flow_done _ _ _ (sym c.asked-asked.ensures ∙ c.in-Done.is)) c.sketched.ensures
 
 pub overflow_sub-i : goal.overflow_sub-i
-overflow_sub-i c = (right c).low
+overflow_sub-i c = (right (goal.at.overflow_sub-i c).In-Done).low
 
 pub stand-requires : goal.stand-requires
 stand-requires c = let h = right (goal.at.stand-requires c).In-Done in (h.dimensions, omega arith)

@@ -34,10 +34,14 @@ three-placed : (c : Joined-d-gt2) → let a = c.args in
     ((2 < a.self.d) × (c.if-d-gt2.ks ≡ touched (up_to 3) (λ j k. stand a.self j a.x) a.ks.now)) ⊎ ((a.self.d ≤ 2) × (c.if-d-gt2.ks ≡ touched (up_to 2) (λ j k. stand a.self j a.x) a.ks.now))
 unfolding stand
 three-placed c =
+    let two-placed : let s = c.args in set (set s.ks.now 0 c.position_by.result) 1 c.position_by-2.result ≡ touched (up_to 2) (λ j k. stand s.self j s.x) s.ks.now = let s = c.args in
+    store_next 0 (λ j. stand s.self j s.x) s.ks.now _ 1
+    (store_next 0 (λ j. stand s.self j s.x) s.ks.now _ 0 (each_none 0 _ _) c.position_by.ensures.0)
+    c.position_by-2.ensures.0 in
     let a = c.args in
     ⊎_elim
-    (λ w. inl (w.0.taken, rw w.2 (store_next 0 (λ j. stand a.self j a.x) a.ks.now _ 2 (two-placed c.before) w.1.ensures.0)))
-    (λ w. inr (w.0.left, rw w.1 (two-placed c.before)))
+    (λ w. inl (w.0.taken, rw w.2 (store_next 0 (λ j. stand a.self j a.x) a.ks.now _ 2 (two-placed) w.1.ensures.0)))
+    (λ w. inr (w.0.left, rw w.1 (two-placed)))
     c.if-d-gt2.branch
 
 pub returns-then-not-good_dimensions : goal.returns-then-not-good_dimensions
