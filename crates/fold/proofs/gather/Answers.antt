@@ -17,7 +17,7 @@ use Rattle.buckets.proofs.Idsums.{prime_pos}
 use Rattle.fold.specs.Fold.{whole_count, whole_idsum}
 use Rattle.fold.proofs.Turns.{Aimed, aimed_first, aimed_on, aimed_over, few_sources, short_step, few_buckets, fewer_buckets, start_inside, position_inside, sources_inside, whole_count_lem, whole_idsum_lem, unspoilt}
 use Rattle.fold.proofs.gather.Goals as goal
-use Rattle.fold.proofs.gather.Goals.{After-sum_of-sums, At-loop-k, Joined-j-m2}
+use Rattle.fold.proofs.gather.Goals.{After-sum_of-sums, At-loop-k, Joined-j-m2, else-j-m2, then-j-m2}
 
 pub nonzero_div-n : goal.nonzero_div-n
 nonzero_div-n c = c.requires.foldable.m2_low
@@ -101,10 +101,7 @@ aimed : (c : Joined-j-m2) → let a = c.args in
     Aimed a.m a.m2 c.if-j-m2.start c.if-j-m2.j (c.loop-k.k + 1)
 aimed c =
     let h = c.requires.foldable in
-    ⊎_elim
-    (λ w. rw (w.1, w.2) (aimed_over h c.loop-k.invariant.1 w.0.taken))
-    (λ w. rw (w.1, w.2) (aimed_on h c.loop-k.invariant.1 w.0.left))
-    c.if-j-m2.branch
+    elim c.if-j-m2.branch [ then-j-m2 w ↦ rw (w.start-is, w.j-is) (aimed_over h c.loop-k.invariant.1 w.if-j-m2.true) | else-j-m2 w ↦ rw (w.start-is, w.j-is) (aimed_on h c.loop-k.invariant.1 w.if-j-m2.false) ]
 
 pub loop-k-preserved : goal.loop-k-preserved
 loop-k-preserved c =

@@ -11,7 +11,7 @@ use Rattle.sketch.proofs.Standing.{Within, reach}
 use Rattle.buckets.proofs.Zeros.{is_zero_lem, not_zero}
 use Rattle.peel.proofs.Queues.{requeue_none, requeue_past, requeue_join, requeue_all}
 use Rattle.peel.proofs.queue.requeue.Goals as goal
-use Rattle.peel.proofs.queue.requeue.Goals.{In-loop-i}
+use Rattle.peel.proofs.queue.requeue.Goals.{In-loop-i, else-counts-j-ne0, then-counts-j-ne0}
 
 pub loop-i-init : goal.loop-i-init
 loop-i-init c = (omega arith, c.requires.1, requeue_none, λ k. refl, λ k. refl)
@@ -51,24 +51,21 @@ loop-i-preserved c =
     let i = c.loop-i.i in
     let v = c.loop-i.invariant in
     let x : ℤ = get_or c.args.counts.now (i * c.args.m + get_or c.args.ks.now i 0) (pos 0) in
-    ⊎_elim
-    (λ w.
-    rw (w.8, w.9, w.10) (
+    elim c.if-counts-j-ne0.branch [ then-counts-j-ne0 w ↦ 
+    rw (w.queue-is, w.marks-is, w.waiting-is) (
       omega arith,
-      rw v.1.long at w.3.ensures.ringed,
-      requeue_join v.2 c.loop-i-test.true (not_zero x (λ e. w.0.taken (bits_of_zero x e))) w.3.ensures.list,
-      λ k. w.3.ensures.above k ∙ v.3 k,
-      λ k. w.3.ensures.above_marks k ∙ v.4 k,
-    ))
-    (λ w.
-    rw (w.1, w.2, w.3) (
+      rw v.1.long at w.push-waiting.ensures.ringed,
+      requeue_join v.2 c.loop-i-test.true (not_zero x (λ e. w.if-counts-j-ne0.true (bits_of_zero x e))) w.push-waiting.ensures.list,
+      λ k. w.push-waiting.ensures.above k ∙ v.3 k,
+      λ k. w.push-waiting.ensures.above_marks k ∙ v.4 k,
+    ) | else-counts-j-ne0 w ↦ 
+    rw (w.queue-is, w.marks-is, w.waiting-is) (
       omega arith,
       v.1,
-      requeue_past v.2 c.loop-i-test.true (is_zero_lem x (zero_of_bits x (sfits_of c.t19-1.given) w.0.left)),
+      requeue_past v.2 c.loop-i-test.true (is_zero_lem x (zero_of_bits x (sfits_of c.t19-1.given) w.if-counts-j-ne0.false)),
       v.3,
       v.4,
-    ))
-    c.if-counts-j-ne0.branch
+    ) ]
 
 pub shape_of-queue : goal.shape_of-queue
 shape_of-queue c = c.loop-i.invariant.1.long ∙ sym c.requires.1.long

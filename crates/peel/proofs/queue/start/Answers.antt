@@ -11,6 +11,7 @@ use Rattle.buckets.proofs.Zeros.{is_zero_lem, not_zero}
 use Rattle.peel.proofs.Rings.{ring_nothing, ring_empty}
 use Rattle.peel.proofs.Queues.{first_none, first_past, first_join, first_all}
 use Rattle.peel.proofs.queue.start.Goals as goal
+use Rattle.peel.proofs.queue.start.Goals.{else-counts-i-ne0, then-counts-i-ne0}
 
 pub loop-i-init : goal.loop-i-init
 loop-i-init c =
@@ -36,22 +37,19 @@ pub loop-i-preserved : goal.loop-i-preserved
 loop-i-preserved c =
     let v = c.loop-i.invariant in
     let x : ℤ = get_or c.args.counts.now c.loop-i.i (pos 0) in
-    ⊎_elim
-    (λ w.
-    rw (w.8, w.9, w.10) (
+    elim c.if-counts-i-ne0.branch [ then-counts-i-ne0 w ↦ 
+    rw (w.queue-is, w.marks-is, w.waiting-is) (
       omega arith,
-      rw v.1.long at w.3.ensures.ringed,
-      first_join v.2 c.loop-i-test.true (not_zero x (λ e. w.0.taken (bits_of_zero x e))) w.3.ensures.list,
-      λ k. w.3.ensures.above_marks k ∙ v.3 k,
-    ))
-    (λ w.
-    rw (w.1, w.2, w.3) (
+      rw v.1.long at w.push-waiting.ensures.ringed,
+      first_join v.2 c.loop-i-test.true (not_zero x (λ e. w.if-counts-i-ne0.true (bits_of_zero x e))) w.push-waiting.ensures.list,
+      λ k. w.push-waiting.ensures.above_marks k ∙ v.3 k,
+    ) | else-counts-i-ne0 w ↦ 
+    rw (w.queue-is, w.marks-is, w.waiting-is) (
       omega arith,
       v.1,
-      first_past v.2 c.loop-i-test.true (is_zero_lem x (zero_of_bits x (sfits_of c.t14-1.given) w.0.left)),
+      first_past v.2 c.loop-i-test.true (is_zero_lem x (zero_of_bits x (sfits_of c.t14-1.given) w.if-counts-i-ne0.false)),
       v.3,
-    ))
-    c.if-counts-i-ne0.branch
+    ) ]
 
 pub shape_of-queue : goal.shape_of-queue
 shape_of-queue c = c.loop-i.invariant.1.long ∙ c.requires.0

@@ -19,7 +19,7 @@ use Rattle.peel.specs.Table.{row}
 use Rattle.peel.proofs.Slots.{Holds, holds_in_place, holds_written, table_kept}
 use Rattle.peel.proofs.Closing.{closing_none, closing_past, closing_keep, closing_all}
 use Rattle.peel.proofs.table.close.Goals as goal
-use Rattle.peel.proofs.table.close.Goals.{After-c-1, After-down-extra, After-up-lost, Joined-entries-i}
+use Rattle.peel.proofs.table.close.Goals.{After-c-1, After-down-extra, After-up-lost, Joined-entries-i, else-c-ne0, else-entries-i, then-c-ne0, then-entries-i}
 
 pub loop-i-init : goal.loop-i-init
 loop-i-init c = (omega arith, omega arith, refl, refl, omega arith, closing_none)
@@ -40,12 +40,9 @@ kept c =
     let number : ℤ = get_or c.loop-i.numbers c.loop-i.i (pos 0) in
     let fits : SFits w32 (number) = sfits_of c.c-1.given in
     let v = c.loop-i.invariant in
-    ⊎_elim
-    (λ w.
-    rw (w.2, w.3, to_z-of_z (fits))
-    (holds_written (omega (arith, v.2, c.requires.0)) (omega (arith, v.3, c.requires.0, c.requires.1))))
-    (λ w. rw (w.1, w.2) (holds_in_place (omega (arith, w.0.left, v.0))))
-    c.if-entries-i.branch
+    elim c.if-entries-i.branch [ then-entries-i w ↦ 
+    rw (w.flows-is, w.numbers-is, to_z-of_z (fits))
+    (holds_written (omega (arith, v.2, c.requires.0)) (omega (arith, v.3, c.requires.0, c.requires.1))) | else-entries-i w ↦ rw (w.flows-is, w.numbers-is) (holds_in_place (omega (arith, w.if-entries-i.false, v.0))) ]
 
 lost_by_lem : (c : After-up-lost) → c.up-lost.result ≡ up (number)
 lost_by_lem c =
@@ -72,30 +69,27 @@ pub loop-i-preserved : goal.loop-i-preserved
 loop-i-preserved c =
     let v = c.loop-i.invariant in
     let inside = c.loop-i-test.true in
-    ⊎_elim
-    (λ w.
-    let j : tie.Joined2 invariant-loop decreases-loop = record { before = record { before = c; if1 = w.0 }; if2 = w.1 } in
+    elim c.if-c-ne0.branch [ then-c-ne0 w ↦ 
+    let j : tie.Joined2 invariant-loop decreases-loop = record { before = record { before = c; if1 = w.if-c-ne0 }; if2 = w.if-entries-i } in
     let k = kept j in
-    let u : w.2.result ≡ up (number (goal.at.loop-i-preserved c).After-c-1) = lost_by_lem record { before = j; up = w.2 } in
-    let d : w.3.result ≡ down (number (goal.at.loop-i-preserved c).After-c-1) = extra_by_lem record { before = record { before = j; up = w.2 }; down = w.3 } in
-    rw (w.4, w.5, w.6, w.7, w.8, u, d) (
+    let u : w.up-lost.result ≡ up (number (goal.at.loop-i-preserved c).After-c-1) = lost_by_lem record { before = j; up = w.up-lost } in
+    let d : w.down-extra.result ≡ down (number (goal.at.loop-i-preserved c).After-c-1) = extra_by_lem record { before = record { before = j; up = w.up-lost }; down = w.down-extra } in
+    rw (w.flows-is, w.numbers-is, w.entries-is, w.lost-is, w.extra-is, u, d) (
       omega arith,
       omega arith,
       k.long ∙ v.2,
       k.long_numbers ∙ v.3,
       omega (arith, small (goal.at.loop-i-preserved c).After-c-1, v.4),
-      closing_keep v.5 inside k v.0 (not_zero (number (goal.at.loop-i-preserved c).After-c-1) (λ e. w.0.taken (bits_of_zero (number (goal.at.loop-i-preserved c).After-c-1) e))),
-    ))
-    (λ w.
-    rw (w.1, w.2, w.3, w.4, w.5) (
+      closing_keep v.5 inside k v.0 (not_zero (number (goal.at.loop-i-preserved c).After-c-1) (λ e. w.if-c-ne0.true (bits_of_zero (number (goal.at.loop-i-preserved c).After-c-1) e))),
+    ) | else-c-ne0 w ↦ 
+    rw (w.flows-is, w.numbers-is, w.entries-is, w.lost-is, w.extra-is) (
       omega arith,
       omega arith,
       v.2,
       v.3,
       v.4,
-      closing_past v.5 inside (is_zero_lem (number (goal.at.loop-i-preserved c).After-c-1) (zero_of_bits (number (goal.at.loop-i-preserved c).After-c-1) (fits (goal.at.loop-i-preserved c).After-c-1) w.0.left)),
-    ))
-    c.if-c-ne0.branch
+      closing_past v.5 inside (is_zero_lem (number (goal.at.loop-i-preserved c).After-c-1) (zero_of_bits (number (goal.at.loop-i-preserved c).After-c-1) (fits (goal.at.loop-i-preserved c).After-c-1) w.if-c-ne0.false)),
+    ) ]
 
 pub returns : goal.returns
 returns c =

@@ -12,7 +12,7 @@ use Rattle.buckets.proofs.Limits.{limits_fit}
 use Rattle.peel.proofs.Entries.{table_held, credit_old, credit_new}
 use Rattle.peel.proofs.Chains.{relinked_old, relinked_past, relinked_new}
 use Rattle.peel.proofs.table.credit.Goals as goal
-use Rattle.peel.proofs.table.credit.Goals.{After-numbers-1}
+use Rattle.peel.proofs.table.credit.Goals.{After-numbers-1, else-at-queue, then-at-queue}
 
 -- the entry that f has
 abbrev entry : (c : After-numbers-1) → ℤ
@@ -36,17 +36,14 @@ returns-then-at-n c = (
 )
 
 pub shape_of-queue : goal.shape_of-queue
-shape_of-queue c = ⊎_elim (λ w. ap length w.8 ∙ w.3.kept.0) (λ w. ap length w.1) c.if-at-queue.branch
+shape_of-queue c = elim c.if-at-queue.branch [ then-at-queue w ↦ ap length w.queue-is ∙ w.link.kept.0 | else-at-queue w ↦ ap length w.queue-is ]
 
 pub shape_of-marks : goal.shape_of-marks
-shape_of-marks c = ⊎_elim (λ w. ap length w.9 ∙ w.3.kept.1.0) (λ w. ap length w.2) c.if-at-queue.branch
+shape_of-marks c = elim c.if-at-queue.branch [ then-at-queue w ↦ ap length w.marks-is ∙ w.link.kept.1.0 | else-at-queue w ↦ ap length w.marks-is ]
 
 pub returns : goal.returns
 returns c = (
   rw (to_z-of_z c.ranges.c)
       (credit_new _ _ _ _ _ c.requires.finds.0 c.args.c c.if-at-n.false (omega (arith, c.requires.finds.1, c.requires.finds.2)) c.requires.finds.2),
-  ⊎_elim
-      (λ w. rw (w.8, w.9) (relinked_new c.requires.finds.0 c.if-at-n.false c.requires.finds.2 w.0.taken c.requires.queue_len_bound.1 w.3.ensures))
-      (λ w. rw (w.1, w.2) (relinked_past c.requires.finds.0 c.if-at-n.false c.requires.finds.2 w.0.left))
-      c.if-at-queue.branch,
+  elim c.if-at-queue.branch [ then-at-queue w ↦ rw (w.queue-is, w.marks-is) (relinked_new c.requires.finds.0 c.if-at-n.false c.requires.finds.2 w.if-at-queue.true c.requires.queue_len_bound.1 w.link.ensures) | else-at-queue w ↦ rw (w.queue-is, w.marks-is) (relinked_past c.requires.finds.0 c.if-at-n.false c.requires.finds.2 w.if-at-queue.false) ],
 )

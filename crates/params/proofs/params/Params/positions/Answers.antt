@@ -12,7 +12,7 @@ use Rattle.params.proofs.Searches.{test_held, test_failed}
 use Rattle.params.proofs.Changes.{up_to, each_none, store_next}
 use Rattle.params.proofs.Rules.{dimensions, no_positions, all_positions}
 use Rattle.params.proofs.params.Params.positions.Goals as goal
-use Rattle.params.proofs.params.Params.positions.Goals.{After-position_by-2, Else-not-good_dimensions, Joined-d-gt2}
+use Rattle.params.proofs.params.Params.positions.Goals.{After-position_by-2, Else-not-good_dimensions, Joined-d-gt2, else-d-gt2, then-d-gt2}
 
 passed : (c : Else-not-good_dimensions) → good_dimensions c.args.self ≡ true
 passed c = test_held c.good_dimensions.ensures c.if-not-good_dimensions.false-raw
@@ -39,10 +39,7 @@ three-placed c =
     (store_next 0 (λ j. stand s.self j s.x) s.ks.now _ 0 (each_none 0 _ _) c.position_by.ensures.0)
     c.position_by-2.ensures.0 in
     let a = c.args in
-    ⊎_elim
-    (λ w. inl (w.0.taken, rw w.2 (store_next 0 (λ j. stand a.self j a.x) a.ks.now _ 2 (two-placed) w.1.ensures.0)))
-    (λ w. inr (w.0.left, rw w.1 (two-placed)))
-    c.if-d-gt2.branch
+    elim c.if-d-gt2.branch [ then-d-gt2 w ↦ inl (w.if-d-gt2.true, rw w.ks-is (store_next 0 (λ j. stand a.self j a.x) a.ks.now _ 2 (two-placed) w.position_by-then-d-gt2.ensures.0)) | else-d-gt2 w ↦ inr (w.if-d-gt2.false, rw w.ks-is (two-placed)) ]
 
 pub returns-then-not-good_dimensions : goal.returns-then-not-good_dimensions
 returns-then-not-good_dimensions c = no_positions _ _ _ (test_failed c.good_dimensions.ensures c.if-not-good_dimensions.true-raw)
