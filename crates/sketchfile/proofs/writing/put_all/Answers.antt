@@ -18,7 +18,7 @@ use Rattle.files.proofs.Overwriting.{overwritten_none, length_written, written_n
 use Rattle.sketchfile.specs.Writing.{zero_at, buckets_bytes}
 use Rattle.sketchfile.proofs.Written.{buckets_long, all_left, none_left, zero_next, nonzero_next}
 use Rattle.sketchfile.proofs.writing.put_all.Goals as goal
-use Rattle.sketchfile.proofs.writing.put_all.Goals.{After-all_zero, Then-not-all_zero}
+use Rattle.sketchfile.proofs.writing.put_all.Goals.{After-all_zero, Then-not-all_zero, else-not-all_zero, then-not-all_zero}
 
 -- the bucket that a turn looks at
 tested : (c : After-all_zero) → c.all_zero.result ≡ zero_at (sketch c.args.counts.now c.args.idsums.now) c.loop-k.k
@@ -63,23 +63,20 @@ loop-k-preserved c =
     let l = c.loop-k in
     let a = c.args in
     let S = sketch a.counts.now a.idsums.now in
-    ⊎_elim
-    (λ w.
-    let t : tie.Then1 invariant-loop decreases-loop = record { before = c; if1 = w.0 } in
-    let put : c.if-not-all_zero.out ≡ written l.out l.at (bucket_bytes l.k (count_in S l.k) (idsum_in S l.k)) = w.7 ∙ rw (back w32 _ w.2.given) at w.4.ensures in (
+    elim c.if-not-all_zero.branch [ then-not-all_zero w ↦ 
+    let t : tie.Then1 invariant-loop decreases-loop = record { before = c; if1 = w.if-not-all_zero } in
+    let put : c.if-not-all_zero.out ≡ written l.out l.at (bucket_bytes l.k (count_in S l.k) (idsum_in S l.k)) = w.out-is ∙ rw (back w32 _ w.put_bucket-arg-then-not-all_zero-1.given) at w.put_bucket.ensures in (
       search rules,
       ap length put ∙ length_written _ _ _ ∙ l.invariant.1,
-      omega (arith, w.8, ap length (nonzero-here t)),
-      written_next _ _ _ _ _ _ (ap (overwritten l.out l.at) (sym (nonzero-here t)) ∙ l.invariant.3) put (room t) w.8,
-    ))
-    (λ w.
-    let next = zero_next S (length a.counts.now) l.k c.loop-k-test.true (sym (tested (goal.at.loop-k-preserved c).After-all_zero) ∙ not-false _ w.0.left) in (
+      omega (arith, w.at-is, ap length (nonzero-here t)),
+      written_next _ _ _ _ _ _ (ap (overwritten l.out l.at) (sym (nonzero-here t)) ∙ l.invariant.3) put (room t) w.at-is,
+    ) | else-not-all_zero w ↦ 
+    let next = zero_next S (length a.counts.now) l.k c.loop-k-test.true (sym (tested (goal.at.loop-k-preserved c).After-all_zero) ∙ not-false _ w.if-not-all_zero.false-raw) in (
       search rules,
-      ap length w.1 ∙ l.invariant.1,
-      omega (arith, w.2, ap length next),
-      rw (w.1, w.2) (ap (overwritten l.out l.at) (sym next) ∙ l.invariant.3),
-    ))
-    c.if-not-all_zero.branch
+      ap length w.out-is ∙ l.invariant.1,
+      omega (arith, w.at-is, ap length next),
+      rw (w.out-is, w.at-is) (ap (overwritten l.out l.at) (sym next) ∙ l.invariant.3),
+    ) ]
 
 pub returns : goal.returns
 returns c =
