@@ -296,7 +296,7 @@ module _ (P : Params) (h : Dimensions P) (es : List Entry) (sure : Sure P es) wh
         low = 0;
         rising = in_rising_rises P es sure.own;
         small = small;
-        unlisted = all_of _ rising (by 0 (pos 0)) (λ i l. refl);
+        unlisted = all_of (λ (e : Entry). not (has (sketched P e.flow) [])) rising (by 0 (pos 0)) (λ i l. refl);
       }
 
   -- there is a bucket with a count for each flow, and there are no more flows than array 1 has buckets
