@@ -1,5 +1,5 @@
 -- Refusals of the sum and the difference as a caller gets them: by the answer of a call, of whatever function meets its contract.
-use mathlib.Core.Path.{◌≡◌, sym}
+use mathlib.Core.Path.{sym}
 use mathlib.Core.Bool.{Bool, not, ◌||◌}
 use Prim.Native.Nat.{ℕ}
 use Rattle.params.specs.declared.params.Params.{Params}

@@ -1,5 +1,4 @@
 -- `fold::clear_rest` meets its contract. The loop's invariant: from `first` on the places passed are zero, and all others are as they were.
-use Prim.Native.Nat.{◌-◌}
 use native.Mathlib.Omega.{arith}
 use mathlib.Core.Path.{◌≡◌}
 use lib.IntN.{pos}

@@ -1,9 +1,8 @@
 -- `fold::first_unfit` meets its contract. The loop's invariant: the search from bucket `k` on gives what the whole search gives.
-use Prim.Native.Nat.{ℕ, ◌+◌, ◌-◌, ◌*◌, ◌/◌}
+use Prim.Native.Nat.{ℕ, ◌+◌, ◌*◌, ◌/◌}
 use native.Mathlib.Omega.{arith}
 use mathlib.Core.Path.{◌≡◌, sym, ap, ap₂, ◌∙◌}
 use mathlib.Core.Bool.{not, ◌&&◌}
-use mathlib.Core.Logic.{⊎_elim}
 use Rattle.params.specs.Lists.{below}
 use Rattle.params.proofs.Searches.{scan_start, scan_next, scan_found, scan_end}
 use Rattle.buckets.specs.Buckets.{in_limits, damaged_of}

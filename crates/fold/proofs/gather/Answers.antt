@@ -1,10 +1,9 @@
 -- `fold::gather` meets its contract. The loop's invariant: the buckets passed are those of the folded sketch, and no other has changed.
-use Prim.Native.Nat.{◌+◌, ◌-◌, ◌*◌}
+use Prim.Native.Nat.{◌+◌, ◌*◌}
 use native.Mathlib.Nat.{mod-lt}
 use native.Mathlib.Omega.{arith}
 use mathlib.Core.Path.{◌≡◌, refl, sym, ap, ◌∙◌}
 use mathlib.Core.Bool.{true}
-use mathlib.Core.Logic.{⊎_elim}
 use lib.IntN.{pos}
 use lib.ListN.{length}
 use Rattle.field.specs.Residue.{residue}

@@ -1,5 +1,5 @@
 -- `fold::sum_of` meets its contract. The loop's invariant: both sums are those over the buckets passed.
-use Prim.Native.Nat.{ℕ, ◌-◌, ◌<◌}
+use Prim.Native.Nat.{ℕ, ◌<◌}
 use native.Mathlib.Omega.{arith}
 use mathlib.Core.Path.{◌≡◌, refl, ap}
 use lib.IntN.{pos}

@@ -1,5 +1,5 @@
 -- `sums::first_damaged` meets its contract. The loop's invariant: the search from `i` on gives what the whole search gives.
-use Prim.Native.Nat.{ℕ, ◌-◌}
+use Prim.Native.Nat.{ℕ}
 use native.Mathlib.Omega.{arith}
 use mathlib.Core.Path.{◌≡◌, sym, ◌∙◌}
 use mathlib.Core.Bool.{Bool, true, false, not, ◌&&◌}

@@ -1,5 +1,4 @@
 -- `sums::first_leaving` meets its contract. The loop's invariant: the search from `i` on gives what the whole search gives.
-use Prim.Native.Nat.{◌-◌}
 use native.Mathlib.Omega.{arith}
 use mathlib.Core.Path.{◌≡◌, sym, ap, ◌∙◌}
 use mathlib.Core.Bool.{not}

@@ -1,5 +1,5 @@
 -- `sums::put_all` meets its contract. The loop's invariant: the buckets passed are changed, and no others.
-use Prim.Native.Nat.{◌-◌, ◌<◌}
+use Prim.Native.Nat.{◌<◌}
 use native.Mathlib.Omega.{arith}
 use mathlib.Core.Path.{◌≡◌, ap₂, ◌∙◌}
 use mathlib.Core.Bool.{true}

@@ -1,7 +1,6 @@
 -- `sketch::packets::insert_packets` meets its contract. The invariant: the first i packets were accepted, and what is left to do from here answers as the whole.
 use mathlib.Core.Bool.{false}
 use mathlib.Core.Path.{◌≡◌, refl, sym, ap, ◌∙◌}
-use Prim.Native.Nat.{◌-◌}
 use native.Mathlib.Omega.{arith}
 use lib.ListN.{length}
 use borrow.Author.Count.{below_more}
