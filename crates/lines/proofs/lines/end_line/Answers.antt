@@ -2,23 +2,20 @@
 use native.Mathlib.Omega.{arith}
 use Rattle.lines.specs.Lines.{end_line}
 use Rattle.lines.proofs.Digits.{length_short, length_decimal}
-use Rattle.lines.proofs.Joining.{then, line_of_five, not_lined, length_ending}
+use Rattle.lines.proofs.Joining.{then, line_of_five, length_ending}
 use Rattle.lines.proofs.lines.end_line.Goals as goal
 
-pub returns-then-out-lt-LINE_ROOM : goal.returns-then-out-lt-LINE_ROOM
-returns-then-out-lt-LINE_ROOM c = not_lined _ _ (omega arith)
-
 pub put_named-at-requires : goal.put_named-at-requires
-put_named-at-requires c = omega (arith, length_ending c.args.ending, length_short c.args.pops (omega arith))
+put_named-at-requires c = omega (arith, length_ending, length_short, length_decimal)
 
 pub put_named-at-requires-2 : goal.put_named-at-requires-2
-put_named-at-requires-2 c = omega (arith, length_ending c.args.ending, length_short c.args.pops (omega arith), length_decimal c.args.lost (omega arith))
+put_named-at-requires-2 c = omega (arith, length_ending, length_short, length_decimal)
 
 pub put_named-at-requires-3 : goal.put_named-at-requires-3
-put_named-at-requires-3 c = omega (arith, length_ending c.args.ending, length_short c.args.pops (omega arith), length_decimal c.args.lost (omega arith), length_decimal c.args.extra (omega arith))
+put_named-at-requires-3 c = omega (arith, length_ending, length_short, length_decimal)
 
 pub put-requires : goal.put-requires
-put-requires c = omega (arith, c.if-out-lt-LINE_ROOM.false, length_ending c.args.ending, length_short c.args.pops (omega arith), length_decimal c.args.lost (omega arith), length_decimal c.args.extra (omega arith))
+put-requires c = omega (arith, length_ending, length_short, length_decimal)
 
 pub returns : goal.returns
 unfolding end_line

@@ -2,20 +2,17 @@
 use native.Mathlib.Omega.{arith}
 use Rattle.lines.specs.Lines.{refused_line}
 use Rattle.lines.proofs.Digits.{length_decimal}
-use Rattle.lines.proofs.Joining.{line_of_three, not_lined}
+use Rattle.lines.proofs.Joining.{line_of_three}
 use Rattle.lines.proofs.lines.refused_line.Goals as goal
 
-pub returns-then-out-lt-LINE_ROOM : goal.returns-then-out-lt-LINE_ROOM
-returns-then-out-lt-LINE_ROOM c = not_lined _ _ (omega arith)
-
 pub put_named-at-requires : goal.put_named-at-requires
-put_named-at-requires c = omega (arith, length_decimal c.number-number.result (omega arith))
+put_named-at-requires c = omega (arith, length_decimal)
 
 pub put_named-at-requires-2 : goal.put_named-at-requires-2
-put_named-at-requires-2 c = omega (arith, length_decimal c.number-number.result (omega arith), length_decimal c.args.byte (omega arith))
+put_named-at-requires-2 c = omega (arith, length_decimal)
 
 pub put-requires : goal.put-requires
-put-requires c = omega (arith, length_decimal c.number-number.result (omega arith), length_decimal c.args.byte (omega arith))
+put-requires c = omega (arith, length_decimal)
 
 pub returns : goal.returns
 unfolding refused_line
