@@ -12,23 +12,11 @@ offset_bounds-queue-at c = let h = c.requires in omega (arith, c.ring_place-at.e
 pub bounds-queue-at : goal.bounds-queue-at
 bounds-queue-at c = omega (arith, c.ring_place-at.ensures, back_below c.requires.0)
 
-pub overflow_mul-queue : goal.overflow_mul-queue
-overflow_mul-queue c = omega (arith, c.slice_known-then-marks-k-eq0-1.given c.ring_place-at.result)
-
-pub overflow_add-queue : goal.overflow_add-queue
-overflow_add-queue c = let h = c.requires in omega (arith, c.slice_known-then-marks-k-eq0-1.given c.ring_place-at.result, h.1, h.2)
-
 pub offset_bounds-queue-at-then-marks-k-eq0 : goal.offset_bounds-queue-at-then-marks-k-eq0
-offset_bounds-queue-at-then-marks-k-eq0 c = offset_bounds-queue-at c
+offset_bounds-queue-at-then-marks-k-eq0 c = let h = c.requires in omega (arith, c.ring_place-at.ensures, h.2, back_below h.0)
 
 pub bounds-queue-at-then-marks-k-eq0 : goal.bounds-queue-at-then-marks-k-eq0
-bounds-queue-at-then-marks-k-eq0 c = bounds-queue-at c
-
-pub overflow_mul-marks : goal.overflow_mul-marks
-overflow_mul-marks c = omega (arith, c.slice_known-then-marks-k-eq0-2-1.given c.args.k)
-
-pub overflow_add-marks : goal.overflow_add-marks
-overflow_add-marks c = omega (arith, c.slice_known-then-marks-k-eq0-2-1.given c.args.k)
+bounds-queue-at-then-marks-k-eq0 c = omega (arith, c.ring_place-at.ensures, back_below c.requires.0)
 
 pub overflow_add-result : goal.overflow_add-result
 overflow_add-result c = let h = c.requires in omega (arith, h.2, ring_most h.0)
