@@ -10,8 +10,8 @@ use Rattle.peel.proofs.queue.requeue.Given as goal
 
 abbrev pub invariant-loop-i : goal.invariant-loop-i
 invariant-loop-i l = (l.i ≤ l.d) × Ring (l.d * l.m) l.queue l.marks l.head l.waiting
-    × Requeueing (λ l.i. l.i * l.m + get_or l.ks l.i 0) (sketch l.counts []) l.d l.i (ring l.queue l.head l.waiting)
-    (requeue (λ l.i. l.i * l.m + get_or l.ks l.i 0) (sketch l.counts []) 0 l.d (ring l.initial.queue l.head l.first))
+    × Requeueing (λ i. i * l.m + get_or l.ks i 0) (sketch l.counts []) l.d l.i (ring l.queue l.head l.waiting)
+    (requeue (λ i. i * l.m + get_or l.ks i 0) (sketch l.counts []) 0 l.d (ring l.initial.queue l.head l.first))
     × SameAbove 65536 l.initial.queue l.queue
     × SameAbove 2 l.initial.marks l.marks
 

@@ -1,11 +1,12 @@
 -- `peel::queue::start` meets its contract: the ring and the buckets that are still to be queued give the first queue.
 use mathlib.Core.Path.{sym, ◌∙◌}
-use mathlib.Core.Logic.{⊎_elim}
 use Prim.Native.Nat.{◌-◌}
 use native.Mathlib.Omega.{arith}
 use lib.IntN.{ℤ, pos}
 use lib.ListN.{get_or}
-use borrow.Author.Rules.{sfits_of}
+use mir.Syntax.{w32}
+use mir.Val.{SFits}
+use borrow.Author.Rules.{rules}
 use Rattle.field.proofs.Casts.{zero_of_bits, bits_of_zero}
 use Rattle.buckets.proofs.Zeros.{is_zero_lem, not_zero}
 use Rattle.peel.proofs.Rings.{ring_nothing, ring_empty}
@@ -30,13 +31,11 @@ push-waiting-requires c =
     let v = c.loop-i.invariant in
     rw v.1.long (v.1, c.loop-i-test.true, omega (arith, h.0, h.3))
 
-pub loop-i-smaller : goal.loop-i-smaller
-loop-i-smaller c = omega arith
-
 pub loop-i-preserved : goal.loop-i-preserved
 loop-i-preserved c =
     let v = c.loop-i.invariant in
     let x : ℤ = get_or c.args.counts.now c.loop-i.i (pos 0) in
+    let fits : SFits w32 x = search rules in
     elim c.if-counts-i-ne0.branch [ then-counts-i-ne0 w ↦ 
     rw (w.queue-is, w.marks-is, w.waiting-is) (
       omega arith,
@@ -47,15 +46,9 @@ loop-i-preserved c =
     rw (w.queue-is, w.marks-is, w.waiting-is) (
       omega arith,
       v.1,
-      first_past v.2 c.loop-i-test.true (is_zero_lem x (zero_of_bits x (sfits_of c.t14-1.given) w.if-counts-i-ne0.false)),
+      first_past v.2 c.loop-i-test.true (is_zero_lem x (zero_of_bits x fits w.if-counts-i-ne0.false)),
       v.3,
     ) ]
-
-pub shape_of-queue : goal.shape_of-queue
-shape_of-queue c = c.loop-i.invariant.1.long ∙ c.requires.0
-
-pub shape_of-marks : goal.shape_of-marks
-shape_of-marks c = let h = c.requires in c.loop-i.invariant.1.long_marks ∙ h.0 ∙ sym h.1
 
 pub returns : goal.returns
 returns c =
