@@ -2,7 +2,7 @@
 use mathlib.Core.Path.{sym, ◌∙◌}
 use borrow.Author.Rules.{rules}
 use Rattle.peel.proofs.Judged.{judged_peelable}
-use Rattle.peel.proofs.Peeled.{not_peeled, peeled}
+use Rattle.peel.proofs.Peelings.{not_peeled, peeled}
 use Rattle.peel.proofs.peeling.peel.Goals as goal
 
 pub unravel-requires : goal.unravel-requires

@@ -13,7 +13,7 @@ pub tell-requires : goal.tell-requires
 tell-requires c =
     let l = c.close-listed.ensures in
     let w = c.walk_whole-walked in
-    omega (arith, l.within, l.long, w.ensures.room, w.auto.1.1.1.0)
+    omega (arith, l.within, l.long, w.ensures.room, w.auto.flows)
 
 pub returns : goal.returns
 returns c =
@@ -22,7 +22,7 @@ returns c =
     let told = c.tell.ensures in
     let e = w.ensures.outcome in
     let r = c.close-listed.result.entries in
-    let inside : r ≤ length c.close-listed.new.flows = omega (arith, l.within, w.ensures.room, l.long, w.auto.1.1.1.0) in
+    let inside : r ≤ length c.close-listed.new.flows = omega (arith, l.within, w.ensures.room, l.long, w.auto.flows) in
     record {
       ending = ap (λ (o : Outcome). o.ending) e;
       pops = ap (λ (o : Outcome). o.pops) e;

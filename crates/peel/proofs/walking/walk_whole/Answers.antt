@@ -39,6 +39,6 @@ returns c =
     let s = c.start-waiting in
     let w = c.walk.ensures in
     record {
-      outcome = w.outcome ∙ ap (run (rule_of a.p) (length a.flows.now) a.allowance 0) (begins (slices a.counts.now a.idsums.now a.flows.now a.numbers.now s.new.1.0 s.new.1.1.0) s.result s.ensures.list);
+      outcome = w.outcome ∙ ap (run (rule_of a.p) (length a.flows.now) a.allowance 0) (begins (slices a.counts.now a.idsums.now a.flows.now a.numbers.now s.new.queue s.new.marks) s.result s.ensures.list);
       room = w.room;
     }
