@@ -249,7 +249,9 @@ module _ {P : Params} {a : ℕ} {L : Slices} {r : Peeled} {L' : Slices} (h : Pee
 
     -- in every array, what the remaining counts add up to, with lost less extra, is what the counts of the input add up to
     pub totals : (i : ℕ) → 1 ≤ i → i ≤ P.d → array_total P i S' +ℤ (pos (peeled_lost r) -ℤ pos (peeled_extra r)) ≡ array_total P i S
-    totals i l u = rw (remainder_is, answer_is) (walks.totals P (length L.flows) a S sound_input dimensions_are i l u)
+    totals i l u =
+        subst (λ (T : Sketch). array_total P i T +ℤ (pos (peeled_lost r) -ℤ pos (peeled_extra r)) ≡ array_total P i S) (sym remainder_is)
+        (rw answer_is (walks.totals P (length L.flows) a S sound_input dimensions_are i l u))
 
     -- so after a clean end lost less extra is the sum of all numbers of any list whose sketch was peeled
     pub clean_total : peeled_ending r ≡ 1 → (es : List Entry) → S ≡ sketch_of P es → pos (peeled_lost r) -ℤ pos (peeled_extra r) ≡ all_counts es
