@@ -1,6 +1,5 @@
 -- `peel::queue::clear` meets its contract: one more zero a turn.
 use native.Mathlib.Omega.{arith}
-use Prim.Native.Nat.{◌-◌}
 use Rattle.peel.proofs.Clearing.{clearing_none, clearing_more, clearing_all}
 use Rattle.peel.proofs.queue.clear.Goals as goal
 

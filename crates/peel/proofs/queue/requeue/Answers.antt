@@ -29,21 +29,24 @@ loop-i-preserved c =
     let v = c.loop-i.invariant in
     let x : ℤ = get_or c.args.counts.now (i * c.args.m + get_or c.args.ks.now i 0) (pos 0) in
     let fits : SFits w32 x = search rules in
-    elim c.if-counts-j-ne0.branch [ then-counts-j-ne0 w ↦
-    rw (w.queue-is, w.marks-is, w.waiting-is) (
-      omega arith,
-      rw v.1.long at w.push-waiting.ensures.ringed,
-      requeue_join v.2 c.loop-i-test.true (not_zero x (λ e. w.if-counts-j-ne0.true (bits_of_zero x e))) w.push-waiting.ensures.list,
-      λ k. w.push-waiting.ensures.above k ∙ v.3 k,
-      λ k. w.push-waiting.ensures.above_marks k ∙ v.4 k,
-    ) | else-counts-j-ne0 w ↦
-    rw (w.queue-is, w.marks-is, w.waiting-is) (
-      omega arith,
-      v.1,
-      requeue_past v.2 c.loop-i-test.true (is_zero_lem x (zero_of_bits x fits w.if-counts-j-ne0.false)),
-      v.3,
-      v.4,
-    ) ]
+    elim c.if-counts-j-ne0.branch [
+      | then-counts-j-ne0 w ↦
+          rw (w.queue-is, w.marks-is, w.waiting-is) (
+            omega arith,
+            rw v.1.long at w.push-waiting.ensures.ringed,
+            requeue_join v.2 c.loop-i-test.true (not_zero x (λ e. w.if-counts-j-ne0.true (bits_of_zero x e))) w.push-waiting.ensures.list,
+            λ k. w.push-waiting.ensures.above k ∙ v.3 k,
+            λ k. w.push-waiting.ensures.above_marks k ∙ v.4 k,
+          )
+      | else-counts-j-ne0 w ↦
+          rw (w.queue-is, w.marks-is, w.waiting-is) (
+            omega arith,
+            v.1,
+            requeue_past v.2 c.loop-i-test.true (is_zero_lem x (zero_of_bits x fits w.if-counts-j-ne0.false)),
+            v.3,
+            v.4,
+          )
+    ]
 
 pub returns : goal.returns
 returns c = let v = c.loop-i.invariant in record { list = requeue_all v.2 c.loop-i-test.false; ringed = v.1; above = v.3; above_marks = v.4 }

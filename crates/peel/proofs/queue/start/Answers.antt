@@ -1,6 +1,5 @@
 -- `peel::queue::start` meets its contract: the ring and the buckets that are still to be queued give the first queue.
 use mathlib.Core.Path.{sym, ◌∙◌}
-use Prim.Native.Nat.{◌-◌}
 use native.Mathlib.Omega.{arith}
 use lib.IntN.{ℤ, pos}
 use lib.ListN.{get_or}
@@ -36,19 +35,22 @@ loop-i-preserved c =
     let v = c.loop-i.invariant in
     let x : ℤ = get_or c.args.counts.now c.loop-i.i (pos 0) in
     let fits : SFits w32 x = search rules in
-    elim c.if-counts-i-ne0.branch [ then-counts-i-ne0 w ↦ 
-    rw (w.queue-is, w.marks-is, w.waiting-is) (
-      omega arith,
-      rw v.1.long at w.push-waiting.ensures.ringed,
-      first_join v.2 c.loop-i-test.true (not_zero x (λ e. w.if-counts-i-ne0.true (bits_of_zero x e))) w.push-waiting.ensures.list,
-      λ k. w.push-waiting.ensures.above_marks k ∙ v.3 k,
-    ) | else-counts-i-ne0 w ↦ 
-    rw (w.queue-is, w.marks-is, w.waiting-is) (
-      omega arith,
-      v.1,
-      first_past v.2 c.loop-i-test.true (is_zero_lem x (zero_of_bits x fits w.if-counts-i-ne0.false)),
-      v.3,
-    ) ]
+    elim c.if-counts-i-ne0.branch [
+      | then-counts-i-ne0 w ↦
+          rw (w.queue-is, w.marks-is, w.waiting-is) (
+            omega arith,
+            rw v.1.long at w.push-waiting.ensures.ringed,
+            first_join v.2 c.loop-i-test.true (not_zero x (λ e. w.if-counts-i-ne0.true (bits_of_zero x e))) w.push-waiting.ensures.list,
+            λ k. w.push-waiting.ensures.above_marks k ∙ v.3 k,
+          )
+      | else-counts-i-ne0 w ↦
+          rw (w.queue-is, w.marks-is, w.waiting-is) (
+            omega arith,
+            v.1,
+            first_past v.2 c.loop-i-test.true (is_zero_lem x (zero_of_bits x fits w.if-counts-i-ne0.false)),
+            v.3,
+          )
+    ]
 
 pub returns : goal.returns
 returns c =

@@ -1,5 +1,4 @@
 -- `peel::table::clear_numbers` meets its contract: zeros stand from n up to where the loop is.
-use Prim.Native.Nat.{◌-◌}
 use native.Mathlib.Omega.{arith}
 use Rattle.peel.proofs.Clearing.{clearing_none, clearing_more, clearing_all}
 use Rattle.peel.proofs.table.clear_numbers.Goals as goal

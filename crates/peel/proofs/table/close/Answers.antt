@@ -28,29 +28,32 @@ loop-i-preserved c =
     let z : ℤ = get_or c.loop-i.numbers c.loop-i.i (pos 0) in
     let fits : SFits w32 z = search rules in
     let v = c.loop-i.invariant in
-    elim c.if-c-ne0.branch [ then-c-ne0 w ↦
-    -- where it is not 0 it stands in the first slot that is free, moved or not
-    let k : Holds c.loop-i.entries (row c.loop-i.flows c.loop-i.numbers c.loop-i.i) c.loop-i.flows c.loop-i.numbers w.if-entries-i.flows w.if-entries-i.numbers =
-        elim w.if-entries-i.branch [ then-entries-i u ↦ rw (u.flows-is, u.numbers-is, to_z-of_z fits) (holds_written (omega arith) (omega arith)) | else-entries-i u ↦ rw (u.flows-is, u.numbers-is) (holds_in_place (omega arith)) ] in
-    let a : w.up-lost.result ≡ up z = rw (to_z-of_z fits) at w.up-lost.ensures in
-    let b : w.down-extra.result ≡ down z = rw (to_z-of_z fits) at w.down-extra.ensures in
-    let small : up z + down z ≤ 2147483648 = omega (arith, abs_parts z, abs_of_sfits fits) in
-    rw (w.flows-is, w.numbers-is, w.entries-is, w.lost-is, w.extra-is, a, b) (
-      omega arith,
-      omega arith,
-      k.long ∙ v.2,
-      k.long_numbers ∙ v.3,
-      omega arith,
-      closing_keep v.5 c.loop-i-test.true k v.0 (not_zero z (λ e. w.if-c-ne0.true (bits_of_zero z e))),
-    ) | else-c-ne0 w ↦
-    rw (w.flows-is, w.numbers-is, w.entries-is, w.lost-is, w.extra-is) (
-      omega arith,
-      omega arith,
-      v.2,
-      v.3,
-      v.4,
-      closing_past v.5 c.loop-i-test.true (is_zero_lem z (zero_of_bits z fits w.if-c-ne0.false)),
-    ) ]
+    elim c.if-c-ne0.branch [
+      | then-c-ne0 w ↦
+          -- where it is not 0 it stands in the first slot that is free, moved or not
+          let k : Holds c.loop-i.entries (row c.loop-i.flows c.loop-i.numbers c.loop-i.i) c.loop-i.flows c.loop-i.numbers w.if-entries-i.flows w.if-entries-i.numbers =
+          elim w.if-entries-i.branch [ then-entries-i u ↦ rw (u.flows-is, u.numbers-is, to_z-of_z fits) (holds_written (omega arith) (omega arith)) | else-entries-i u ↦ rw (u.flows-is, u.numbers-is) (holds_in_place (omega arith)) ] in
+          let a : w.up-lost.result ≡ up z = rw (to_z-of_z fits) at w.up-lost.ensures in
+          let b : w.down-extra.result ≡ down z = rw (to_z-of_z fits) at w.down-extra.ensures in
+          let small : up z + down z ≤ 2147483648 = omega (arith, abs_parts z, abs_of_sfits fits) in
+          rw (w.flows-is, w.numbers-is, w.entries-is, w.lost-is, w.extra-is, a, b) (
+            omega arith,
+            omega arith,
+            k.long ∙ v.2,
+            k.long_numbers ∙ v.3,
+            omega arith,
+            closing_keep v.5 c.loop-i-test.true k v.0 (not_zero z (λ e. w.if-c-ne0.true (bits_of_zero z e))),
+          )
+      | else-c-ne0 w ↦
+          rw (w.flows-is, w.numbers-is, w.entries-is, w.lost-is, w.extra-is) (
+            omega arith,
+            omega arith,
+            v.2,
+            v.3,
+            v.4,
+            closing_past v.5 c.loop-i-test.true (is_zero_lem z (zero_of_bits z fits w.if-c-ne0.false)),
+          )
+    ]
 
 pub returns : goal.returns
 returns c =

@@ -1,6 +1,6 @@
 -- `peel::table::credit` meets its contract: what the limits hold fits an entry's width.
 use native.Mathlib.Omega.{arith}
-use lib.IntN.{ℤ, pos, ◌+ℤ◌}
+use lib.IntN.{pos, ◌+ℤ◌}
 use lib.ListN.{get_or}
 use mir.Facts.{to_z-of_z}
 use mir.Syntax.{w32}
@@ -23,10 +23,9 @@ overflow_add-numbers c =
 
 pub returns-then-at-n : goal.returns-then-at-n
 returns-then-at-n c =
-    let fits : SFits w32 (get_or c.args.numbers.now c.args.at (pos 0)) = search rules in
-    (
+    let fits : SFits w32 (get_or c.args.numbers.now c.args.at (pos 0)) = search rules in (
       rw (to_z-of_z fits, to_z-of_z c.ranges.c, to_z-of_z (sum_fits (goal.at.returns-then-at-n c).Then-at-n))
-      (credit_old _ _ _ _ _ c.requires.finds.0 c.args.c c.if-at-n.true (omega arith) c.requires.finds.3),
+          (credit_old _ _ _ _ _ c.requires.finds.0 c.args.c c.if-at-n.true (omega arith) c.requires.finds.3),
       relinked_old,
     )
 

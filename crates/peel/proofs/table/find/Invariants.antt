@@ -1,5 +1,4 @@
 -- `peel::table::find` meets its contract: no slot that the chain has passed holds the flow, and each step goes to a lower one.
-use Prim.Native.Nat.{◌-◌}
 use lib.ListN.{length}
 use Rattle.peel.proofs.Chains.{Following}
 use Rattle.peel.proofs.table.find.Given as goal

@@ -1,5 +1,4 @@
 -- `peel::table::scan` meets its contract: no slot that the loop has passed holds the flow.
-use Prim.Native.Nat.{◌-◌}
 use native.Mathlib.Omega.{arith}
 use borrow.Author.Count.{below_more}
 use Rattle.peel.proofs.table.scan.Goals as goal

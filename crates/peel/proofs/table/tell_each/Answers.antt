@@ -1,6 +1,6 @@
 -- `peel::table::tell_each` meets its contract. The invariant: the slots passed are told, the others as they were.
 use mathlib.Core.Path.{◌≡◌, ap, ◌∙◌}
-use Prim.Native.Nat.{ℕ, ◌-◌, ◌/◌, ◌<◌}
+use Prim.Native.Nat.{ℕ, ◌/◌, ◌<◌}
 use native.Mathlib.Omega.{arith}
 use lib.ListN.{length}
 use Rattle.params.specs.Lists.{touched}

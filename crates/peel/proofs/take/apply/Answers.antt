@@ -1,6 +1,6 @@
 -- `peel::take::apply` meets its contract. The invariant: both slices are changed in the first i arrays, and `nonzero` counts what is not all zero in them.
 use mathlib.Core.Path.{◌≡◌, sym, ap, ap₂, ◌∙◌}
-use Prim.Native.Nat.{◌*◌, ◌-◌}
+use Prim.Native.Nat.{◌*◌}
 use native.Mathlib.Omega.{arith}
 use lib.IntN.{pos}
 use lib.ListN.{length, get_or}

@@ -1,6 +1,5 @@
 -- `peel::take::count_nonzero` meets its contract. The invariant: what is counted and what is still to be counted make the whole number.
-use mathlib.Core.Path.{◌≡◌}
-use Prim.Native.Nat.{◌-◌, ◌≤◌}
+use Prim.Native.Nat.{◌≤◌}
 use native.Mathlib.Nat.{zero-add}
 use native.Mathlib.Omega.{arith}
 use lib.IntN.{pos}
@@ -23,12 +22,11 @@ overflow_add-nonzero c =
 pub loop-i-preserved : goal.loop-i-preserved
 loop-i-preserved c =
     let one : c.one_if_nonzero-nonzero.result ≤ 1 = rw c.one_if_nonzero-nonzero.ensures (one_most _ _) in
-    let fits : SFits w32 (get_or c.args.counts.now c.loop-i.i (pos 0)) = search rules in
-    (
-  omega arith,
-  omega arith,
-  grind (arith, to_z-of_z, nonzero_step c.args.counts.now c.args.idsums.now c.loop-i.i (omega arith) (omega arith)),
-)
+    let fits : SFits w32 (get_or c.args.counts.now c.loop-i.i (pos 0)) = search rules in (
+      omega arith,
+      omega arith,
+      grind (arith, to_z-of_z, nonzero_step c.args.counts.now c.args.idsums.now c.loop-i.i (omega arith) (omega arith)),
+    )
 
 pub returns : goal.returns
 returns c = omega (arith, nonzero_all c.args.counts.now c.args.idsums.now c.loop-i.i (omega arith))

@@ -1,22 +1,21 @@
 -- `peel::walking::walk` meets its contract: every way through a turn of the loop is one of the definition's.
-use mathlib.Core.Path.{◌≡◌, refl, sym, ap, subst⁻¹, ◌∙◌}
+use mathlib.Core.Path.{◌≡◌, sym, ap, subst⁻¹, ◌∙◌}
 use mathlib.Core.Bool.{true}
-use Prim.Native.Nat.{ℕ, ◌+◌, ◌*◌, ◌-◌, ◌≤◌, ◌<◌}
+use Prim.Native.Nat.{ℕ, ◌+◌, ◌*◌, ◌≤◌, ◌<◌}
 use native.Mathlib.Omega.{arith}
-use lib.IntN.{ℤ, pos, ◌+ℤ◌}
+use lib.IntN.{pos, ◌+ℤ◌}
 use lib.ListN.{get_or, length}
 use mir.Syntax.{w32}
 use mir.Val.{SFits}
 use mir.Facts.{to_z-of_z}
 use borrow.Author.Count.{below_more}
 use borrow.Author.Rules.{rules}
-use borrow.Author.Tests.{not-true, not-false}
 use Rattle.buckets.specs.Buckets.{in_limits}
 use Rattle.params.specs.Positions.{Positioned}
 use Rattle.params.proofs.Rules.{positions_found, positions_long}
 use Rattle.sketch.proofs.Steps.{reached}
 use Rattle.sketch.proofs.Standing.{Within, reach}
-use Rattle.walk.specs.declared.Found.TheVariants.{Impure, Pure}
+use Rattle.walk.specs.declared.Found.TheVariants.{Pure}
 use Rattle.walk.specs.Purity.{pure_test}
 use Rattle.walk.proofs.Purity.{guarded_is_pure}
 use Rattle.peel.specs.Ring.{ring_place, Popped}
@@ -75,8 +74,7 @@ walk-preserved-in-Impure c =
     let p = popped (goal.at.walk-preserved-in-Impure c).After-pop-k in
     let fits : SFits w32 (get_or c.walk.counts c.pop-k.result (pos 0)) = search rules in
     let place : c.ring_place-head.result ≡ ring_place (c.args.p.d * c.args.p.m) c.walk.head 1 = rw c.requires.ringed.long at c.ring_place-head.ensures in
-    let t : c.test-found.result ≡ pure_test c.args.p c.pop-k.result (get_or c.walk.counts c.pop-k.result (pos 0)) (get_or c.walk.idsums c.pop-k.result 0) = rw (to_z-of_z fits) at c.test-found.ensures ∙ guarded_is_pure _ _ _ c.requires.dimensions in
-    (
+    let t : c.test-found.result ≡ pure_test c.args.p c.pop-k.result (get_or c.walk.counts c.pop-k.result (pos 0)) (get_or c.walk.idsums c.pop-k.result 0) = rw (to_z-of_z fits) at c.test-found.ensures ∙ guarded_is_pure _ _ _ c.requires.dimensions in (
       rw place (turn.impure v c.if-nonzero-eq0.false p c.if-pops-allowance.false (sym t ∙ c.in-Impure.is)),
       same_lengths c.requires (turn.popped_holds v c.if-nonzero-eq0.false p c.if-pops-allowance.false) v.long,
       c.walk.invariant.2,
