@@ -11,7 +11,7 @@ use sums::subtract;
 // Room for a line for each of ten entries and ten buckets, and for the end.
 const ROOM: usize = 21 * LINE_ROOM;
 
-fn main() {
+fn main(rt: HostRuntime) {
     // two arrays of five buckets, each with a multiplier and an offset; no fifth pair, so flows have no fingerprints
     let p = Params {
         d: 2,
@@ -46,12 +46,19 @@ fn main() {
         80,
     );
     if let Peeled::Ended(figures) = peeled {
-        print(&flows, &numbers, &counts, &idsums, figures);
+        print(&rt, &flows, &numbers, &counts, &idsums, figures);
     }
 }
 
 // The lines of a report: the table, what is left in the buckets, and how the walk ended.
-fn print(flows: &[u32], numbers: &[i32], counts: &[i32], idsums: &[u32], figures: Figures) {
+fn print(
+    rt: &impl Print,
+    flows: &[u32],
+    numbers: &[i32],
+    counts: &[i32],
+    idsums: &[u32],
+    figures: Figures,
+) {
     let mut out: [u8; ROOM] = [0; ROOM];
     let ending = figures.ending;
     let n = lines::reports::report(
@@ -67,6 +74,6 @@ fn print(flows: &[u32], numbers: &[i32], counts: &[i32], idsums: &[u32], figures
         figures.extra,
     );
     if n <= ROOM {
-        io::write_all(1, &out[0..n]);
+        let _ = rt.write_all(&out[0..n]);
     }
 }
