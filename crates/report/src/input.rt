@@ -7,6 +7,7 @@ use intake::moving::to_front;
 use intake::opening::head_settled;
 use intake::turning::turn;
 use params::Params;
+use std::io::{ErrorKind, Read};
 
 // A proved loop has to end, and nothing says that the input does. No run makes so many turns: each is a read.
 const TURNS: u64 = u64::MAX;
@@ -27,14 +28,14 @@ pub(crate) enum Taken {
 }
 
 // Reads until the bytes at hand settle the first head or the input ends, and returns how many they are.
-pub(crate) fn read_head(buf: &mut [u8]) -> Got {
+pub(crate) fn read_head<R: Read>(input: &mut R, buf: &mut [u8]) -> Got {
     let mut held = 0;
     let mut turns = TURNS;
     while turns > 0 {
         if head_settled(&buf[0..held]) {
             break;
         }
-        let got = read_on(buf, held);
+        let got = read_on(input, buf, held);
         match got {
             Got::Bytes(n) => held += n,
             Got::End => break,
@@ -47,7 +48,8 @@ pub(crate) fn read_head(buf: &mut [u8]) -> Got {
 
 // Takes the records of both streams. The first head, which is judged already, stands first in buf with more bytes of the input
 // behind it, `got` in all.
-pub(crate) fn take(
+pub(crate) fn take<R: Read>(
+    input: &mut R,
     p: Params,
     up_counts: &mut [i32],
     up_idsums: &mut [u32],
@@ -76,7 +78,7 @@ pub(crate) fn take(
             break;
         }
         let left = turned.held;
-        let more = read_on(buf, left);
+        let more = read_on(input, buf, left);
         match more {
             Got::Bytes(n) => held = left + n,
             Got::End => break,
@@ -98,28 +100,27 @@ fn is_refused(s: State) -> bool {
 
 // One read, behind the bytes that are held, which stay as they are. There is always room for it, save where 64 bits do not hold the offsets any
 // more and nothing is taken; then nothing more is read.
-fn read_on(buf: &mut [u8], held: usize) -> Got
+fn read_on<R: Read>(input: &mut R, buf: &mut [u8], held: usize) -> Got
     ensures { ReadOn buf.old held result buf.new }
 {
     if buf.len() <= held {
         return Got::Failed;
     }
-    read_into(&mut buf[held..])
+    read_into(input, &mut buf[held..])
 }
 
 // One read. One that a signal interrupted gives no bytes, and is neither a failure nor the end.
-fn read_into(part: &mut [u8]) -> Got
+fn read_into<R: Read>(input: &mut R, part: &mut [u8]) -> Got
     ensures { came result ≤ length part.new }
 {
-    let got = libc::read(libc::STDIN_FILENO, part);
-    if got < 0 {
-        if os::errno() == libc::EINTR {
-            return Got::Bytes(0);
+    match input.read(part) {
+        Ok(0) => Got::End,
+        Ok(n) => Got::Bytes(n),
+        Err(e) => {
+            if e.kind() == ErrorKind::Interrupted {
+                return Got::Bytes(0);
+            }
+            Got::Failed
         }
-        return Got::Failed;
     }
-    if got == 0 {
-        return Got::End;
-    }
-    Got::Bytes(io::count(got, part))
 }

@@ -18,16 +18,20 @@ use settle::settling::settle;
 // As many buckets as a report takes; a head with more is refused.
 const MOST: usize = desk::heads::MOST_BUCKETS;
 
-fn main() {
-    let mut buf = io::large_buffer();
-    open(&mut buf);
+// So many bytes of the input are held at most.
+const BUFFER_BYTES: usize = 65536;
+
+fn main(rt: HostRuntime) {
+    let mut buf = [0u8; BUFFER_BYTES];
+    open(&rt, &mut buf);
 }
 
 // Reads the first head and judges it.
-fn open(buf: &mut [u8]) {
-    let first = input::read_head(buf);
+fn open(rt: &HostRuntime, buf: &mut [u8]) {
+    let mut input = rt.stdin();
+    let first = input::read_head(&mut input, buf);
     let Got::Bytes(got) = first else {
-        output::cannot_read();
+        output::cannot_read(rt);
         return;
     };
     if buf.len() < got {
@@ -37,13 +41,13 @@ fn open(buf: &mut [u8]) {
     let answer = headed.answer;
     let p = headed.params;
     match answer {
-        Answer::Refused(refusal, at) => output::refusal(refusal, at),
-        Answer::Done => two_sketches(p, buf, got),
+        Answer::Refused(refusal, at) => output::refusal(rt, refusal, at),
+        Answer::Done => two_sketches(rt, p, buf, got),
     }
 }
 
 // Room for the sketches of both streams. The head stands first in buf, which holds `got` bytes of the input.
-fn two_sketches(p: Params, buf: &mut [u8], got: usize) {
+fn two_sketches(rt: &HostRuntime, p: Params, buf: &mut [u8], got: usize) {
     let mut up_counts: [i32; MOST] = [0; MOST];
     let mut up_idsums: [u32; MOST] = [0; MOST];
     let mut down_counts: [i32; MOST] = [0; MOST];
@@ -53,6 +57,7 @@ fn two_sketches(p: Params, buf: &mut [u8], got: usize) {
         return;
     }
     compare(
+        rt,
         p,
         &mut up_counts[0..size],
         &mut up_idsums[0..size],
@@ -65,6 +70,7 @@ fn two_sketches(p: Params, buf: &mut [u8], got: usize) {
 
 // Fills both sketches, and reports their difference where the input is not refused.
 fn compare(
+    rt: &HostRuntime,
     p: Params,
     up_counts: &mut [i32],
     up_idsums: &mut [u32],
@@ -73,20 +79,31 @@ fn compare(
     buf: &mut [u8],
     got: usize,
 ) {
-    let taken = input::take(p, up_counts, up_idsums, down_counts, down_idsums, buf, got);
+    let mut input = rt.stdin();
+    let taken = input::take(
+        &mut input,
+        p,
+        up_counts,
+        up_idsums,
+        down_counts,
+        down_idsums,
+        buf,
+        got,
+    );
     let Taken::All(s) = taken else {
-        output::cannot_read();
+        output::cannot_read(rt);
         return;
     };
     let answer = finish(s);
     match answer {
-        Answer::Refused(refusal, at) => output::refusal(refusal, at),
-        Answer::Done => a_table(p, up_counts, up_idsums, down_counts, down_idsums),
+        Answer::Refused(refusal, at) => output::refusal(rt, refusal, at),
+        Answer::Done => a_table(rt, p, up_counts, up_idsums, down_counts, down_idsums),
     }
 }
 
 // Room for the table and for what the walk needs.
 fn a_table(
+    rt: &HostRuntime,
     p: Params,
     up_counts: &mut [i32],
     up_idsums: &mut [u32],
@@ -102,6 +119,7 @@ fn a_table(
         return;
     }
     print(
+        rt,
         p,
         up_counts,
         up_idsums,
@@ -116,6 +134,7 @@ fn a_table(
 
 // Subtracts, peels, and prints what came out.
 fn print(
+    rt: &HostRuntime,
     p: Params,
     up_counts: &mut [i32],
     up_idsums: &mut [u32],
@@ -139,7 +158,7 @@ fn print(
     );
     match settled {
         // no input leads here: the sketches hold no damage, and their difference does not leave the range
-        Peeled::Refused(refusal, _) => output::refusal(refusal, 0),
-        Peeled::Ended(figures) => output::report(flows, numbers, up_counts, up_idsums, figures),
+        Peeled::Refused(refusal, _) => output::refusal(rt, refusal, 0),
+        Peeled::Ended(figures) => output::report(rt, flows, numbers, up_counts, up_idsums, figures),
     }
 }
