@@ -6,8 +6,6 @@ use mathlib.Core.List.{List, [], ◌∷◌}
 use Prim.Native.Nat.{ℕ, ◌<◌}
 use native.Mathlib.Omega.{arith}
 use borrow.Author.Tests.{lt-leb}
-use types.Run.{OneOf, miss}
-use denote.Enum.Declared.{tag_of}
 use lib.Dec.{eqb, leb}
 use lib.ListN.{length, get_or}
 use Rattle.params.specs.declared.params.Params.{Params}
@@ -17,7 +15,6 @@ use Rattle.files.specs.Bytes.{word}
 use Rattle.files.specs.Records.{record_at, is_kind, is_head, head_kind, extended_head_kind, packets_kind, end_kind, head_kind_in}
 use Rattle.files.specs.Layout.{end_at}
 use Rattle.files.specs.Fields.{records_field}
-use Rattle.files.specs.contracts.fields.End.{the_type as end_type}
 use Rattle.files.proofs.Standing.{kind_stands, head_kinds, head_inside}
 use Rattle.files.proofs.Bodies.{end_fields}
 use Rattle.files.proofs.EndStages.{end_found}
@@ -27,21 +24,20 @@ use Rattle.desk.specs.declared.states.State.{State}
 use Rattle.desk.specs.declared.stages.Due.{Due}
 use Rattle.desk.specs.declared.stages.Due.TheVariants.{Here, NotYet, Other}
 use Rattle.desk.specs.Desk.{packets_due, head_due, nothing_due, due_of, due_end, due_head, end_state, end_stage, head_state, head_stage}
-use Rattle.desk.specs.contracts.states.Stage.{the_type}
 
 -- another stage than the one that a `let .. else` asks for
-pub not_head : (g : Stage) → OneOf (0 ∷ 2 ∷ 3 ∷ 4 ∷ []) (tag_of the_type g) → head_due g ≡ false
+pub not_head : (g : Stage) → (g ≡ DownstreamHead → ⊥) → head_due g ≡ false
 not_head UpstreamPackets h = refl
-not_head DownstreamHead h = absurd (miss (0 ∷ 2 ∷ 3 ∷ 4 ∷ []) 1 tt h)
+not_head DownstreamHead h = absurd (h refl)
 not_head DownstreamPackets h = refl
 not_head Nothing h = refl
 not_head (Stopped w) h = refl
 
-pub not_nothing : (g : Stage) → OneOf (0 ∷ 1 ∷ 2 ∷ 4 ∷ []) (tag_of the_type g) → nothing_due g ≡ false
+pub not_nothing : (g : Stage) → (g ≡ Nothing → ⊥) → nothing_due g ≡ false
 not_nothing UpstreamPackets h = refl
 not_nothing DownstreamHead h = refl
 not_nothing DownstreamPackets h = refl
-not_nothing Nothing h = absurd (miss (0 ∷ 1 ∷ 2 ∷ 4 ∷ []) 3 tt h)
+not_nothing Nothing h = absurd (h refl)
 not_nothing (Stopped w) h = refl
 
 -- a record that was found to be there is whole
@@ -97,8 +93,8 @@ head_here bs e = due_here (head_kind_in bs) bs (head_inside bs 0 e) (⊎_elim pl
 pub end_said : (bs : List ℕ) (n : ℕ) → is_kind end_kind (record_at bs 0) ≡ true → end_at bs 0 ≡ EndOf n → n ≡ word bs records_field
 end_said bs n w e = (end_found bs 0 refl e).1
 
-pub end_not_said : (bs : List ℕ) {r : End} → is_kind end_kind (record_at bs 0) ≡ true → r ≡ end_at bs 0 → OneOf (1 ∷ []) (tag_of end_type r) → ⊥
-end_not_said bs {r} w e h = let said : r ≡ EndOf (word bs records_field) = rw w at (e ∙ end_fields bs 0) in miss (1 ∷ []) 0 tt (rw said at h)
+pub end_not_said : (bs : List ℕ) {r : End} → is_kind end_kind (record_at bs 0) ≡ true → r ≡ end_at bs 0 → ((n : ℕ) → r ≡ EndOf n → ⊥) → ⊥
+end_not_said bs {r} w e h = h _ (rw w at (e ∙ end_fields bs 0))
 
 -- where packets, or a head, are due, what stands there decides
 pub end_decides : (bs : List ℕ) (s t : State) (d : Due) → packets_due s.stage ≡ true → d ≡ due_end bs → t ≡ end_state d bs s → t ≡ end_stage bs s

@@ -6,14 +6,11 @@ use mathlib.Core.List.{List, [], ◌∷◌}
 use Prim.Native.Nat.{ℕ, ◌+◌, ◌-◌, ◌≤◌, ◌<◌}
 use native.Mathlib.Omega.{arith}
 use borrow.Author.Tests.{leb-false, eqb-true, le-leb}
-use types.Run.{OneOf, miss}
-use denote.Enum.Declared.{tag_of}
 use lib.Dec.{eqb, leb}
 use lib.ListN.{get_or, length}
 use Rattle.files.specs.declared.records.Record.{Record}
 use Rattle.files.specs.declared.records.Record.TheVariants.{Whole, Cut, Unknown, Missing}
 use Rattle.files.specs.Records.{body_length, record_length, head_length_in, record_at, is_kind, is_head, body_of, body_start, head_kind, extended_head_kind}
-use Rattle.files.specs.contracts.records.Record.{the_type}
 
 -- a whole record: its kind, and that it ends within the file
 pub record Stands (bs : List ℕ) (at k next : ℕ) : Type 0 where
@@ -45,11 +42,11 @@ stands_whole bs at k next = go (leb (length bs) at) (eqb (body_length (get_or bs
 
 -- any record but a whole one, as a `let .. else` has it
 abbrev pub NotWhole : Record → Type 0
-NotWhole r = OneOf (1 ∷ 2 ∷ 3 ∷ []) (tag_of the_type r)
+NotWhole r = (k next : ℕ) → r ≡ Whole k next → ⊥
 
 pub not_whole : (r : Record) (at : ℕ) (bs : List ℕ) → NotWhole r → ((k : ℕ) → is_kind k r ≡ false) × (body_of r at bs ≡ []) × (body_start r at ≡ 0)
 unfolding body_of body_start
-not_whole (Whole k next) at bs h = absurd (miss (1 ∷ 2 ∷ 3 ∷ []) 0 tt h)
+not_whole (Whole k next) at bs h = absurd (h k next refl)
 not_whole Cut at bs h = ((λ k. refl), refl, refl)
 not_whole Unknown at bs h = ((λ k. refl), refl, refl)
 not_whole Missing at bs h = ((λ k. refl), refl, refl)

@@ -14,7 +14,7 @@ use Rattle.field.proofs.Casts.{back}
 use Rattle.params.specs.Lists.{below}
 use Rattle.sketch.specs.Sketch.{sketch}
 use Rattle.sums.proofs.all_small.Goals as goal
-use Rattle.sums.proofs.all_small.Goals.{After-is_small-in-loop-i, Joined-not-is_small, Joined-not-is_small-2}
+use Rattle.sums.proofs.all_small.Goals.{After-is_small-in-loop-i, Joined-not-is_small, Joined-not-is_small-2, else-not-is_small, else-not-is_small-2, then-not-is_small, then-not-is_small-2}
 use Rattle.sums.proofs.all_small.Invariants.{both}
 
 -- a count before and after a test: it grows where the test fails, by 1, so that it is 0 as long as each test held
@@ -34,10 +34,10 @@ counted-both t i a b c q r e h k here = k.1 ∙ ap (λ (x : Bool). x && r) h.1 �
 
 -- the count before and after each of a turn's tests
 first_counted : (c : Joined-not-is_small) → Counted c.loop-i.large c.if-not-is_small.large c.is_small.result
-first_counted c = ⊎_elim (λ w. failed _ _ _ w.0.taken w.1) (λ w. held _ _ _ w.0.left w.1) c.if-not-is_small.branch
+first_counted c = elim c.if-not-is_small.branch [ then-not-is_small w ↦ failed _ _ _ w.if-not-is_small.true-raw w.large-is | else-not-is_small w ↦ held _ _ _ w.if-not-is_small.false-raw w.large-is ]
 
 second-counted : (c : Joined-not-is_small-2) → Counted c.if-not-is_small.large c.if-not-is_small-2.large c.is_small-in-loop-i.result
-second-counted c = ⊎_elim (λ w. failed _ _ _ w.0.taken w.2) (λ w. held _ _ _ w.0.left w.1) c.if-not-is_small-2.branch
+second-counted c = elim c.if-not-is_small-2.branch [ then-not-is_small-2 w ↦ failed _ _ _ w.if-not-is_small-2.true-raw w.large-is | else-not-is_small-2 w ↦ held _ _ _ w.if-not-is_small-2.false-raw w.large-is ]
 
 -- the buckets that a turn looked at
 judged : (c : After-is_small-in-loop-i) → let a = c.args in

@@ -6,7 +6,7 @@ use Rattle.desk.proofs.stages.head_stage.Goals as goal
 
 pub returns-in_default : goal.returns-in_default
 unfolding head_stage
-returns-in_default c = rw (not_head c.args.s.stage c.in_default.in_default-own.keys2)
+returns-in_default c = rw (not_head c.args.s.stage c.in_default.not-DownstreamHead)
 
 pub take_head-requires : goal.take_head-requires
 take_head-requires c = (head_whole _ (sym c.due_head-d.ensures ∙ c.in-Here.is), c.requires)

@@ -8,7 +8,7 @@ use Rattle.desk.proofs.stages.nothing_stage.Goals as goal
 
 pub returns-in_default : goal.returns-in_default
 unfolding nothing_stage
-returns-in_default c = rw (not_nothing c.args.s.stage c.in_default.in_default-own.keys2)
+returns-in_default c = rw (not_nothing c.args.s.stage c.in_default.not-Nothing)
 
 pub returns-then-bytes-gt0 : goal.returns-then-bytes-gt0
 unfolding nothing_stage

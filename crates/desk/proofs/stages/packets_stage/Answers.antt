@@ -33,4 +33,4 @@ unfolding packets_stage packets_sketch packets_state
 returns c =
     let run = c.take_packets-run.ensures in
     let due = test_held c.is_due.ensures c.if-not-is_due.false-raw in
-    record { value = rw (due, c.stage_after.ensures, run.0); idsums_after = rw due run.1 }
+    record { value = rw (due, c.stage_after.ensures, run.value); idsums_after = rw due run.idsums_after }

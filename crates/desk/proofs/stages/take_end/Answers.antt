@@ -12,7 +12,7 @@ use Rattle.desk.proofs.stages.take_end.Goals as goal
 use Rattle.desk.proofs.stages.take_end.Goals.{In-Of}
 
 pub returns-in_default : goal.returns-in_default
-returns-in_default c = absurd (end_not_said _ c.requires.0 c.end_at-found.ensures c.in_default.in_default-own.keys2)
+returns-in_default c = absurd (end_not_said _ c.requires.0 c.end_at-found.ensures c.in_default.not-Of)
 
 -- the number that the end says
 said : (c : In-Of) → c.in-Of.number ≡ word c.args.bytes.now records_field

@@ -19,12 +19,12 @@ loop-flow-init c = (refl, refl, refl, gone_none _ 0 _ _)
 
 -- packets stand next
 there : (c : In-Of)
-    → There c.args.bytes.now (packet_from 0 c.loop-flow.true) c.in-Of.flow c.in-Of.number
+    → There c.args.bytes.now (packet_from 0 c.loop-flow.taken) c.in-Of.flow c.in-Of.number
 there c = packets_there _ _ _ _ (sym (c.packets_at-found.ensures ∙ ap (packets_at _) c.loop-flow.invariant.0) ∙ c.in-Of.is)
 
 -- none do
 none : (c : In_default)
-    → is_kind packets_kind (record_at c.args.bytes.now (packet_from 0 c.loop-flow.true)) ≡ false
+    → is_kind packets_kind (record_at c.args.bytes.now (packet_from 0 c.loop-flow.taken)) ≡ false
 none c = packets_not_there _ _ _ (c.packets_at-found.ensures ∙ ap (packets_at _) c.loop-flow.invariant.0) c.in_default.in_default-own.keys2
 
 pub shape_of-counts-in_default-answer : goal.shape_of-counts-in_default-answer
@@ -69,4 +69,6 @@ pub shape_of-idsums : goal.shape_of-idsums
 shape_of-idsums c = c.loop-flow.invariant.2
 
 pub returns : goal.returns
-returns c = run_ended _ _ _ _ _ c.loop-flow.invariant.3 (none (goal.at.returns c).In_default)
+returns c =
+    let r = run_ended _ _ _ _ _ c.loop-flow.invariant.3 (none (goal.at.returns c).In_default) in
+    record { value = r.0; idsums_after = r.1 }

@@ -7,4 +7,4 @@ pub returns-in_default : goal.returns-in_default
 returns-in_default c = (c.return_answer.ensures.0, c.return_answer.ensures.1, kept_old _ _ _ c.in_default.in_default-own.keys2)
 
 pub returns : goal.returns
-returns c = (c.return_answer-2.ensures.0, c.return_answer-2.ensures.1, c.Numbers-of.ensures ∙ kept_new _ _ _ c.in-Done.is)
+returns c = (c.return_answer-2.ensures.0, c.return_answer-2.ensures.1, c.numbers_of.ensures ∙ kept_new _ _ _ c.in-Done.is)

@@ -11,7 +11,7 @@ pub returns-in_default : goal.returns-in_default
 returns-in_default c =
     let a = c.args in
     let e = c.record_at-found.ensures in
-    let n = not_whole c.record_at-found.result a.at a.bytes.now c.in_default.in_default-own.keys2 in
+    let n = not_whole c.record_at-found.result a.at a.bytes.now c.in_default.not-Whole in
     record { content = rw (← e) (sym n.1); block = refl; offset = rw (← e, n.2) (sym (add-zero _)) }
 
 -- the record is whole

@@ -19,5 +19,5 @@ returns c =
     record {
       content = b.content ∙ body_there _ _ _ e ∙ sym (kind_body _ _ _ e);
       block = b.block;
-      offset = rw e (b.offset ∙ ap (λ (n : ℕ). a.bytes.ptr.1 + n) (body_starts _ _ _ e));
+      offset = rw e (b.offset ∙ ap (λ (n : ℕ). a.bytes.ref_ptr.1 + n) (body_starts _ _ _ e));
     }

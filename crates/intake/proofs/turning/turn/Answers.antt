@@ -10,8 +10,8 @@ returns c =
     {P = a.p}
     {bs = a.buf.now}
     {end = c.smaller-end.result}
-    {up = sketch a.up-counts.now a.up-idsums.now}
-    {down = sketch a.down-counts.now a.down-idsums.now}
+    {up = sketch a.up_counts.now a.up_idsums.now}
+    {down = sketch a.down_counts.now a.down_idsums.now}
     {s = a.s}
     {r = c.feed-fed.result}
     c.smaller-end.ensures

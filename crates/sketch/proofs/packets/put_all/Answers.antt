@@ -90,8 +90,8 @@ loop-i-preserved c =
     let small = r.inside l.i h in
     let z = c.put.ensures in (
       omega arith,
-      turn_next (pos 0) c.args.m (λ j. get_or c.args.ks.now j 0) l.i _ c.args.counts.now _ r.m_low (omega arith) small l.invariant.1 _ z.0,
-      turn_next 0 c.args.m (λ j. get_or c.args.ks.now j 0) l.i _ c.args.idsums.now _ r.m_low (omega arith) small l.invariant.2 _ z.1,
+      turn_next (pos 0) c.args.m (λ j. get_or c.args.ks.now j 0) l.i _ c.args.counts.now _ r.m_low (omega arith) small l.invariant.1 _ z.counts_after,
+      turn_next 0 c.args.m (λ j. get_or c.args.ks.now j 0) l.i _ c.args.idsums.now _ r.m_low (omega arith) small l.invariant.2 _ z.idsums_after,
     )
 
 pub shape_of-counts : goal.shape_of-counts

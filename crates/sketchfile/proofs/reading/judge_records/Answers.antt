@@ -25,7 +25,7 @@ judged : (c : After-judge_bucket-r)
 judged c =
     let bucket : Found c.args.bytes.now c.loop-index.n c.loop-index.at c.in-Of.index c.in-Of.c c.in-Of.s = found_bucket c.loop-index.invariant.0 c.bucket_at-found.ensures c.in-Of.is in
     let l = c.loop-index in
-    as_judged _ l.invariant.0 (bucket) l.invariant.1 (back w32 _ c.known_told-1.given.1.0.1) c.judge_bucket-r.ensures
+    as_judged _ l.invariant.0 (bucket) l.invariant.1 (back w32 _ c.in-Of.known_told-1-own.given.1.0.1) c.judge_bucket-r.ensures
 
 pub returns-in_default-r : goal.returns-in_default-r
 returns-in_default-r c =

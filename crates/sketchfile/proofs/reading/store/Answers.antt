@@ -34,9 +34,9 @@ loop-index-preserved c =
     let l = c.loop-index in
     let f = bucket (goal.at.loop-index-preserved c).In-Of in
     let set_both = c.set_bucket.ensures in (
-      ap length set_both.0 ∙ length-set l.counts _ _ ∙ l.invariant.0,
-      ap length set_both.1 ∙ length-set l.idsums _ _ ∙ l.invariant.1,
-      record { passed = _; reader = f.next; so_far = ap₂ sketch set_both.0 set_both.1 ∙ next_stored f _ l.invariant.2.so_far (back w32 _ c.known_told-1.given.1.0.1) },
+      ap length set_both.counts_after ∙ length-set l.counts _ _ ∙ l.invariant.0,
+      ap length set_both.idsums_after ∙ length-set l.idsums _ _ ∙ l.invariant.1,
+      record { passed = _; reader = f.next; so_far = ap₂ sketch set_both.counts_after set_both.idsums_after ∙ next_stored f _ l.invariant.2.so_far (back w32 _ c.in-Of.known_told-1-own.given.1.0.1) },
     )
 
 pub shape_of-counts : goal.shape_of-counts

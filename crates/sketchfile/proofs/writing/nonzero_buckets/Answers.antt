@@ -14,7 +14,7 @@ use Rattle.files.specs.Layout.{bucket_bytes}
 use Rattle.sketchfile.specs.Writing.{zero_at, nonzero_from}
 use Rattle.sketchfile.proofs.Written.{left_few, buckets_long, all_left, none_left, zero_next, nonzero_next}
 use Rattle.sketchfile.proofs.writing.nonzero_buckets.Goals as goal
-use Rattle.sketchfile.proofs.writing.nonzero_buckets.Goals.{After-all_zero}
+use Rattle.sketchfile.proofs.writing.nonzero_buckets.Goals.{After-all_zero, else-not-all_zero, then-not-all_zero}
 
 -- the bucket that a turn looks at
 tested : (c : After-all_zero) → c.all_zero.result ≡ zero_at (sketch c.args.counts.now c.args.idsums.now) c.loop-k.k
@@ -35,11 +35,8 @@ loop-k-preserved c =
     let n = length a.counts.now in
     let h = c.loop-k-test.true in (
       search rules,
-      ⊎_elim (λ w. omega (arith, w.1)) (λ w. omega (arith, w.1)) c.if-not-all_zero.branch,
-      ⊎_elim
-          (λ w. omega (arith, w.1, ap length (nonzero_next S n l.k h (sym (tested (goal.at.loop-k-preserved c).After-all_zero) ∙ not-true _ w.0.taken))))
-          (λ w. omega (arith, w.1, ap length (zero_next S n l.k h (sym (tested (goal.at.loop-k-preserved c).After-all_zero) ∙ not-false _ w.0.left))))
-          c.if-not-all_zero.branch,
+      elim c.if-not-all_zero.branch [ then-not-all_zero w ↦ omega (arith, w.n-is) | else-not-all_zero w ↦ omega (arith, w.n-is) ],
+      elim c.if-not-all_zero.branch [ then-not-all_zero w ↦ omega (arith, w.n-is, ap length (nonzero_next S n l.k h (sym (tested (goal.at.loop-k-preserved c).After-all_zero) ∙ not-true _ w.if-not-all_zero.true-raw))) | else-not-all_zero w ↦ omega (arith, w.n-is, ap length (zero_next S n l.k h (sym (tested (goal.at.loop-k-preserved c).After-all_zero) ∙ not-false _ w.if-not-all_zero.false-raw))) ],
     )
 
 pub returns : goal.returns

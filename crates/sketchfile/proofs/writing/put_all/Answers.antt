@@ -1,6 +1,6 @@
 -- `sketchfile::writing::put_all` meets its contract. The invariant: the records that are left, written from `at` on, give what is asked for.
 use mathlib.Core.Path.{◌≡◌, refl, sym, ap, ◌∙◌}
-use mathlib.Core.Logic.{⊎_elim}
+use mathlib.Core.Bool.{true, not}
 use mathlib.Core.List.{◌++◌}
 use Prim.Native.Nat.{◌+◌, ◌-◌, ◌≤◌}
 use native.Mathlib.Omega.{arith}
@@ -18,26 +18,24 @@ use Rattle.files.proofs.Overwriting.{overwritten_none, length_written, written_n
 use Rattle.sketchfile.specs.Writing.{zero_at, buckets_bytes}
 use Rattle.sketchfile.proofs.Written.{buckets_long, all_left, none_left, zero_next, nonzero_next}
 use Rattle.sketchfile.proofs.writing.put_all.Goals as goal
-use Rattle.sketchfile.proofs.writing.put_all.Goals.{After-all_zero, Then-not-all_zero}
+use Rattle.sketchfile.proofs.writing.put_all.Goals.{After-all_zero, else-not-all_zero, then-not-all_zero}
 
 -- the bucket that a turn looks at
 tested : (c : After-all_zero) → c.all_zero.result ≡ zero_at (sketch c.args.counts.now c.args.idsums.now) c.loop-k.k
 tested c = rw (back w32 _ c.all_zero-arg-1.given) at c.all_zero.ensures
 
 -- one that has a record, and the room for it
-nonzero-here : (c : Then-not-all_zero) → let a = c.args in
+nonzero-here : (c : After-all_zero) → not c.all_zero.result ≡ true → let a = c.args in
     let S = sketch a.counts.now a.idsums.now in
     let k = c.loop-k.k in
     buckets_bytes k (length a.counts.now - k) S ≡ bucket_bytes k (count_in S k) (idsum_in S k) ++ buckets_bytes (k + 1) (length a.counts.now - (k + 1)) S
-nonzero-here c =
-    let tested : c.all_zero.result ≡ zero_at (sketch c.args.counts.now c.args.idsums.now) c.loop-k.k = rw (back w32 _ c.all_zero-arg-1.given) at c.all_zero.ensures in
-    nonzero_next _ _ _ c.loop-k-test.true (sym (tested) ∙ not-true _ c.if-not-all_zero.true-raw)
+nonzero-here c h = nonzero_next _ _ _ c.loop-k-test.true (sym (tested c) ∙ not-true _ h)
 
-room : (c : Then-not-all_zero) → c.loop-k.at + bucket_length ≤ length c.loop-k.out
+room : (c : After-all_zero) → not c.all_zero.result ≡ true → c.loop-k.at + bucket_length ≤ length c.loop-k.out
 unfolding bucket_bytes word_bytes
-room c =
+room c h =
     let a = c.args in
-    omega (arith, ap length (nonzero-here c), buckets_long (sketch a.counts.now a.idsums.now) 0 (length a.counts.now))
+    omega (arith, ap length (nonzero-here c h), buckets_long (sketch a.counts.now a.idsums.now) 0 (length a.counts.now))
 
 pub loop-k-init : goal.loop-k-init
 loop-k-init c =
@@ -55,7 +53,7 @@ pub bounds-idsums-k-then-not-all_zero : goal.bounds-idsums-k-then-not-all_zero
 bounds-idsums-k-then-not-all_zero c = omega arith
 
 pub overflow_add-at : goal.overflow_add-at
-overflow_add-at c = omega (arith, room (goal.at.overflow_add-at c).Then-not-all_zero)
+overflow_add-at c = omega (arith, room (goal.at.overflow_add-at c).After-all_zero c.if-not-all_zero.true-raw)
 
 pub loop-k-preserved : goal.loop-k-preserved
 unfolding bucket_bytes word_bytes
@@ -63,23 +61,24 @@ loop-k-preserved c =
     let l = c.loop-k in
     let a = c.args in
     let S = sketch a.counts.now a.idsums.now in
-    ⊎_elim
-    (λ w.
-    let t : tie.Then1 invariant-loop decreases-loop = record { before = c; if1 = w.0 } in
-    let put : c.if-not-all_zero.out ≡ written l.out l.at (bucket_bytes l.k (count_in S l.k) (idsum_in S l.k)) = w.7 ∙ rw (back w32 _ w.2.given) at w.4.ensures in (
-      search rules,
-      ap length put ∙ length_written _ _ _ ∙ l.invariant.1,
-      omega (arith, w.8, ap length (nonzero-here t)),
-      written_next _ _ _ _ _ _ (ap (overwritten l.out l.at) (sym (nonzero-here t)) ∙ l.invariant.3) put (room t) w.8,
-    ))
-    (λ w.
-    let next = zero_next S (length a.counts.now) l.k c.loop-k-test.true (sym (tested (goal.at.loop-k-preserved c).After-all_zero) ∙ not-false _ w.0.left) in (
-      search rules,
-      ap length w.1 ∙ l.invariant.1,
-      omega (arith, w.2, ap length next),
-      rw (w.1, w.2) (ap (overwritten l.out l.at) (sym next) ∙ l.invariant.3),
-    ))
-    c.if-not-all_zero.branch
+    let b = (goal.at.loop-k-preserved c).After-all_zero in
+    elim c.if-not-all_zero.branch [
+      | then-not-all_zero w ↦
+          let h = w.if-not-all_zero.true-raw in
+          let put : c.if-not-all_zero.out ≡ written l.out l.at (bucket_bytes l.k (count_in S l.k) (idsum_in S l.k)) = w.out-is ∙ rw (back w32 _ w.put_bucket-arg-then-not-all_zero-1.given) at w.put_bucket.ensures in (
+            search rules,
+            ap length put ∙ length_written _ _ _ ∙ l.invariant.1,
+            omega (arith, w.at-is, ap length (nonzero-here b h)),
+            written_next _ _ _ _ _ _ (ap (overwritten l.out l.at) (sym (nonzero-here b h)) ∙ l.invariant.3) put (room b h) w.at-is,
+          )
+      | else-not-all_zero w ↦
+          let next = zero_next S (length a.counts.now) l.k c.loop-k-test.true (sym (tested b) ∙ not-false _ w.if-not-all_zero.false-raw) in (
+            search rules,
+            ap length w.out-is ∙ l.invariant.1,
+            omega (arith, w.at-is, ap length next),
+            rw (w.out-is, w.at-is) (ap (overwritten l.out l.at) (sym next) ∙ l.invariant.3),
+          )
+    ]
 
 pub returns : goal.returns
 returns c =

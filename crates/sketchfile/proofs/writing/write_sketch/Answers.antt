@@ -38,13 +38,13 @@ returns-in-Done c =
     let S = sketch a.counts.now a.idsums.now in
     let h = passed (goal.at.returns-in-Done c).In-Done in
     let records = c.put_all-at in
-    let end : records.result ≡ first.result + bucket_length * nonzero_from 0 (size a.p) S = rw h.0.counts at records.ensures.0 in
+    let end : records.result ≡ first.result + bucket_length * nonzero_from 0 (size a.p) S = rw h.0.counts at records.ensures.value in
     let count : (records.result - first.result) / bucket_length ≡ nonzero_from 0 (size a.p) S = omega arith in
     let judged = c.judge-r.ensures in
     let written =
     overwritten_file a.p a.out.now (buckets_bytes 0 (size a.p) S) (nonzero_from 0 (size a.p) S) first.result records.result h.0.good first.ensures (omega (arith, buckets_long S 0 (size a.p))) (omega (arith, h.0.counts, h.1, first.ensures))
     c.put_head.ensures
-    (rw h.0.counts at records.ensures.1)
+    (rw h.0.counts at records.ensures.out_after)
     (rw count at c.put_end.ensures) in
     record {
       answer = returned_length judged _ _ c.in-Done.is (omega (arith, sketch_long a.p S, first.ensures));
