@@ -1,6 +1,6 @@
 /* gabunlitik.h: packet loss measured with Fermat sketches, for C.
  *
- * Link target/staticlib/libface.a, which `rt staticlib face` proves and writes for x86-64 Linux. examples/lost.c is a first program.
+ * Link target/staticlib/libface.a, which `./archive` proves and writes for Linux on x86-64-v2 and later. examples/lost.c is a first program.
  *
  * What every call promises
  *

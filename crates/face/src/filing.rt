@@ -11,20 +11,14 @@ use streamfile::reading::read_stream;
 use streamfile::writing::write_stream;
 
 // Writes the parameters in the head of a file, all 0 where it is refused; what stands after the head is not looked at.
-#[unsafe(no_mangle)]
-pub extern "C" fn gabunlitik_read_head(
-    bytes: &[u8],
-    params: &mut [u32; 14],
-    place: &mut usize,
-) -> u32
+pub fn gabunlitik_read_head(bytes: &[u8], params: &mut [u32; 14], place: &mut usize) -> u32
     ensures { HeadReadFor bytes.now result place.new params.new }
 {
     return_params(head(bytes), params, place)
 }
 
 // Inserts the packets of a stream file.
-#[unsafe(no_mangle)]
-pub extern "C" fn gabunlitik_read_stream(
+pub fn gabunlitik_read_stream(
     params: &[u32; 14],
     counts: &mut [i32],
     idsums: &mut [u32],
@@ -38,8 +32,7 @@ pub extern "C" fn gabunlitik_read_stream(
 }
 
 // Writes the stream file of these flows, each by its number.
-#[unsafe(no_mangle)]
-pub extern "C" fn gabunlitik_write_stream(
+pub fn gabunlitik_write_stream(
     params: &[u32; 14],
     flows: &[u32],
     numbers: &[u32],
@@ -54,8 +47,7 @@ pub extern "C" fn gabunlitik_write_stream(
 }
 
 // Reads a sketch file in place of the lent sketch's content.
-#[unsafe(no_mangle)]
-pub extern "C" fn gabunlitik_read_sketch(
+pub fn gabunlitik_read_sketch(
     params: &[u32; 14],
     counts: &mut [i32],
     idsums: &mut [u32],
@@ -69,8 +61,7 @@ pub extern "C" fn gabunlitik_read_sketch(
 }
 
 // Writes the file of a sketch.
-#[unsafe(no_mangle)]
-pub extern "C" fn gabunlitik_write_sketch(
+pub fn gabunlitik_write_sketch(
     params: &[u32; 14],
     counts: &[i32],
     idsums: &[u32],

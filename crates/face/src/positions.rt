@@ -5,8 +5,7 @@ ghost use Rattle.face.specs.Calls.{PositionFor, IndexFor};
 use crate::returned::{params_of, return_located, wide};
 
 // The position of a flow in an array, 0 where it is refused; arrays count from 1.
-#[unsafe(no_mangle)]
-pub extern "C" fn gabunlitik_position(
+pub fn gabunlitik_position(
     params: &[u32; 14],
     array: u32,
     flow: u32,
@@ -21,8 +20,7 @@ pub extern "C" fn gabunlitik_position(
 }
 
 // The index of the flow's bucket there, likewise.
-#[unsafe(no_mangle)]
-pub extern "C" fn gabunlitik_index(
+pub fn gabunlitik_index(
     params: &[u32; 14],
     array: u32,
     flow: u32,

@@ -10,8 +10,7 @@ use sketch::packets::{fresh, insert, insert_all, withdraw};
 use sums::{add, subtract};
 
 // Zeros everywhere, whatever was there.
-#[unsafe(no_mangle)]
-pub extern "C" fn gabunlitik_fresh(
+pub fn gabunlitik_fresh(
     params: &[u32; 14],
     counts: &mut [i32],
     idsums: &mut [u32],
@@ -24,8 +23,7 @@ pub extern "C" fn gabunlitik_fresh(
 }
 
 // Puts `number` packets of a flow in.
-#[unsafe(no_mangle)]
-pub extern "C" fn gabunlitik_insert(
+pub fn gabunlitik_insert(
     params: &[u32; 14],
     counts: &mut [i32],
     idsums: &mut [u32],
@@ -40,8 +38,7 @@ pub extern "C" fn gabunlitik_insert(
 }
 
 // Takes `number` packets of a flow out again.
-#[unsafe(no_mangle)]
-pub extern "C" fn gabunlitik_withdraw(
+pub fn gabunlitik_withdraw(
     params: &[u32; 14],
     counts: &mut [i32],
     idsums: &mut [u32],
@@ -56,8 +53,7 @@ pub extern "C" fn gabunlitik_withdraw(
 }
 
 // Puts many packets in, each flow by its number, or none of them.
-#[unsafe(no_mangle)]
-pub extern "C" fn gabunlitik_insert_all(
+pub fn gabunlitik_insert_all(
     params: &[u32; 14],
     counts: &mut [i32],
     idsums: &mut [u32],
@@ -72,8 +68,7 @@ pub extern "C" fn gabunlitik_insert_all(
 }
 
 // Adds the other sketch to the first, bucket by bucket.
-#[unsafe(no_mangle)]
-pub extern "C" fn gabunlitik_add(
+pub fn gabunlitik_add(
     params: &[u32; 14],
     other_params: &[u32; 14],
     counts: &mut [i32],
@@ -91,8 +86,7 @@ pub extern "C" fn gabunlitik_add(
 }
 
 // Takes the other sketch from the first, bucket by bucket.
-#[unsafe(no_mangle)]
-pub extern "C" fn gabunlitik_subtract(
+pub fn gabunlitik_subtract(
     params: &[u32; 14],
     other_params: &[u32; 14],
     counts: &mut [i32],
@@ -110,8 +104,7 @@ pub extern "C" fn gabunlitik_subtract(
 }
 
 // Folds a sketch to m2 buckets an array, and writes its parameters, all 0 where it is refused.
-#[unsafe(no_mangle)]
-pub extern "C" fn gabunlitik_fold(
+pub fn gabunlitik_fold(
     params: &[u32; 14],
     counts: &mut [i32],
     idsums: &mut [u32],

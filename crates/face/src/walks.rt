@@ -7,8 +7,7 @@ use crate::returned::{params_of, return_peeled};
 use peel::peeling::peel;
 
 // Peels a sketch into a table and returns in `figures` the ending's number, the entries, the packets lost, those extra and the pops, in this order.
-#[unsafe(no_mangle)]
-pub extern "C" fn gabunlitik_peel(
+pub fn gabunlitik_peel(
     params: &[u32; 14],
     counts: &mut [i32],
     idsums: &mut [u32],
