@@ -1,6 +1,6 @@
 -- Laws of two sketches' difference: it is not refused where the counts differ within the limits, and so not where no count is below 0.
 use mathlib.Core.Path.{◌≡◌, ap, ◌∙◌}
-use mathlib.Core.Bool.{true, not}
+use mathlib.Core.Bool.{true, false, not}
 use mathlib.Core.Logic.{◌⊎◌, inl, inr}
 use Prim.Native.Nat.{ℕ, ◌<◌, ◌≤◌}
 use native.Mathlib.Omega.{arith}
@@ -33,6 +33,12 @@ less_within x y h k l m = le-leb (nat_abs (x -ℤ y)) 2147483646 (small (one_par
         omega (int, abs_parts (x -ℤ y), up_down_add x (neg_ℤ y), up_neg y, down_neg y, abs_parts y, limits_size y m)
     small (inr e) =
         omega (int, abs_parts (x -ℤ y), up_down_add x (neg_ℤ y), up_neg y, down_neg y, abs_parts x, limits_size x l)
+
+-- so where the counts of both sketches are 0 or more, none leaves its limits
+pub never_range : (S T : Sketch) (k : ℕ) → pos 0 ≤ℤ count_in S k → pos 0 ≤ℤ count_in T k → in_limits (count_in S k) ≡ true → in_limits (count_in T k) ≡ true
+    → leaves true S.counts T.counts k ≡ false
+unfolding leaves
+never_range S T k h j l m = ap not (less_within (count_in S k) (count_in T k) h j l m)
 
 -- with the right lengths nothing is refused of them
 both_lent_good : (P : Params) (c s e t : ℕ) → good_params P ≡ true → c ≡ size P → s ≡ size P → e ≡ size P → t ≡ size P → both_lent_answer P P c s e t ≡ Done

@@ -13,7 +13,7 @@ lent : (c : In-Done) → let a = c.args in
 lent c = sym c.judge_walk_lent-r.ensures ∙ c.in-Done.is
 
 pub returns-in_default : goal.returns-in_default
-returns-in_default c = ill_lengths _ _ _ _ _ _ _ c.judge_walk_lent-r.ensures c.in_default.in_default-own.keys2
+returns-in_default c = ill_lengths _ _ _ _ _ _ _ c.judge_walk_lent-r.ensures (rw c.in_default.is)
 
 pub returns-then-x-counts : goal.returns-then-x-counts
 returns-then-x-counts c = one_damaged _ _ _ _ _ _ _ (lent (goal.at.returns-then-x-counts c).In-Done) c.first_damaged-x.ensures c.if-x-counts.true

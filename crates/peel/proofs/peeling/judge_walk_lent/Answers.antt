@@ -30,7 +30,7 @@ passed c =
     }
 
 pub returns-in_default : goal.returns-in_default
-returns-in_default c = sketch_refused _ _ _ _ _ _ _ _ c.judge_lent-r.ensures c.in_default.in_default-own.keys2
+returns-in_default c = sketch_refused _ _ _ _ _ _ _ _ c.judge_lent-r.ensures (rw c.in_default.is)
 
 pub returns-then-queue-counts : goal.returns-then-queue-counts
 returns-then-queue-counts c = ill_lent _ _ _ _ _ _ _ (sketch-lent (goal.at.returns-then-queue-counts c).In-Done) (λ l. c.if-queue-counts.true (l.queue_long ∙ sym (long (goal.at.returns-then-queue-counts c).In-Done)))

@@ -9,12 +9,6 @@ use Rattle.walk.specs.Shown.{tell}
 use Rattle.peel.proofs.Telling.{told_long, told_table, told_past}
 use Rattle.peel.proofs.peeling.unravel.Goals as goal
 
-pub tell-requires : goal.tell-requires
-tell-requires c =
-    let l = c.close-listed.ensures in
-    let w = c.walk_whole-walked in
-    omega (arith, l.within, l.long, w.ensures.room, w.auto.flows)
-
 pub returns : goal.returns
 returns c =
     let w = c.walk_whole-walked in

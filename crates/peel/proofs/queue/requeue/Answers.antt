@@ -8,7 +8,6 @@ use mir.Syntax.{w32}
 use mir.Val.{SFits}
 use borrow.Author.Rules.{rules}
 use Rattle.field.proofs.Casts.{zero_of_bits, bits_of_zero}
-use Rattle.sketch.proofs.Standing.{reach}
 use Rattle.buckets.proofs.Zeros.{is_zero_lem, not_zero}
 use Rattle.peel.proofs.Queues.{requeue_none, requeue_past, requeue_join, requeue_all}
 use Rattle.peel.proofs.queue.requeue.Goals as goal
@@ -16,12 +15,6 @@ use Rattle.peel.proofs.queue.requeue.Goals.{else-counts-j-ne0, then-counts-j-ne0
 
 pub loop-i-init : goal.loop-i-init
 loop-i-init c = (omega arith, c.requires.1, requeue_none, λ k. refl, λ k. refl)
-
-pub push-waiting-requires : goal.push-waiting-requires
-push-waiting-requires c =
-    let v = c.loop-i.invariant in
-    let w = reach c.loop-i.i c.requires.0 c.loop-i-test.true in
-    rw v.1.long (v.1, w.bucket, w.size)
 
 pub loop-i-preserved : goal.loop-i-preserved
 loop-i-preserved c =

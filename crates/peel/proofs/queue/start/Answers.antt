@@ -24,12 +24,6 @@ loop-i-init c =
       λ k. omega (arith, m.zeros k (omega arith)),
     )
 
-pub push-waiting-requires : goal.push-waiting-requires
-push-waiting-requires c =
-    let h = c.requires in
-    let v = c.loop-i.invariant in
-    rw v.1.long (v.1, c.loop-i-test.true, omega (arith, h.0, h.3))
-
 pub loop-i-preserved : goal.loop-i-preserved
 loop-i-preserved c =
     let v = c.loop-i.invariant in

@@ -1,5 +1,5 @@
 -- `peel::take::apply` meets its contract. The invariant: both slices are changed in the first i arrays, and `nonzero` counts what is not all zero in them.
-use mathlib.Core.Path.{◌≡◌, sym, ap, ap₂, ◌∙◌}
+use mathlib.Core.Path.{◌≡◌, ap, ap₂, ◌∙◌}
 use Prim.Native.Nat.{◌*◌}
 use native.Mathlib.Omega.{arith}
 use lib.IntN.{pos}
@@ -27,18 +27,6 @@ within c = reach c.loop-i.i c.requires.within_arrays.0 c.loop-i-test.true
 
 pub loop-i-init : goal.loop-i-init
 loop-i-init c = (search rules, turns_start (pos 0) _ _ _ _, turns_start 0 _ _ _ _, c.requires.within_arrays.1)
-
-pub overflow_mul-j : goal.overflow_mul-j
-overflow_mul-j c = omega (arith, within (goal.at.overflow_mul-j c).In-loop-i)
-
-pub offset_bounds-ks-i : goal.offset_bounds-ks-i
-offset_bounds-ks-i c = omega (arith, (within (goal.at.offset_bounds-ks-i c).In-loop-i).few)
-
-pub bounds-ks-i : goal.bounds-ks-i
-bounds-ks-i c = (within (goal.at.bounds-ks-i c).In-loop-i).few
-
-pub overflow_add-j : goal.overflow_add-j
-overflow_add-j c = omega (arith, within (goal.at.overflow_add-j c).In-loop-i)
 
 pub take_one-nonzero-requires : goal.take_one-nonzero-requires
 take_one-nonzero-requires c =
@@ -68,12 +56,6 @@ loop-i-preserved c =
       bucket_next 0 c.args.m (λ j. get_or c.args.ks.now j 0) l.i _ c.args.idsums.now _ r.m_low (r.inside l.i h) (omega (arith, w.bucket, r.idsums_long)) l.invariant.2 _ t.idsums,
       t.counted,
     )
-
-pub shape_of-counts : goal.shape_of-counts
-shape_of-counts c = (lens (goal.at.shape_of-counts c).At-loop-i).0 ∙ sym c.requires.within_arrays.0.counts_long
-
-pub shape_of-idsums : goal.shape_of-idsums
-shape_of-idsums c = (lens (goal.at.shape_of-idsums c).At-loop-i).1 ∙ sym c.requires.within_arrays.0.idsums_long
 
 pub returns : goal.returns
 unfolding changed_in

@@ -1,6 +1,5 @@
 -- `peel::take::count_nonzero` meets its contract. The invariant: what is counted and what is still to be counted make the whole number.
 use Prim.Native.Nat.{◌≤◌}
-use native.Mathlib.Nat.{zero-add}
 use native.Mathlib.Omega.{arith}
 use lib.IntN.{pos}
 use lib.ListN.{get_or}
@@ -10,9 +9,6 @@ use borrow.Author.Rules.{rules}
 use Rattle.std.proofs.lemmas.Int.{to_z-of_z}
 use Rattle.peel.proofs.Nonzero.{one_most, nonzero_step, nonzero_all}
 use Rattle.peel.proofs.take.count_nonzero.Goals as goal
-
-pub loop-i-init : goal.loop-i-init
-loop-i-init c = (omega arith, omega arith, zero-add _)
 
 pub overflow_add-nonzero : goal.overflow_add-nonzero
 overflow_add-nonzero c =

@@ -1,8 +1,6 @@
 -- `peel::take::take_flow` meets its contract: the buckets, the table and the queue, each as the definition of a take says.
 use mathlib.Core.Path.{◌∙◌}
-use Prim.Native.Nat.{◌<◌}
 use native.Mathlib.Omega.{arith}
-use lib.ListN.{length}
 use mir.Facts.{to_z-of_z}
 use Rattle.params.proofs.Rules.{dimensions_small}
 use Rattle.sketch.proofs.Steps.{reached}
@@ -13,13 +11,7 @@ use Rattle.peel.proofs.Chains.{key_below}
 use Rattle.peel.proofs.Rings.{ring_kept}
 use Rattle.peel.proofs.Taken.{took}
 use Rattle.peel.proofs.take.take_flow.Goals as goal
-use Rattle.peel.proofs.take.take_flow.Goals.{After-apply-still_nonzero, After-credit-listed, Start}
-
--- f's chain has a mark
-chain-below : (b : Start) → b.args.chain < length b.args.marks.now
-chain-below b =
-    let h = b.requires.holds in
-    omega (arith, b.requires.keyed, key_below b.args.f h.dimensions, h.ringed.long_marks)
+use Rattle.peel.proofs.take.take_flow.Goals.{After-apply-still_nonzero, After-credit-listed}
 
 -- what the calls left
 applied : (c : After-apply-still_nonzero) → Applied c.args.p.d c.args.p.m c.args.ks.now c.args.c c.args.s c.args.counts.now c.args.idsums.now c.apply-still_nonzero.new.counts c.apply-still_nonzero.new.idsums c.apply-still_nonzero.result
@@ -31,24 +23,18 @@ credited c = rw (to_z-of_z c.ranges.c) at c.credit-listed.ensures.0
 relinked : (c : After-credit-listed) → Relinked c.args.f c.args.chain c.args.flows.now c.args.queue.now c.args.marks.now c.args.entries c.credit-listed.new.flows c.credit-listed.new.queue c.credit-listed.new.marks c.credit-listed.result
 relinked c = c.credit-listed.ensures.1
 
-pub apply-still_nonzero-requires : goal.apply-still_nonzero-requires
-apply-still_nonzero-requires c =
-    let t = c.requires in
-    let h = t.holds in
-    rw (to_z-of_z c.ranges.c) record { within_arrays = (reached h.dimensions h.sane.long h.sane.long_ids t.positions, h.counted); by_index = t.fits; by_index_2 = (λ i e. h.sane.idsums _, t.small) }
+pub apply-still_nonzero-requires-clause-within_arrays : goal.apply-still_nonzero-requires-clause-within_arrays
+apply-still_nonzero-requires-clause-within_arrays c =
+    let h = c.requires.holds in
+    (reached h.dimensions h.sane.long h.sane.long_ids c.requires.positions, h.counted)
 
-pub credit-listed-requires : goal.credit-listed-requires
-credit-listed-requires c =
-    let t = c.requires in
-    let h = t.holds in
-    rw (to_z-of_z c.ranges.c) record {
-      finds = (t.finds, h.slots, t.slot, h.room, t.entry);
-      queue_len_bound = (
-        rw h.ringed.long (dimensions_small h.dimensions),
-        chain-below (goal.at.credit-listed-requires c).Start,
-        omega (arith, (h.chained.newest c.args.chain).within),
-      );
-    }
+pub credit-listed-requires-clause-queue_len_bound : goal.credit-listed-requires-clause-queue_len_bound
+credit-listed-requires-clause-queue_len_bound c =
+    let h = c.requires.holds in (
+      rw h.ringed.long (dimensions_small h.dimensions),
+      omega (arith, c.requires.keyed, key_below c.args.f h.dimensions, h.ringed.long_marks),
+      omega (arith, (h.chained.newest c.args.chain).within),
+    )
 
 pub requeue-queued-requires : goal.requeue-queued-requires
 requeue-queued-requires c =

@@ -18,6 +18,7 @@ use Rattle.sketch.proofs.Standing.{Within, reach}
 use Rattle.walk.specs.declared.Found.TheVariants.{Pure}
 use Rattle.walk.specs.Purity.{pure_test}
 use Rattle.walk.proofs.Purity.{guarded_is_pure}
+use Rattle.peel.specs.Slices.{slices}
 use Rattle.peel.specs.Ring.{ring_place, Popped}
 use Rattle.peel.specs.Chains.{chain_key}
 use Rattle.peel.specs.Rep.{fits_at}
@@ -118,11 +119,12 @@ walk-preserved c =
     let g = goal.at.walk-preserved c in
     let v = c.walk.invariant.0 in
     let n = c.take_flow-taken.auto.flows in
+    let l = c.take_flow-taken.new in
     let fits : SFits w32 (get_or c.walk.counts c.pop-k.result (pos 0)) = search rules in
     let place : c.ring_place-head.result ≡ ring_place (c.args.p.d * c.args.p.m) c.walk.head 1 = rw c.requires.ringed.long at c.ring_place-head.ensures in
     let t = rw (place, to_z-of_z fits) at c.take_flow-taken.ensures in (
-      rw place (turn.took v c.if-nonzero-eq0.false (popped g.After-pop-k) c.if-pops-allowance.false (pure_is g.At-loop-i) (positioned g.At-loop-i) (all_fit g.After-loop-i) c.find-at.ensures (entry g.Joined-at-entries) (free g.Joined-at-entries) n t),
-      same_lengths c.requires t.holds (n ∙ v.long),
+      rw place (turn.took v c.if-nonzero-eq0.false (popped g.After-pop-k) c.if-pops-allowance.false (pure_is g.At-loop-i) (positioned g.At-loop-i) (all_fit g.After-loop-i) c.find-at.ensures (entry g.Joined-at-entries) (free g.Joined-at-entries) {L' = slices l.counts l.idsums l.flows l.numbers l.queue l.marks} n t),
+      same_lengths {L' = slices l.counts l.idsums l.flows l.numbers l.queue l.marks} c.requires t.holds (n ∙ v.long),
       ap length c.positions.ensures ∙ positions_long _ _ _ ∙ c.walk.invariant.2,
     )
 
