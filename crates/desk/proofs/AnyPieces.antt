@@ -43,7 +43,7 @@ module _ {P : Params} {s : State} {up down : Sketch} where
       let near-both : offsets_fit (ws ++ x) s ≡ true = fewer_near (ws ++ x) (joined xs) s all in
       let next : Feeds P (drop r.used ws ++ x) up₁ down₁ r.state r₂ up₂ down₂ = rw (← left, ← now) one in
       let after = ap (λ bs. drop r₂.used (bs ++ x)) left ∙ left_of_both ws x r.used r₂.used (used_within (fewer_near ws x s near-both) fed) in
-      rw (← append_assoc ws x (joined xs)) (in_turn_lem all after refl (pieces x near-both fed next) more)
+      rw (← append_assoc ws x (joined xs)) (in_turn_lem {ws = ws ++ x} all after refl (pieces x near-both fed next) more)
 
   -- a first piece, and the others behind what it leaves
   pub any_pieces : (x : List ℕ) (xs : List (List ℕ)) {r : Fed} {t : State} {up₁ down₁ up' down' : Sketch} → offsets_fit (x ++ joined xs) s ≡ true → Feeds P x up down s r up₁ down₁
