@@ -30,7 +30,7 @@ pub(crate) struct Run {
 // Takes the packet records that stand first, up to one that is refused.
 fn take_packets(p: Params, counts: &mut [i32], idsums: &mut [u32], bytes: &[u8]) -> Run
     ensures value { result ≡ record { taken = «TakenOf» p bytes.now (sketch counts.old idsums.old); answer = taken_answer p bytes.now (sketch counts.old idsums.old) } }
-    ensures idsums_after { sketch counts.new idsums.new ≡ after_taken p bytes.now (sketch counts.old idsums.old) }
+    ensures sketch_after { sketch counts.new idsums.new ≡ after_taken p bytes.now (sketch counts.old idsums.old) }
 {
     let mut at = 0;
     let mut taken = 0;
@@ -112,7 +112,7 @@ pub(crate) fn packets_stage(
 ) -> State
     requires { offsets_fit bytes.now s ≡ true }
     ensures value { result ≡ packets_stage downstream p bytes.now (sketch counts.old idsums.old) s }
-    ensures idsums_after { sketch counts.new idsums.new ≡ packets_sketch downstream p bytes.now (sketch counts.old idsums.old) s }
+    ensures sketch_after { sketch counts.new idsums.new ≡ packets_sketch downstream p bytes.now (sketch counts.old idsums.old) s }
 {
     let stage = s.stage;
     if !is_due(downstream, stage) {

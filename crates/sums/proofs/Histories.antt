@@ -19,7 +19,7 @@ use Rattle.sketch.specs.Packets.{changed, after, entries_of}
 use Rattle.fold.specs.Fold.{front, Folded, folded_to}
 use Rattle.fold.proofs.AtTheCall.{fold_of_list}
 use Rattle.sums.specs.Sums.{combine_answer, combined, Combined}
-use Rattle.sums.specs.History.{History, freshly, inserting, stepping, of_flow_zero_lem, inserting_all, withdrawing, adding, subtracting, folding, negated, signed, net_count}
+use Rattle.sums.specs.History.{History, freshly, inserting, stepping, of_flow_zero, inserting_all, withdrawing, adding, subtracting, folding, negated, signed, net_count}
 use Rattle.params.proofs.Judging.{first_done}
 use Rattle.sums.proofs.TwoSketches.{both_lent_done}
 use Rattle.sketch.proofs.Tables.{replicate_from, touched_from}
@@ -108,7 +108,7 @@ unfolding kept
 history (freshly h) = h.after ∙ zeros_are _
 history (inserting h i) = i.after ∙ ap (changed _ false _ _) (history h) ∙ changed_entry _ false _ _ _
 history (stepping h i) = i.after ∙ ap (changed _ _ _ _) (history h) ∙ changed_entry _ _ _ _ _
-history (of_flow_zero_lem minus n h e) = e ∙ ap (changed _ _ _ _) (history h) ∙ changed_entry _ _ _ _ _
+history (of_flow_zero minus n h e) = e ∙ ap (changed _ _ _ _) (history h) ∙ changed_entry _ _ _ _ _
 history (inserting_all h i) = i.after_all ∙ ap (after _ _ _) (history h) ∙ after_entries _ _ _ _
 history (withdrawing h i) = i.after ∙ ap (changed _ true _ _) (history h) ∙ changed_entry _ true _ _ _
 history (adding h g i) = combined_shared false _ _ (history h) (history g) i ∙ sym (joined _ _ _)

@@ -30,7 +30,7 @@ pub data History : Params → List Entry → Sketch → Type 0 where
   inserting : {P : Params} {es : List Entry} {S S' : Sketch} {f n : ℕ} → History P es S → Inserted P f n S Done S' → History P (es ++ (by f (pos n) ∷ [])) S'
   stepping : {P : Params} {es : List Entry} {S S' : Sketch} {minus : Bool} {f n : ℕ} → History P es S → Stepped minus P f n S Done S'
       → History P (es ++ (by f (signed minus (pos n)) ∷ [])) S'
-  of_flow_zero_lem : {P : Params} {es : List Entry} {S S' : Sketch} (minus : Bool) (n : ℕ) → History P es S → S' ≡ changed P minus 0 n S
+  of_flow_zero : {P : Params} {es : List Entry} {S S' : Sketch} (minus : Bool) (n : ℕ) → History P es S → S' ≡ changed P minus 0 n S
       → History P (es ++ (by 0 (signed minus (pos n)) ∷ [])) S'
   inserting_all : {P : Params} {es : List Entry} {S S' : Sketch} {fs ns : List ℕ} → History P es S → AllInserted P fs ns S Done S' → History P (es ++ entries_of fs ns) S'
   withdrawing : {P : Params} {es : List Entry} {S S' : Sketch} {f n : ℕ} → History P es S → Withdrawn P f n S Done S' → History P (es ++ (by f (neg_ℤ (pos n)) ∷ [])) S'

@@ -136,6 +136,6 @@ returns c =
     record {
       state = rw reach (came-to-all (goal.at.returns c).After-nothing_stage-fed).same;
       used = refl;
-      upstream = rw reach c.packets_stage-upstream_taken.ensures.idsums_after;
-      downstream = rw reach (then_sketch (came-to-downstream-headed (goal.at.returns c).After-head_stage-headed) _ _ _ c.packets_stage-downstream_taken.ensures.idsums_after);
+      upstream = rw reach c.packets_stage-upstream_taken.ensures.sketch_after;
+      downstream = rw reach (then_sketch (came-to-downstream-headed (goal.at.returns c).After-head_stage-headed) _ _ _ c.packets_stage-downstream_taken.ensures.sketch_after);
     }

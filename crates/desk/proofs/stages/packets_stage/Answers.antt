@@ -13,7 +13,7 @@ use Rattle.desk.proofs.stages.packets_stage.Goals.{After-take_packets-run}
 
 pub returns-then-not-is_due : goal.returns-then-not-is_due
 unfolding packets_stage packets_sketch
-returns-then-not-is_due c = let e = test_failed c.is_due.ensures c.if-not-is_due.true-raw in record { value = rw e; idsums_after = rw e }
+returns-then-not-is_due c = let e = test_failed c.is_due.ensures c.if-not-is_due.true-raw in record { value = rw e; sketch_after = rw e }
 
 -- the packets that were taken lie within the bytes
 within : (c : After-take_packets-run) → packets_length * c.take_packets-run.result.taken ≤ length c.args.bytes.now
@@ -33,4 +33,4 @@ unfolding packets_stage packets_sketch packets_state
 returns c =
     let run = c.take_packets-run.ensures in
     let due = test_held c.is_due.ensures c.if-not-is_due.false-raw in
-    record { value = rw (due, c.stage_after.ensures, run.value); idsums_after = rw due run.idsums_after }
+    record { value = rw (due, c.stage_after.ensures, run.value); sketch_after = rw due run.sketch_after }

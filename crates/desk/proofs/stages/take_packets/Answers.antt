@@ -39,7 +39,7 @@ returns-in_default-answer c =
     let z = c.put_in-answer.ensures in
     let refused = c.in_default-answer.in_default-answer-own.keys2 in
     let r = run_refused _ _ _ _ _ l.invariant.3 _ _ (there (goal.at.returns-in_default-answer c).In-Of) _ z.answer refused in
-    record { value = r.0; idsums_after = z.after ∙ sym (kept_old _ _ _ refused) ∙ r.1 }
+    record { value = r.0; sketch_after = z.after ∙ sym (kept_old _ _ _ refused) ∙ r.1 }
 
 pub overflow_add-at : goal.overflow_add-at
 overflow_add-at c = let l = c.loop-flow in omega (arith, l.invariant.0, next_ends _ 0 _ _ _ _ l.invariant.3 _ _ (there (goal.at.overflow_add-at c).In-Of))
@@ -71,4 +71,4 @@ shape_of-idsums c = c.loop-flow.invariant.2
 pub returns : goal.returns
 returns c =
     let r = run_ended _ _ _ _ _ c.loop-flow.invariant.3 (none (goal.at.returns c).In_default) in
-    record { value = r.0; idsums_after = r.1 }
+    record { value = r.0; sketch_after = r.1 }
