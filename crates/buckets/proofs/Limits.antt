@@ -15,15 +15,6 @@ use Rattle.params.specs.Params.{prime}
 use Rattle.buckets.specs.Buckets.{in_limits, is_number, damaged, is_small, plus_minus}
 use Rattle.params.proofs.Searches.{and_true}
 
--- the code's two comparisons, with a bound and its opposite, are one of the number's size
-pub size_above : (n : ℕ) (z : ℤ) → le_z (negsuc n) z ≡ true → le_z z (pos (suc n)) ≡ leb (nat_abs z) (suc n)
-size_above n (pos k) e = refl
-size_above n (negsuc k) e = sym (le-leb (suc k) (suc n) (omega (arith, leb-true k n e)))
-
-pub size_below : (n : ℕ) (z : ℤ) → le_z (negsuc n) z ≡ false → le_z (negsuc n) z ≡ leb (nat_abs z) (suc n)
-size_below n (pos k) e = cc
-size_below n (negsuc k) e = e ∙ sym (lt-leb (suc k) (suc n) (omega (arith, leb-false k n e)))
-
 -- a number within the limits fits a count
 pub limits_size : (z : ℤ) → in_limits z ≡ true → nat_abs z ≤ 2147483646
 unfolding in_limits

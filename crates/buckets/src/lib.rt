@@ -13,27 +13,21 @@ use params::PRIME;
 pub fn within(z: i64) -> bool
     ensures { result ≡ in_limits z }
 {
-    -2147483646 <= z && z <= 2147483646
+    z.unsigned_abs() <= 2147483646
 }
 
 // Whether a number is one of packets.
 pub fn is_number(n: u32) -> bool
     ensures { result ≡ is_number n }
 {
-    if n < 1 {
-        return false;
-    }
-    n <= 2147483646
+    1 <= n && n <= 2147483646
 }
 
 // Whether a bucket lies within its limits.
 pub fn undamaged(c: i32, s: u32) -> bool
     ensures { result ≡ (in_limits c && ltb s prime) }
 {
-    if !within(c as i64) {
-        return false;
-    }
-    s < PRIME
+    within(c as i64) && s < PRIME
 }
 
 // Whether a bucket's idsum is below the prime and its count so small that the sum and the difference with another such count are within
@@ -41,20 +35,14 @@ pub fn undamaged(c: i32, s: u32) -> bool
 pub fn is_small(c: i32, s: u32) -> bool
     ensures { result ≡ is_small c s }
 {
-    if PRIME <= s {
-        return false;
-    }
-    -1000000000 <= c && c <= 1000000000
+    s < PRIME && c.unsigned_abs() <= 1000000000
 }
 
 // Whether a bucket is all zero.
 pub fn all_zero(c: i32, s: u32) -> bool
     ensures { result ≡ all_zero c s }
 {
-    if c != 0 {
-        return false;
-    }
-    s == 0
+    c == 0 && s == 0
 }
 
 // The lowest index of a bucket outside its limits, or the number of buckets; 0 for slices of different lengths.
@@ -64,14 +52,12 @@ pub fn first_damaged(counts: &[i32], idsums: &[u32]) -> usize
     if counts.len() != idsums.len() {
         return 0;
     }
-    let mut i = 0;
-    while i < counts.len() {
+    for i in 0..counts.len() {
         if !undamaged(counts[i], idsums[i]) {
             return i;
         }
-        i += 1;
     }
-    i
+    counts.len()
 }
 
 // The sum or the difference of two counts, at a width that holds it.
@@ -92,12 +78,12 @@ pub fn idsum_plus_minus(minus: bool, s: u32, t: u32) -> u32
 {
     if minus {
         if s < t {
-            ((s as u64 + PRIME as u64 + 4294967296 - t as u64) % 4294967296) as u32
+            s.wrapping_add(PRIME).wrapping_sub(t)
         } else {
             s - t
         }
     } else {
-        let sum = ((s as u64 + t as u64) % 4294967296) as u32;
+        let sum = s.wrapping_add(t);
         if sum < PRIME { sum } else { sum - PRIME }
     }
 }

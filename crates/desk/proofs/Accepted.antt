@@ -9,9 +9,7 @@ use lib.ListN.{length, take, drop, length-take, length-drop, take-append-drop}
 use lib.Seq.{length-take-le, get_or-take, get_or-drop, drop-drop}
 use Rattle.params.specs.declared.params.Params.{Params}
 use Rattle.params.specs.declared.answers.Refusal.TheVariants.{Param}
-use Rattle.params.specs.declared.answers.Answer.{Answer}
-use Rattle.params.specs.declared.answers.Answer.TheVariants.{Done, Refused}
-use Rattle.params.specs.Answers.{kept}
+use Rattle.params.specs.Answers.{Answer, Done}
 use Rattle.params.specs.Params.{good_params, same_params}
 use Rattle.sketch.specs.Sketch.{Sketch, zeros}
 use Rattle.params.proofs.SameParams.{same_itself}
@@ -30,13 +28,14 @@ use Rattle.desk.specs.declared.states.Stage.{Stage}
 use Rattle.desk.specs.declared.states.Stage.TheVariants.{UpstreamPackets, DownstreamHead, DownstreamPackets, Nothing, Refused as Stopped}
 use Rattle.desk.specs.declared.states.Fed.{Fed}
 use Rattle.desk.specs.Desk.{nothing_due, few_enough, due_head, begin_answer, begin_of, started, taken, taken_answer, after_taken, packets_sketch, offsets_fit, lent_both, Feeds, finish_answer}
-use Rattle.desk.proofs.HeadAnswers.{second_good, second_same, second_length}
+use Rattle.desk.proofs.HeadAnswers.{done_given, second_good, second_same, second_length}
 use Rattle.desk.proofs.MoreBytes.{not_yet, head_least, head_long, params_more, good_more, no_head_more}
 use Rattle.desk.proofs.InTheRest.{whole_at, word_at}
 use Rattle.desk.proofs.Taking.{all_taken}
 use Rattle.desk.proofs.SameBytes.{fed_is_read}
 use Rattle.desk.proofs.Lending.{fed_taken, fed_turned_down, fresh_lent}
 use Rattle.desk.proofs.BothStreams.{upstream_number, downstream_file, downstream_body, downstream_number, Passed, passed}
+use Rattle.std.specs.Prelude.{Err, Ok}
 
 -- a first part of the input that holds the head has the same head
 module _ (xs : List ℕ) (e : ℕ) (whole : is_head (record_at xs 0) ≡ true) (long : head_length_in xs ≤ e) where
@@ -74,12 +73,12 @@ pub record Begun (P : Params) (input : List ℕ) : Type 0 where
   pub good : good_head input ≡ true
   pub params : P ≡ params_in input
 
-pub begun : (P : Params) (input : List ℕ) → begin_of input ≡ record { answer = Done; params = P } → Begun P input
-unfolding begin_answer kept
+pub begun : (P : Params) (input : List ℕ) → begin_of input ≡ Ok P → Begun P input
+unfolding begin_answer
 begun P input e =
-    let done : begin_answer input ≡ Done = ap (λ h. h.answer) e in
-    let h = head_accepted input (first_done _ _ done).0 in
-    record { head = h.0; good = h.1; params = sym (ap (λ h. h.params) e) ∙ rw done }
+    let h = done_given (begin_answer input) _ _ (sym e) in
+    let k = head_accepted input (first_done _ _ h.0).0 in
+    record { head = k.0; good = k.1; params = h.1 }
 
 module _ (P : Params) (input : List ℕ) (b : Begun P input) where
   pub good_params_lem : good_params P ≡ true
@@ -168,11 +167,11 @@ finished_nothing DownstreamHead at e = cc
 finished_nothing DownstreamPackets at e = cc
 
 -- the desk takes few enough buckets alone
-pub few_begun : (P : Params) (input : List ℕ) → begin_of input ≡ record { answer = Done; params = P } → few_enough P ≡ true
+pub few_begun : (P : Params) (input : List ℕ) → begin_of input ≡ Ok P → few_enough P ≡ true
 unfolding begin_answer
 few_begun P input e =
-    let done : begin_answer input ≡ Done = ap (λ h. h.answer) e in
-    rw (begun P input e).params (not-false _ (refuse_done (not (few_enough (params_in input))) Param 0 Done (first_done (head_answer input) _ done).1).0)
+    let h = done_given (begin_answer input) _ _ (sym e) in
+    rw h.1 (not-false _ (refuse_done (not (few_enough (params_in input))) Param 0 Done (first_done (head_answer input) _ h.0).1).0)
 
 -- and an input is accepted only where 64 bits hold its offsets
 pub near_done : {P : Params} {bs : List ℕ} {r : Fed} {up down up' down' : Sketch} → Feeds P bs up down (started P) r up' down' → finish_answer r.state.stage r.state.at ≡ Done
@@ -183,14 +182,14 @@ near_done {P} {bs} {r} {up} {down} fed done = lent (lent_both P up down) refl
     nothing = finished_nothing r.state.stage r.state.at done
 
     lent : (a : Answer) → lent_both P up down ≡ a → offsets_fit bs (started P) ≡ true
-    lent (Refused w k) e = absurd (true≢false (sym (ap nothing_due nothing) ∙ ap (λ s. nothing_due s.stage) (fed_turned_down e fed).state))
+    lent (Err r) e = absurd (true≢false (sym (ap nothing_due nothing) ∙ ap (λ s. nothing_due s.stage) (fed_turned_down e fed).state))
     lent Done e = at (offsets_fit bs (started P)) refl
       where
         at : (b : Bool) → offsets_fit bs (started P) ≡ b → b ≡ true
         at true near = refl
         at false far = absurd (true≢false (sym (ap nothing_due nothing) ∙ ap (λ s. nothing_due s.stage) (rw far at (fed_taken e fed).state)))
 
-pub accepted : (P : Params) (input : List ℕ) (r : Fed) (up down : Sketch) → begin_of input ≡ record { answer = Done; params = P }
+pub accepted : (P : Params) (input : List ℕ) (r : Fed) (up down : Sketch) → begin_of input ≡ Ok P
     → Feeds P (drop (head_length_of P) input) (zeros P) (zeros P) (started P) r up down → finish_answer r.state.stage r.state.at ≡ Done → TwoStreams P input up down
 unfolding packets_sketch
 accepted P input r up down head fed done =

@@ -9,8 +9,7 @@ use lib.Dec.{leb}
 use lib.ListN.{length, get_or, drop, length-append, length-drop, get_or-append}
 use lib.Seq.{drop_at, drop-drop, get_or-drop}
 use Rattle.params.specs.declared.params.Params.{Params}
-use Rattle.params.specs.declared.answers.Answer.TheVariants.{Done}
-use Rattle.params.specs.Answers.{first, kept}
+use Rattle.params.specs.Answers.{first, kept, Done}
 use Rattle.params.specs.Params.{size}
 use Rattle.sketch.specs.Sketch.{Sketch, zeros}
 use Rattle.files.specs.Bytes.{word}
@@ -33,6 +32,7 @@ use Rattle.desk.proofs.InTheRest.{word_at, whole_left}
 use Rattle.desk.proofs.SameBytes.{end_said_done, end_back, said_back, all_back, sketch_back}
 use Rattle.desk.proofs.Lending.{fed_taken, fresh_lent}
 use Rattle.desk.proofs.BothStreams.{upstream_number, downstream_file, downstream_body, downstream_number, Passed}
+use Rattle.std.specs.Prelude.{Ok}
 
 -- each stage, where what is due stands there
 packets_pass : (downstream : Bool) (P : Params) (bs : List ℕ) (S : Sketch) (s : State) → is_due downstream s.stage ≡ true → taken_answer P bs S ≡ Done
@@ -213,7 +213,7 @@ module _ {P : Params} {a b : List ℕ} {S T : Sketch} (one : StreamRead P a (zer
       )
 
   -- and begins with the first one's parameters
-  pub begins : begin_of (a ++ b) ≡ record { answer = Done; params = params_in a }
+  pub begins : begin_of (a ++ b) ≡ Ok (params_in a)
   unfolding begin_answer head_answer first kept few_enough
   begins =
       let opened = file_opened one in

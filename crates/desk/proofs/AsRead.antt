@@ -4,15 +4,13 @@ use mathlib.Core.Bool.{Bool, true, false, cond, true≢false}
 use mathlib.Core.List.{List}
 use Prim.Native.Nat.{ℕ, zero, suc, ◌+◌, ◌-◌, ◌*◌, ◌≤◌, ◌<◌}
 use native.Mathlib.Omega.{arith}
-use borrow.Author.Tests.{ltb-true, ltb-false, lt-leb, leb-true, eq-eqb, ne_eqb, eqb-true, eqb-false, not-true}
+use borrow.Author.Tests.{ltb-true, ltb-false, lt-ltb, le-ltb, lt-leb, leb-true, eq-eqb, ne_eqb, eqb-true, eqb-false, not-true}
 use lib.Dec.{eqb, leb, ltb}
 use lib.ListN.{length, get_or, drop, length-drop}
 use lib.Seq.{drop-drop}
 use Rattle.params.specs.declared.params.Params.{Params}
 use Rattle.params.specs.declared.answers.Refusal.{Refusal}
 use Rattle.params.specs.declared.answers.Refusal.TheVariants.{Form}
-use Rattle.params.specs.declared.answers.Answer.{Answer}
-use Rattle.params.specs.declared.answers.Answer.TheVariants.{Done, Refused}
 use Rattle.params.specs.Lists.{from}
 use Rattle.params.proofs.Lowest.{least_lowest}
 use Rattle.params.proofs.Judging.{first_refused, first_passed}
@@ -25,7 +23,6 @@ use Rattle.files.specs.Turns.{at_offset, packet_from, packet_offset, records_of,
 use Rattle.files.specs.Fields.{flow_field, number_field, records_field}
 use Rattle.files.proofs.Standing.{nothing_stands}
 use Rattle.files.proofs.Turning.{records_are, whole_within, in_turn_refused, in_turn_done}
-use Rattle.files.proofs.EndStages.{wrong_number, byte_after, ended}
 use Rattle.streamfile.specs.Streams.{packets_from, flow_from, number_from, flows_from, numbers_from, packets_in, flows_in, numbers_in, packet_judged, packets_judged}
 use Rattle.streamfile.proofs.Found.{packet_within}
 use Rattle.desk.specs.declared.states.Stage.{Stage}
@@ -38,6 +35,8 @@ use Rattle.desk.proofs.Whole.{whole_record}
 use Rattle.desk.proofs.InTheRest.{word_at, whole_at, whole_left}
 use Rattle.desk.proofs.Taking.{accepted_before, next_refused, AllTaken, all_taken}
 use Rattle.desk.proofs.WhatIsDue.{end_whole}
+use Rattle.params.specs.Answers.{Answer, Done, Refused}
+use Rattle.std.specs.Prelude.{Err}
 
 -- a record of a kind stands first in what is left exactly where it stands in the whole
 kind_left : (bs : List ℕ) (i kind : ℕ) → 0 < body_length kind → is_kind kind (record_at (drop i bs) 0) ≡ is_kind kind (record_at bs i)
@@ -180,9 +179,9 @@ module _ (P : Params) (fs : List ℕ) (head : head_length_in fs ≡ head_length_
 
     by_packet : taken P xs S < n → (r : Answer) → record_answer P xs S (taken P xs S) ≡ r → refuses r ≡ true → taken_answer P xs S ≡ r → Came
     by_packet l Done e q f = absurd (true≢false (sym q))
-    by_packet l (Refused w i) e q f =
-        let ends = stopped_ends _ w (packet_stops w i f) refl in
-        refused_there w (packet_offset fs (taken P xs S)) (one_refused w i e l) (ap (λ t. t.stage) ends) (ap (λ t. t.at) ends ∙ omega (arith, there))
+    by_packet l (Err r) e q f =
+        let ends = stopped_ends _ r.0 (packet_stops r.0 r.1 f) refl in
+        refused_there r.0 (packet_offset fs (taken P xs S)) (one_refused r.0 r.1 e l) (ap (λ t. t.stage) ends) (ap (λ t. t.at) ends ∙ omega (arith, there))
 
     -- all packets are taken, and the end decides
     module _ (done : taken_answer P xs S ≡ Done) where
@@ -225,12 +224,15 @@ module _ (P : Params) (fs : List ℕ) (head : head_length_in fs ≡ head_length_
         ends_right = ends_so ∙ rw (end_here at_the_end whole, eq-eqb (word at_the_end records_field) t.records (said ∙ omega (arith, none)))
 
         pub all_read : length fs ≤ packet_offset fs n + end_length → packets_judged P fs S ≡ Done
-        all_read h = judged ∙ sym (ended fs (packet_offset fs n) n (end_kind_lem ∙ whole) (end_word ∙ said ∙ number_taken) h)
+        unfolding end_answer
+        all_read h = judged ∙ rw (end_kind_lem ∙ whole, eq-eqb _ _ (end_word ∙ said ∙ number_taken), le-ltb _ _ h)
 
         pub more_behind : packet_offset fs n + end_length < length fs → packets_judged P fs S ≡ Refused Form (packet_offset fs n + end_length)
-        more_behind h = judged ∙ sym (byte_after fs (packet_offset fs n) n (end_kind_lem ∙ whole) (end_word ∙ said ∙ number_taken) h)
+        unfolding end_answer
+        more_behind h = judged ∙ rw (end_kind_lem ∙ whole, eq-eqb _ _ (end_word ∙ said ∙ number_taken), lt-ltb _ _ h)
 
       whole_end : is_kind end_kind (record_at at_the_end 0) ≡ true → Came
+      unfolding end_answer
       whole_end w = at (eqb (word at_the_end records_field) t.records) refl
         where
           at : (b : Bool) → eqb (word at_the_end records_field) t.records ≡ b → Came
@@ -238,7 +240,7 @@ module _ (P : Params) (fs : List ℕ) (head : head_length_in fs ≡ head_length_
           at false e =
               let here : stream_ended ≡ stopped Form t = ends_so ∙ rw (end_here at_the_end w, e) in
               let other : word fs (packet_offset fs n + records_field) ≡ n → ⊥ = λ q. eqb-false (word at_the_end records_field) t.records e (sym end_word ∙ q ∙ omega (arith, none, number_taken)) in
-              refused_there Form (packet_offset fs n) (judged ∙ sym (wrong_number fs (packet_offset fs n) n (end_kind_lem ∙ w) other)) (ap (λ u. u.stage) here) (ap (λ u. u.at) here ∙ stops_at)
+              refused_there Form (packet_offset fs n) (judged ∙ rw (end_kind_lem ∙ w, ne_eqb _ _ other)) (ap (λ u. u.stage) here) (ap (λ u. u.at) here ∙ stops_at)
 
       no_whole_end : is_kind end_kind (record_at at_the_end 0) ≡ false → Came
       no_whole_end w = at (due_end at_the_end) refl

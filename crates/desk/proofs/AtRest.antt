@@ -10,8 +10,6 @@ use lib.Dec.{ltb, leb, eqb}
 use lib.ListN.{length, get_or, drop}
 use Rattle.params.specs.declared.params.Params.{Params}
 use Rattle.params.specs.declared.answers.Refusal.TheVariants.{Form}
-use Rattle.params.specs.declared.answers.Answer.{Answer}
-use Rattle.params.specs.declared.answers.Answer.TheVariants.{Done, Refused}
 use Rattle.sketch.specs.Sketch.{Sketch}
 use Rattle.params.proofs.Searches.{cannot_hold}
 use Rattle.params.proofs.Lowest.{least_lowest}
@@ -35,6 +33,8 @@ use Rattle.desk.proofs.Back.{live, downstream_stage, packets_live, due_live, Tak
 use Rattle.desk.proofs.MoreBytes.{not_yet}
 use Rattle.desk.proofs.OneRecord.{waits_at, waits}
 use Rattle.desk.proofs.Reaching.{rest_rest}
+use Rattle.params.specs.Answers.{Answer, Done}
+use Rattle.std.specs.Prelude.{Err}
 
 -- after all packets at hand no whole one stands there
 none_after_all : (bs : List ℕ) → is_kind packets_kind (record_at bs (packet_from 0 (packets_from 0 bs))) ≡ false
@@ -102,7 +102,7 @@ head_still P bs s = at (head_due s.stage) refl (due_head bs)
   where
     judged : (r : Answer) → head_due (answered r s (headed_state P s)).stage ≡ false
     judged Done = refl
-    judged (Refused w k) = refl
+    judged (Err r) = refl
 
     at : (b : Bool) → head_due s.stage ≡ b → (d : Due) → (cond b (head_state d P bs s) s).stage ≡ DownstreamHead → (cond b (head_state d P bs s) s ≡ s) × (not_yet d ≡ true)
     at false q d p = absurd (true≢false (sym (ap head_due p) ∙ q))

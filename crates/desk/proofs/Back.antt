@@ -10,8 +10,6 @@ use lib.Dec.{eqb, leb}
 use lib.ListN.{length}
 use Rattle.params.specs.declared.params.Params.{Params}
 use Rattle.params.specs.declared.answers.Refusal.TheVariants.{Form}
-use Rattle.params.specs.declared.answers.Answer.{Answer}
-use Rattle.params.specs.declared.answers.Answer.TheVariants.{Done, Refused}
 use Rattle.sketch.specs.Sketch.{Sketch}
 use Rattle.files.specs.Bytes.{word}
 use Rattle.files.specs.Records.{record_at, is_kind, is_head, end_kind}
@@ -23,6 +21,8 @@ use Rattle.desk.specs.declared.stages.Due.{Due}
 use Rattle.desk.specs.declared.stages.Due.TheVariants.{Here, NotYet, Other}
 use Rattle.desk.specs.Desk.{packets_due, head_due, nothing_due, stopped, stage_after, taken_answer, is_due, packets_state, due_end, due_head, ended_state, end_state, downstream_head_answer, headed_state, answered, head_state, packets_stage, end_stage, head_stage, nothing_stage}
 use Rattle.desk.proofs.WhatIsDue.{end_whole, head_whole}
+use Rattle.params.specs.Answers.{Answer, Done}
+use Rattle.std.specs.Prelude.{Err}
 
 -- the input is not refused
 abbrev pub live : Stage → Bool
@@ -74,7 +74,7 @@ pub record TakenBy (downstream : Bool) (P : Params) (bs : List ℕ) (S : Sketch)
 after_live : (g : Stage) (r : Answer) → live (stage_after g r) ≡ true → r ≡ Done
 unfolding stage_after
 after_live g Done e = refl
-after_live g (Refused w k) e = absurd (true≢false (sym e))
+after_live g (Err r) e = absurd (true≢false (sym e))
 
 pub packets_back : (downstream : Bool) (P : Params) (bs : List ℕ) (S : Sketch) (s : State) → live (packets_stage downstream P bs S s).stage ≡ true
     → ((is_due downstream s.stage ≡ false) × (packets_stage downstream P bs S s ≡ s)) ⊎ TakenBy downstream P bs S s (packets_stage downstream P bs S s)
@@ -123,7 +123,7 @@ head_back P bs s = at (head_due s.stage) refl (due_head bs) refl
     judged : (r : Answer) → downstream_head_answer P bs ≡ r → s.stage ≡ DownstreamHead → is_head (record_at bs 0) ≡ true → live (answered r s (headed_state P s)).stage ≡ true
         → (answered r s (headed_state P s) ≡ s) ⊎ HeadedBy P bs s (answered r s (headed_state P s))
     judged Done q p w e = inr record { due = p; whole = w; same = q; next = refl }
-    judged (Refused v k) q p w e = absurd (true≢false (sym e))
+    judged (Err r) q p w e = absurd (true≢false (sym e))
 
     at : (b : Bool) → head_due s.stage ≡ b → (d : Due) → due_head bs ≡ d → live (cond b (head_state d P bs s) s).stage ≡ true
         → (cond b (head_state d P bs s) s ≡ s) ⊎ HeadedBy P bs s (cond b (head_state d P bs s) s)
@@ -139,9 +139,9 @@ nothing_back bs s = at s.stage refl (leb (length bs) 0) refl
   where
     at : (g : Stage) → s.stage ≡ g → (b : Bool) → leb (length bs) 0 ≡ b → (cond (nothing_due g && not b) (stopped Form s) s).stage ≡ Nothing
         → (cond (nothing_due g && not b) (stopped Form s) s ≡ s) × (length bs ≡ 0)
-    at UpstreamPackets p b q e = absurd (let w : ◌≡◌ {A = ℕ} 0 1 = cc in omega arith)
-    at DownstreamHead p b q e = absurd (let w : ◌≡◌ {A = ℕ} 0 1 = cc in omega arith)
-    at DownstreamPackets p b q e = absurd (let w : ◌≡◌ {A = ℕ} 0 1 = cc in omega arith)
-    at (Stopped w) p b q e = absurd (let w : ◌≡◌ {A = ℕ} 0 1 = cc in omega arith)
+    at UpstreamPackets p b q e = absurd cc
+    at DownstreamHead p b q e = absurd cc
+    at DownstreamPackets p b q e = absurd cc
+    at (Stopped w) p b q e = absurd cc
     at Nothing p true q e = (refl, omega (arith, leb-true (length bs) 0 q))
-    at Nothing p false q e = absurd (let w : ◌≡◌ {A = ℕ} 0 1 = cc in omega arith)
+    at Nothing p false q e = absurd cc

@@ -8,7 +8,6 @@ use native.Mathlib.Omega.{arith}
 use lib.ListN.{length, drop}
 use lib.Seq.{drop-drop}
 use Rattle.params.specs.declared.params.Params.{Params}
-use Rattle.params.specs.declared.answers.Answer.TheVariants.{Done}
 use Rattle.sketch.specs.Sketch.{Sketch}
 use Rattle.files.specs.Bytes.{word}
 use Rattle.files.specs.Records.{record_at, is_kind, is_head, end_kind, packets_length, end_length}
@@ -19,6 +18,7 @@ use Rattle.desk.specs.declared.states.Stage.TheVariants.{UpstreamPackets, Downst
 use Rattle.desk.specs.declared.states.State.{State}
 use Rattle.desk.specs.Desk.{is_due, packets_due, nothing_due, after_end, started, stage_after, taken, taken_answer, after_taken, packets_state, downstream_head_answer, packets_sketch, rest, upstream_taken, downstream_headed, downstream_ended, fed_state}
 use Rattle.desk.proofs.Back.{live, downstream_stage, packets_live, due_live, TakenBy, packets_back, EndedBy, end_back, HeadedBy, head_back, nothing_back}
+use Rattle.params.specs.Answers.{Done}
 
 -- one stage after the other, from a, where upstream packets are due, to e, where nothing more is
 module _ {P : Params} {S : Sketch} {ws xs ys zs : List ℕ} {a b c d e : State}

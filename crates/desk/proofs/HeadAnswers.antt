@@ -1,80 +1,70 @@
 -- The two heads of the input: one that is refused as any file's is, one with too many buckets, one that differs from the first.
 use mathlib.Core.Path.{◌≡◌, refl, sym, ap, ◌∙◌}
-use mathlib.Core.Bool.{Bool, true, false, not, ◌&&◌}
-use mathlib.Core.List.{List, [], ◌∷◌}
+use mathlib.Core.Bool.{true, not, ◌&&◌}
+use mathlib.Core.List.{List}
 use Prim.Native.Nat.{ℕ, ◌≤◌}
 use native.Mathlib.Omega.{arith}
 use borrow.Author.Tests.{not-false}
-use types.Run.{miss}
 use lib.ListN.{get_or, length}
 use Rattle.params.specs.declared.params.Params.{Params}
-use Rattle.params.specs.declared.params.Obtained.{Obtained}
+use Rattle.params.specs.declared.answers.Refusal.{Refusal}
 use Rattle.params.specs.declared.answers.Refusal.TheVariants.{Param, Mismatch}
-use Rattle.params.specs.declared.answers.Answer.{Answer}
-use Rattle.params.specs.declared.answers.Answer.TheVariants.{Done, Refused}
-use Rattle.params.specs.Answers.{first, kept}
-use Rattle.params.specs.Params.{good_params, same_params, none_obtained, obtained}
-use Rattle.params.proofs.Judging.{Refuses, first_refused, refuse_done}
-use Rattle.params.proofs.Searches.{and_true}
+use Rattle.params.specs.declared.answers.Refused.{Refused as RefusedAt}
+use Rattle.params.specs.Answers.{Answer, Done, Refused, given}
+use Rattle.params.specs.Params.{good_params, same_params}
+use Rattle.params.proofs.Judging.{refuse_done, first_passed, first_done}
+use Rattle.params.proofs.Searches.{and_true, cannot_hold}
 use Rattle.files.specs.Records.{record_at, is_head, head_length_in}
 use Rattle.files.specs.Heads.{head_kind_of, head_length_of, params_in, good_head, head_answer, head_of}
 use Rattle.files.proofs.Standing.{head_within}
 use Rattle.files.proofs.Profiles.{kind_long}
-use Rattle.files.proofs.HeadStages.{good_parts}
+use Rattle.files.proofs.HeadStages.{good_parts, good_head_lem}
 use Rattle.files.proofs.HeadTrips.{same_kind, head_accepted}
 use Rattle.desk.specs.Desk.{few_enough, begin_answer, begin_of, downstream_head_answer}
+use Rattle.std.specs.Prelude.{Ok, Err}
+
+-- what was judged where a value is given, and where it is refused
+pub done_given : {A : Type 0} (a : Answer) (x y : A) → Ok x ≡ given a y → (a ≡ Done) × (x ≡ y)
+done_given Done x y e = (refl, cc)
+done_given (Err r) x y e = (cc, cc)
+
+pub refused_given : {A : Type 0} (a : Answer) (y : A) {r : RefusedAt} → given a y ≡ Err r → a ≡ Err r
+refused_given Done y e = cc
+refused_given (Err q) y e = cc
+
+-- the same refusal, by its parts
+pub refused_same : {w v : Refusal} {k j : ℕ} → ◌≡◌ {A = Answer} (Refused w k) (Refused v j) → (w ≡ v) × (k ≡ j)
+refused_same {w} {v} {k} {j} e =
+    let parts : ◌≡◌ {A = RefusedAt} (w, k) (v, j) = cc in
+    (ap (λ (r : RefusedAt). r.0) parts, ap (λ (r : RefusedAt). r.1) parts)
 
 module _ (bs : List ℕ) where
   pub head_good : head_answer bs ≡ Done → good_params (params_in bs) ≡ true
   head_good e = (good_parts bs (head_accepted bs e).1).0
 
   -- what a reader of heads gives where it refuses nothing
-  pub head_says : (h : Obtained) → h ≡ head_of bs → h.answer ≡ Done → (head_answer bs ≡ Done) × (h.params ≡ params_in bs)
-  unfolding kept
-  head_says h e d =
-      let done : head_answer bs ≡ Done = sym (ap (λ h. h.answer) e) ∙ d in
-      (done, ap (λ h. h.params) e ∙ rw done)
+  pub head_says : {p : Params} → Ok p ≡ head_of bs → (head_answer bs ≡ Done) × (p ≡ params_in bs)
+  head_says e = done_given (head_answer bs) _ _ e
 
-  -- the first head
-  pub first_refused_head : (h : Obtained) → h ≡ head_of bs → Refuses h.answer → h ≡ begin_of bs
+  -- what the reader of first heads gives where it refuses nothing, and when that is
+  pub begin_says : {p : Params} → Ok p ≡ begin_of bs → (good_head bs ≡ true) × (few_enough (params_in bs) ≡ true) × (p ≡ params_in bs)
   unfolding begin_answer
-  first_refused_head h e q =
-      let refused : Refuses (head_answer bs) = rw (ap (λ (h : Obtained). h.answer) e) at q in
-      e ∙ ap (λ (a : Answer). obtained a (params_in bs)) (first_refused (head_answer bs) (head_answer bs) _ refl refused)
+  begin_says e =
+      let g = done_given (begin_answer bs) _ _ e in
+      let h = first_done _ _ g.0 in
+      ((head_accepted bs h.0).1, not-false _ (refuse_done (not (few_enough (params_in bs))) Param 0 Done h.1).0, g.1)
 
-  pub first_too_large : head_answer bs ≡ Done → few_enough (params_in bs) ≡ false → none_obtained (Refused Param 0) ≡ begin_of bs
-  unfolding begin_answer first kept
-  first_too_large e f = rw (e, f)
-
-  pub first_accepted : head_answer bs ≡ Done → few_enough (params_in bs) ≡ true → head_of bs ≡ begin_of bs
-  unfolding begin_answer first
-  first_accepted e f = rw (e, f)
+  begun : is_head (record_at bs 0) ≡ true → (good_head bs && few_enough (params_in bs)) ≡ true → begin_of bs ≡ Ok (params_in bs)
+  unfolding begin_answer
+  begun whole g =
+      let h = and_true (good_head bs) _ g in
+      rw (first_passed (head_answer bs) _ (head_says (good_head_lem bs whole h.0)).0, h.1)
 
   -- the second head, which is whole
   module _ (P : Params) where
-    second_bad : good_head bs ≡ false → Refused Param 0 ≡ downstream_head_answer P bs
+    pub second_refused : is_head (record_at bs 0) ≡ true → ((p : Params) → begin_of bs ≡ Ok p → ⊥) → Refused Param 0 ≡ downstream_head_answer P bs
     unfolding downstream_head_answer
-    second_bad g = rw g
-
-    pub second_refused : is_head (record_at bs 0) ≡ true → Refuses (head_answer bs) → Refused Param 0 ≡ downstream_head_answer P bs
-    unfolding head_answer
-    second_refused whole h = at (good_head bs) refl
-      where
-        at : (b : Bool) → good_head bs ≡ b → Refused Param 0 ≡ downstream_head_answer P bs
-        at true e = absurd (miss (1 ∷ []) 0 tt (rw (whole, e) at h))
-        at false e = second_bad e
-
-    pub second_too_large : good_head bs ≡ true → few_enough (params_in bs) ≡ false → Refused Param 0 ≡ downstream_head_answer P bs
-    unfolding downstream_head_answer
-    second_too_large g f = rw (g, f)
-
-    pub second_other : good_head bs ≡ true → few_enough (params_in bs) ≡ true → same_params P (params_in bs) ≡ false → Refused Mismatch 0 ≡ downstream_head_answer P bs
-    unfolding downstream_head_answer
-    second_other g f s = rw (g, f, s)
-
-    pub second_accepted : good_head bs ≡ true → few_enough (params_in bs) ≡ true → same_params P (params_in bs) ≡ true → Done ≡ downstream_head_answer P bs
-    unfolding downstream_head_answer
-    second_accepted g f s = rw (g, f, s)
+    second_refused whole refused = rw (cannot_hold (good_head bs && few_enough (params_in bs)) (λ g. refused _ (begun whole g)))
 
     -- where it is accepted, it is good and says the same
     module _ (done : downstream_head_answer P bs ≡ Done) where
@@ -100,8 +90,5 @@ module _ (bs : List ℕ) where
 
     -- a good head of the other profile is MISMATCH
     pub other_profile : good_head bs ≡ true → few_enough (params_in bs) ≡ true → (get_or bs 0 0 ≡ head_kind_of P → ⊥) → downstream_head_answer P bs ≡ Refused Mismatch 0
-    other_profile g f other = at (same_params P (params_in bs)) refl
-      where
-        at : (b : Bool) → same_params P (params_in bs) ≡ b → downstream_head_answer P bs ≡ Refused Mismatch 0
-        at true e = absurd (other (second_kind (sym (second_accepted g f e))))
-        at false e = sym (second_other g f e)
+    unfolding downstream_head_answer
+    other_profile g f other = rw (g, f, cannot_hold (same_params P (params_in bs)) (λ s. other (second_kind (rw (g, f, s)))))

@@ -7,8 +7,7 @@ use native.Mathlib.Omega.{arith}
 use lib.ListN.{length, take}
 use Rattle.params.specs.declared.params.Params.{Params}
 use Rattle.params.specs.declared.answers.Refusal.{Refusal}
-use Rattle.params.specs.declared.answers.Answer.TheVariants.{Done, Refused}
-use Rattle.params.specs.Answers.{kept}
+use Rattle.params.specs.Answers.{kept, Done, Refused}
 use Rattle.params.specs.Params.{good_params, lent_answer}
 use Rattle.params.proofs.Judging.{first_passed}
 use Rattle.params.proofs.Changes.{length_touched}

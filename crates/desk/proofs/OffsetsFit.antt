@@ -1,11 +1,10 @@
--- 64 bits hold all that the bytes at hand can lead to: the test, and what follows where it holds.
-use mathlib.Core.Path.{◌≡◌, refl}
-use mathlib.Core.Bool.{Bool, true, false, ◌&&◌}
+-- 64 bits hold all that the bytes at hand can lead to: what follows where the test holds, and the other way.
+use mathlib.Core.Path.{◌≡◌}
+use mathlib.Core.Bool.{true}
 use mathlib.Core.List.{List}
-use Prim.Native.Nat.{ℕ, ◌+◌, ◌-◌, ◌≤◌, ◌<◌}
-use native.Mathlib.Omega.{arith}
-use borrow.Author.Tests.{ltb-true, ltb-false, lt-ltb, le-ltb, le-leb, lt-leb}
-use lib.Dec.{ltb, leb}
+use Prim.Native.Nat.{ℕ, ◌+◌, ◌-◌, ◌<◌}
+use borrow.Author.Tests.{ltb-true, lt-ltb}
+use lib.Dec.{ltb}
 use lib.ListN.{length}
 use Rattle.params.proofs.Searches.{and_true}
 use Rattle.desk.specs.declared.states.State.{State}
@@ -25,15 +24,3 @@ bounded bs s e =
 pub offsets_fit_lem : (bs : List ℕ) (s : State) → Bounded bs s → offsets_fit bs s ≡ true
 unfolding offsets_fit
 offsets_fit_lem bs s r = rw (lt-ltb (s.at + length bs) 18446744073709551616 r.offset) (lt-ltb (s.records + length bs) 18446744073709551616 r.counted)
-
--- the tests one after the other: the offset's fails, or that of the records decides
-pub offset_past : (at records n : ℕ) → 18446744073709551616 ≤ at + n → false ≡ (ltb (at + n) 18446744073709551616 && ltb (records + n) 18446744073709551616)
-offset_past at records n h = rw (le-ltb (at + n) 18446744073709551616 h)
-
-pub records_decide : (at records n : ℕ) → at + n < 18446744073709551616 → records < 18446744073709551616
-    → leb n (18446744073709551615 - records) ≡ (ltb (at + n) 18446744073709551616 && ltb (records + n) 18446744073709551616)
-records_decide at records n h k = rw (lt-ltb (at + n) 18446744073709551616 h) (go (ltb (records + n) 18446744073709551616) refl)
-  where
-    go : (b : Bool) → ltb (records + n) 18446744073709551616 ≡ b → leb n (18446744073709551615 - records) ≡ b
-    go true e = le-leb n (18446744073709551615 - records) (omega (arith, ltb-true (records + n) 18446744073709551616 e))
-    go false e = lt-leb n (18446744073709551615 - records) (omega (arith, ltb-false (records + n) 18446744073709551616 e))

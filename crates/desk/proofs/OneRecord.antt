@@ -8,9 +8,7 @@ use borrow.Author.Tests.{leb-false}
 use lib.Dec.{leb}
 use lib.ListN.{length}
 use Rattle.params.specs.declared.params.Params.{Params}
-use Rattle.params.specs.declared.answers.Answer.{Answer}
-use Rattle.params.specs.declared.answers.Answer.TheVariants.{Done, Refused}
-use Rattle.params.specs.Answers.{kept}
+use Rattle.params.specs.Answers.{kept, Answer, Done}
 use Rattle.sketch.specs.Sketch.{Sketch}
 use Rattle.sketch.specs.Packets.{step_answer, changed}
 use Rattle.files.specs.Bytes.{word}
@@ -23,6 +21,7 @@ use Rattle.desk.specs.declared.states.State.{State}
 use Rattle.desk.specs.Desk.{stopped, due_end, due_head, end_stage, head_stage, nothing_stage}
 use Rattle.desk.proofs.Onward.{Onward, onward_here, end_onward, head_onward, nothing_onward}
 use Rattle.desk.proofs.MoreBytes.{not_yet, word_more, whole_more, end_more, head_more, nothing_more}
+use Rattle.std.specs.Prelude.{Err}
 
 -- a moment of the reading: its state and the two sketches
 pub record Moment : Type 0 where
@@ -46,7 +45,7 @@ put_in true t S k = record { state = t; up = k.up; down = S }
 -- a packet that stands first goes into a sketch
 abbrev pub packet_answered : Answer → State → State
 packet_answered Done s = record { stage = s.stage; at = s.at + packets_length; records = s.records + 1 }
-packet_answered (Refused w k) s = stopped w s
+packet_answered (Err r) s = stopped r.0 s
 
 abbrev pub packet_first : Params → List ℕ → Sketch → Answer
 packet_first P bs S = step_answer P false (word bs flow_field) (word bs number_field) S
@@ -82,7 +81,7 @@ waits bs s = waits_at s.stage bs
 -- one record lies within the bytes
 packet_onward : (r : Answer) (bs : List ℕ) (s : State) → is_kind packets_kind (record_at bs 0) ≡ true → Onward bs s (packet_answered r s)
 packet_onward Done bs s w = omega (arith, (whole_record bs 0 packets_kind w).1)
-packet_onward (Refused v k) bs s w = omega arith
+packet_onward (Err r) bs s w = omega arith
 
 put_state : (downstream : Bool) (t : State) (S : Sketch) (k : Moment) → (put_in downstream t S k).state ≡ t
 put_state false t S k = refl

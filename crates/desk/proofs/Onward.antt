@@ -9,8 +9,6 @@ use lib.ListN.{length, take, drop, length-drop}
 use lib.Seq.{take_all}
 use Rattle.params.specs.declared.params.Params.{Params}
 use Rattle.params.specs.declared.answers.Refusal.TheVariants.{Form}
-use Rattle.params.specs.declared.answers.Answer.{Answer}
-use Rattle.params.specs.declared.answers.Answer.TheVariants.{Done, Refused}
 use Rattle.sketch.specs.Sketch.{Sketch}
 use Rattle.files.specs.Bytes.{word}
 use Rattle.files.specs.Records.{record_at, is_kind, is_head, end_kind}
@@ -24,6 +22,8 @@ use Rattle.desk.proofs.Taking.{taken_bytes}
 use Rattle.desk.proofs.HeadAnswers.{second_within}
 use Rattle.desk.proofs.WhatIsDue.{end_whole, head_whole}
 use Rattle.desk.proofs.OffsetsFit.{bounded, offsets_fit_lem}
+use Rattle.params.specs.Answers.{Answer, Done}
+use Rattle.std.specs.Prelude.{Err}
 
 -- t comes after s by some of these bytes, and no more records than bytes stood in between
 pub record Onward (bs : List ℕ) (s t : State) : Type 0 where
@@ -74,7 +74,7 @@ head_onward P bs s = at (head_due s.stage) (due_head bs) refl
   where
     judged : (r : Answer) → downstream_head_answer P bs ≡ r → is_head (record_at bs 0) ≡ true → Onward bs s (answered r s (headed_state P s))
     judged Done q w = omega (arith, second_within bs P q w)
-    judged (Refused v k) q w = omega arith
+    judged (Err r) q w = omega arith
 
     at : (b : Bool) (d : Due) → due_head bs ≡ d → Onward bs s (cond b (head_state d P bs s) s)
     at false d e = onward_here bs s
@@ -97,15 +97,15 @@ part bs s t = take (length bs - (t.at - s.at)) (drop (t.at - s.at) bs)
 part_rest : (bs : List ℕ) (s t : State) → part bs s t ≡ rest s t bs
 part_rest bs s t = take_all (length bs - (t.at - s.at)) (rest s t bs) (omega (arith, length-drop (t.at - s.at) bs))
 
+pub part_fits : {bs : List ℕ} {s t : State} → Onward bs s t → offsets_fit bs s ≡ true → offsets_fit (part bs s t) t ≡ true
+part_fits {bs} {s} {t} h e = rw (part_rest bs s t) (onward_fits bs s t e h)
+
 -- t is what x says, and was come to from s
 pub record Came (bs : List ℕ) (s t x : State) : Type 0 where
   pub onward : Onward bs s t
   pub same : t ≡ x
 
 module _ {bs : List ℕ} {s t x : State} (h : Came bs s t x) where
-  pub part_fits : offsets_fit bs s ≡ true → offsets_fit (part bs s t) t ≡ true
-  part_fits e = rw (part_rest bs s t) (onward_fits bs s t e h.onward)
-
   -- one stage more
   further : (f : List ℕ → State → State) → ((xs : List ℕ) (v : State) → Onward xs v (f xs v)) → (u : State) → u ≡ f (part bs s t) t → Came bs s u (f (rest s x bs) x)
   further f moves u e =

@@ -11,9 +11,7 @@ use lib.Dec.{ltb}
 use lib.ListN.{take, drop}
 use lib.Seq.{drop-drop}
 use Rattle.params.specs.declared.params.Params.{Params}
-use Rattle.params.specs.declared.answers.Answer.{Answer}
-use Rattle.params.specs.declared.answers.Answer.TheVariants.{Done, Refused}
-use Rattle.params.specs.Answers.{kept}
+use Rattle.params.specs.Answers.{kept, Answer, Done}
 use Rattle.sketch.specs.Sketch.{Sketch}
 use Rattle.sketch.specs.Packets.{changed, after}
 use Rattle.sketch.proofs.ManyPackets.{after_more}
@@ -31,6 +29,7 @@ use Rattle.desk.proofs.Taking.{taken_within, accepted_before, next_refused}
 use Rattle.desk.proofs.Back.{upstream_stage, downstream_stage}
 use Rattle.desk.proofs.OneRecord.{Moment, lent, put_in, packet_answered, packet_first, one_at, waits_at}
 use Rattle.desk.proofs.Reaching.{Reaches, stays, then, by_one, rest_none}
+use Rattle.std.specs.Prelude.{Err}
 
 -- one packet that stands first, where packets of the sketch's stream are due
 packet_reach : (P : Params) (downstream : Bool) (bs : List ℕ) (k : Moment) (t : State) (T : Sketch) (r : Answer)
@@ -119,7 +118,7 @@ module _ (P : Params) (downstream : Bool) (bs : List ℕ) (k : Moment) where
     refused : (r : Answer) → taken_answer P bs S ≡ r → refuses r ≡ true → packets_state P bs S s ≡ packet_answered r (mid_state (taken P bs S))
     unfolding packets_state stage_after
     refused Done e q = absurd (true≢false (sym q))
-    refused (Refused w i) e q = rw e
+    refused (Err r) e q = rw e
 
     -- so all that are accepted are come to, and one that is refused
     abbrev ToAll : Type 0
@@ -132,10 +131,10 @@ module _ (P : Params) (downstream : Bool) (bs : List ℕ) (k : Moment) where
     to_refused : (r : Answer) → packet_first P (drop (packets_length * taken P bs S) bs) (left (taken P bs S)) ≡ r → taken_answer P bs S ≡ r → refuses r ≡ true → taken P bs S < packets_from 0 bs → ToAll
     unfolding after_taken kept
     to_refused Done judged e q l = absurd (true≢false (sym q))
-    to_refused (Refused w i) judged e q l =
+    to_refused (Err r) judged e q l =
         let n : ℕ = taken P bs S in
-        let moved = packet_reach P downstream (drop (packets_length * n) bs) k (mid_state n) (left n) (Refused w i) (packet_whole n l) due judged in
-        rw (refused (Refused w i) e q, all_bytes (mid_state n) refl) (then (to_mid n (omega arith)) (rw (rest_none (drop (packets_length * n) bs) (mid_state n)) at moved))
+        let moved = packet_reach P downstream (drop (packets_length * n) bs) k (mid_state n) (left n) (Err r) (packet_whole n l) due judged in
+        rw (refused (Err r) e q, all_bytes (mid_state n) refl) (then (to_mid n (omega arith)) (rw (rest_none (drop (packets_length * n) bs) (mid_state n)) at moved))
 
     to_all : ToAll
     unfolding taken_answer

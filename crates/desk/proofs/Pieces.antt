@@ -6,9 +6,7 @@ use Prim.Native.Nat.{ℕ, ◌+◌, ◌≤◌}
 use native.Mathlib.Omega.{arith}
 use lib.ListN.{length, drop, length-append, length-drop}
 use Rattle.params.specs.declared.params.Params.{Params}
-use Rattle.params.specs.declared.answers.Answer.{Answer}
-use Rattle.params.specs.declared.answers.Answer.TheVariants.{Done, Refused}
-use Rattle.params.specs.Answers.{kept}
+use Rattle.params.specs.Answers.{kept, Answer, Done}
 use Rattle.sketch.specs.Sketch.{Sketch}
 use Rattle.desk.specs.declared.states.State.{State}
 use Rattle.desk.specs.declared.states.Fed.{Fed}
@@ -21,6 +19,7 @@ use Rattle.desk.proofs.StagesReach.{end_reach, head_reach, nothing_reach}
 use Rattle.desk.proofs.PacketsReach.{packets_reach}
 use Rattle.desk.proofs.AtRest.{fed_waits}
 use Rattle.desk.proofs.Lending.{taken_fed, fed_taken, fed_turned_down, turned_down_waits, turned_down_again, still_lent}
+use Rattle.std.specs.Prelude.{Err}
 
 abbrev pub moment : State → Sketch → Sketch → Moment
 moment s up down = record { state = s; up = up; down = down }
@@ -86,7 +85,7 @@ used_within {P} {bs} {up} {down} {s} {r} near fed = at (lent_both P up down) ref
   where
     at : (a : Answer) → lent_both P up down ≡ a → r.used ≤ length bs
     at Done e = let t = fed_taken e fed in omega (arith, (fully near t).onward, t.used)
-    at (Refused w k) e = omega (arith, (fed_turned_down e fed).used)
+    at (Err r) e = omega (arith, (fed_turned_down e fed).used)
 
 -- and of those that are left more are waited for, if the input is not refused
 pub fed_waiting : {P : Params} {bs : List ℕ} {up down : Sketch} {s : State} {r : Fed} {up' down' : Sketch} → offsets_fit bs s ≡ true → Feeds P bs up down s r up' down'
@@ -95,7 +94,7 @@ fed_waiting {P} {bs} {up} {down} {s} {r} near fed = at (lent_both P up down) ref
   where
     at : (a : Answer) → lent_both P up down ≡ a → waits (drop r.used bs) r.state ≡ true
     at Done e = let t = fed_taken e fed in rw t.used (fully near t).waited
-    at (Refused w k) e = rw (fed_turned_down e fed).state (turned_down_waits w s.stage _)
+    at (Err r) e = rw (fed_turned_down e fed).state (turned_down_waits r.0 s.stage _)
 
 -- xs are taken, and then what they leave, with ys behind
 module _ {P : Params} {xs : List ℕ} {up down : Sketch} {s : State} {r : Fed} {up₁ down₁ : Sketch} (ys : List ℕ) (near : offsets_fit (xs ++ ys) s ≡ true)
@@ -141,10 +140,10 @@ module _ {P : Params} {xs : List ℕ} {up down : Sketch} {s : State} {r : Fed} {
       at Done e =
           let t = fed_taken e one in
           taken_fed e (both_taken ys near t (fed_taken (still_lent t ∙ e) two))
-      at (Refused w k) e =
+      at (Err r) e =
           let q = fed_turned_down e one in
           let q₂ = fed_turned_down (ap₂ (lent_both P) q.upstream q.downstream ∙ e) two in
-          let state : r₂.state ≡ turned_down w s = q₂.state ∙ ap (turned_down w) q.state ∙ turned_down_again w s in
+          let state : r₂.state ≡ turned_down r.0 s = q₂.state ∙ ap (turned_down r.0) q.state ∙ turned_down_again r.0 s in
           record {
             state = rw e state;
             used = omega (arith, q.used, q₂.used, ap (λ u. u.at) state);

@@ -21,9 +21,7 @@ use lib.Seq.{length-take-le, get_or-take, get_or-drop, drop-drop}
 use Rattle.params.specs.declared.params.Params.{Params}
 use Rattle.params.specs.declared.answers.Refusal.{Refusal}
 use Rattle.params.specs.declared.answers.Refusal.TheVariants.{Param, Mismatch, Form}
-use Rattle.params.specs.declared.answers.Answer.{Answer}
-use Rattle.params.specs.declared.answers.Answer.TheVariants.{Done, Refused}
-use Rattle.params.specs.Answers.{refuse_if, first, kept}
+use Rattle.params.specs.Answers.{refuse_if, first, kept, Answer, Done, Refused}
 use Rattle.params.specs.Params.{same_params}
 use Rattle.params.proofs.SameParams.{same_itself}
 use Rattle.sketch.specs.Sketch.{Sketch, zeros}
@@ -41,7 +39,7 @@ use Rattle.desk.specs.declared.states.State.{State}
 use Rattle.desk.specs.declared.states.Fed.{Fed}
 use Rattle.desk.specs.Desk.{few_enough, begin_of, started, stopped, taken, taken_answer, due_head, downstream_head_answer, is_due, packets_due, head_due, nothing_due, packets_stage, end_stage, head_stage, nothing_stage, rest, offsets_fit, upstream_ended, downstream_headed, downstream_taken, downstream_ended, fed_state, Feeds, finish_answer, packets_sketch, upstream_taken, lent_both, stage_turned_down}
 use Rattle.desk.proofs.Accepted.{Begun, begun, good_params_lem, begun_length, input_long, first_number, at_first_end, first_length, split_within, first_file}
-use Rattle.desk.proofs.HeadAnswers.{second_good, second_same, second_length, second_within}
+use Rattle.desk.proofs.HeadAnswers.{refused_same, second_good, second_same, second_length, second_within}
 use Rattle.desk.proofs.InTheRest.{word_at, whole_left}
 use Rattle.desk.proofs.WhatIsDue.{head_whole, head_here}
 use Rattle.desk.proofs.Taking.{all_taken}
@@ -50,6 +48,7 @@ use Rattle.desk.proofs.Pieces.{pieces}
 use Rattle.desk.proofs.SameBytes.{opened_judged, all_back, end_back, said_back}
 use Rattle.desk.proofs.Accepts.{file_head, file_long}
 use Rattle.desk.proofs.AsRead.{Came, refused_there, unfinished, passed_by, came, stream_ended, taken_at, ends_right, all_read, more_behind}
+use Rattle.std.specs.Prelude.{Err, Ok}
 
 -- a stage that is not due leaves the state
 packets_skip : (downstream : _) (P : Params) (bs : List ℕ) (S : Sketch) (s : State) → is_due downstream s.stage ≡ false → packets_stage downstream P bs S s ≡ s
@@ -89,7 +88,7 @@ pub record AcceptedPart (P : Params) (input : List ℕ) : Type 0 where
 -- an answer with its offset counted from further ahead
 abbrev pub shifted : ℕ → Answer → Answer
 shifted i Done = Done
-shifted i (Refused w k) = Refused w (i + k)
+shifted i (Err r) = Refused r.0 (i + r.1)
 
 -- a downstream stream at the desk: as its reader answers it into a fresh sketch, save that a head which keeps the rules and has too many buckets is PARAM
 unfoldable pub downstream_answer : Params → List ℕ → Answer
@@ -103,7 +102,7 @@ pub record DownstreamRefused (P : Params) (input : List ℕ) (w : Refusal) (k : 
   pub place : k ≡ upstream.split + offset
 
 -- the first head is accepted with the parameters P, and what follows it is fed to two fresh sketches, with all offsets within 64 bits
-module _ (P : Params) (input : List ℕ) (r : Fed) (up down : Sketch) (head : begin_of input ≡ record { answer = Done; params = P })
+module _ (P : Params) (input : List ℕ) (r : Fed) (up down : Sketch) (head : begin_of input ≡ Ok P)
     (near : offsets_fit (drop (head_length_of P) input) (started P) ≡ true) (fed : Feeds P (drop (head_length_of P) input) (zeros P) (zeros P) (started P) r up down) where
   abbrev xs : List ℕ
   xs = drop (head_length_of P) input
@@ -316,8 +315,10 @@ module _ (P : Params) (input : List ℕ) (r : Fed) (up down : Sketch) (head : be
       either_stream
     where
       from_rest : (p : AcceptedPart P input) (a : Answer) → downstream_answer P (drop p.split input) ≡ a → shifted p.split a ≡ Refused w k → DownstreamRefused P input w k
-      from_rest p Done h q = absurd (let z : ◌≡◌ {A = ℕ} 0 1 = cc in omega arith)
-      from_rest p (Refused v j) h q = record { upstream = p; offset = j; reader_refuses = h ∙ cc; place = cc }
+      from_rest p Done h q = absurd cc
+      from_rest p (Err r) h q =
+          let same = refused_same q in
+          record { upstream = p; offset = r.1; reader_refuses = h ∙ ap (λ (v : Refusal). Refused v r.1) same.0; place = sym same.1 }
 
 -- a refused state takes nothing more
 module _ (P : Params) (bs : List ℕ) (up down : Sketch) (s : State) {w : Refusal} (e : s.stage ≡ Stopped w) where
@@ -349,7 +350,7 @@ module _ (P : Params) (bs : List ℕ) (up down : Sketch) (s : State) {w : Refusa
             upstream = chosen (offsets_fit bs s) (packets_sketch false P bs up s) up (sketch_stays false bs up);
             downstream = chosen (offsets_fit bs s) _ down (ap (λ u. packets_sketch true P (rest s u bs) down u) headed_stays ∙ sketch_stays true (rest s s bs) down);
           })
-      at (Refused v k) h = turned_down_lem h (λ i. record { stage = (e ∙ sym (ap (stage_turned_down v) e)) i; at = s.at; records = s.records })
+      at (Err r) h = turned_down_lem h (λ i. record { stage = (e ∙ sym (ap (stage_turned_down r.0) e)) i; at = s.at; records = s.records })
 
 -- so what is refused of the bytes that came is refused of the whole input, with the same number, byte and sketches
 pub refusal_stays : {P : Params} {xs : List ℕ} {up down : Sketch} {s : State} {r : Fed} {up₁ down₁ : Sketch} {w : Refusal} (ys : List ℕ) → offsets_fit (xs ++ ys) s ≡ true

@@ -4,15 +4,14 @@ use mathlib.Core.Bool.{true, false, not}
 use mathlib.Core.List.{List}
 use Prim.Native.Nat.{ℕ, ◌+◌, ◌*◌, ◌≤◌, ◌<◌}
 use native.Mathlib.Omega.{arith}
-use borrow.Author.Tests.{eq-eqb, eqb-true, ltb-false, not-false}
+use borrow.Author.Tests.{eq-eqb, eqb-true, le-ltb, ltb-false, not-false}
 use lib.Dec.{eqb, ltb}
 use lib.IntN.{pos}
 use lib.ListN.{length, get_or, length-replicate, get_or-replicate}
 use Rattle.params.specs.declared.params.Params.{Params}
 use Rattle.params.specs.declared.answers.Refusal.TheVariants.{Damage, Form}
-use Rattle.params.specs.declared.answers.Answer.TheVariants.{Done}
 use Rattle.params.specs.Lists.{from}
-use Rattle.params.specs.Answers.{kept}
+use Rattle.params.specs.Answers.{kept, Done}
 use Rattle.params.specs.Params.{size, good_params, same_params, lengths_answer}
 use Rattle.buckets.specs.Buckets.{in_limits}
 use Rattle.sketch.specs.Sketch.{Sketch, zeros, damaged_at}
@@ -25,7 +24,6 @@ use Rattle.files.specs.Records.{body_length, record_at, is_kind, is_head, offset
 use Rattle.files.specs.Heads.{head_length_of, params_in, good_head, parameters_answer}
 use Rattle.files.specs.Turns.{at_offset, packet_from, packet_offset, end_answer}
 use Rattle.files.specs.Fields.{flow_field, number_field, records_field}
-use Rattle.files.proofs.EndStages.{ended}
 use Rattle.files.proofs.RecordTrips.{record_whole, not_kind}
 use Rattle.files.proofs.Turning.{records_are}
 use Rattle.desk.proofs.Whole.{whole_record}
@@ -119,11 +117,11 @@ module _ (P : Params) (fs xs : List ℕ) (n : ℕ) (head : head_length_in fs ≡
       judged_done k l = rw (flow_same k l, packets_same k l, flows_same, numbers_same, done.each k (omega arith))
 
       records_done : packets_judged P fs S ≡ Done
-      unfolding packets_judged
+      unfolding packets_judged end_answer
       records_done =
           first_passed _ _ (in_turn_done (packets_in fs) (packet_judged P fs S) (λ j l. judged_done j (omega (arith, number_same))))
           ∙ ap (λ (m : ℕ). end_answer fs (packet_offset fs m) m) number_same
-          ∙ sym (ended fs (packet_offset fs n) n end_same (word_same (packet_offset fs n + records_field) (packets_length * n + records_field) (omega arith) (omega arith) ∙ said) (omega arith))
+          ∙ rw (end_same, eq-eqb _ _ (word_same (packet_offset fs n + records_field) (packets_length * n + records_field) (omega arith) (omega arith) ∙ said), le-ltb (packet_offset fs n + end_length) (length fs) (omega arith))
 
       all_same : after_taken P xs S ≡ after P (flows_in fs) (numbers_in fs) S
       unfolding after_taken

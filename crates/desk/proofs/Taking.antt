@@ -9,13 +9,11 @@ use borrow.Author.Tests.{ltb-true, ltb-false, lt-ltb, le-ltb}
 use lib.Dec.{ltb}
 use lib.ListN.{length}
 use Rattle.params.specs.declared.params.Params.{Params}
-use Rattle.params.specs.declared.answers.Answer.{Answer}
-use Rattle.params.specs.declared.answers.Answer.TheVariants.{Done, Refused}
 use Rattle.params.specs.Lists.{least}
 use Rattle.sketch.specs.Sketch.{Sketch}
 use Rattle.sketch.specs.Packets.{step_answer}
 use Rattle.params.proofs.Searches.{least_here, least_skip, none_found}
-use Rattle.params.proofs.Judging.{Refuses, kept_old}
+use Rattle.params.proofs.Judging.{Refuses}
 use Rattle.params.proofs.Lowest.{least_lowest}
 use Rattle.files.specs.Records.{record_at, is_kind, packets_kind, packets_length}
 use Rattle.files.specs.Turns.{packet_from}
@@ -24,6 +22,8 @@ use Rattle.streamfile.proofs.Found.{There, packet_within, flow_is, number_is}
 use Rattle.streamfile.proofs.InTurn.{Gone, gone_within, one_of_them, all_gone}
 use Rattle.desk.specs.declared.stages.Run.{Run}
 use Rattle.desk.specs.Desk.{refuses, record_answer, taken, taken_answer, after_taken}
+use Rattle.params.specs.Answers.{Answer, Done}
+use Rattle.std.specs.Prelude.{Err, is_err}
 
 -- a search by what it meets: the first number that passes, or none
 least_at : (n k : ℕ) (t : ℕ → Bool) → k < n → ((j : ℕ) → j < k → t j ≡ false) → t k ≡ true → least 0 n t ≡ k
@@ -49,12 +49,16 @@ least_within (suc n) k t = at (t k) (least_within n (suc k) t)
     at false h = omega arith
 
 refusal_refuses : (r : Answer) → Refuses r → refuses r ≡ true
-refusal_refuses Done h = absurd (omega (arith, kept_old {A = ℕ} Done 0 1 h))
-refusal_refuses (Refused w k) h = refl
+refusal_refuses Done h = absurd (true≢false (sym h))
+refusal_refuses (Err r) h = refl
+
+pub not_err : (r : Answer) → is_err r ≡ false → r ≡ Done
+not_err Done e = refl
+not_err (Err r) e = absurd (true≢false e)
 
 not_refused : (r : Answer) → refuses r ≡ false → r ≡ Done
 not_refused Done e = refl
-not_refused (Refused w k) e = absurd (true≢false e)
+not_refused (Err r) e = absurd (true≢false e)
 
 module _ (P : Params) (bs : List ℕ) (S : Sketch) where
   abbrev refused_at : ℕ → Bool

@@ -1,44 +1,21 @@
 -- What is due and what stands there: a stage of the reading by what is due, and a record by what was found of it.
-use mathlib.Core.Path.{◌≡◌, refl, ◌∙◌}
+use mathlib.Core.Path.{◌≡◌, refl, sym, ◌∙◌}
 use mathlib.Core.Bool.{Bool, true, false, not, cond, ◌&&◌, or-true}
 use mathlib.Core.Logic.{⊎_elim}
-use mathlib.Core.List.{List, [], ◌∷◌}
+use mathlib.Core.List.{List}
 use Prim.Native.Nat.{ℕ, ◌<◌}
-use native.Mathlib.Omega.{arith}
 use borrow.Author.Tests.{lt-leb}
 use lib.Dec.{eqb, leb}
 use lib.ListN.{length, get_or}
-use Rattle.params.specs.declared.params.Params.{Params}
-use Rattle.files.specs.declared.fields.End.{End}
-use Rattle.files.specs.declared.fields.End.TheVariants.{Of as EndOf}
 use Rattle.files.specs.Bytes.{word}
 use Rattle.files.specs.Records.{record_at, is_kind, is_head, head_kind, extended_head_kind, packets_kind, end_kind, head_kind_in}
 use Rattle.files.specs.Layout.{end_at}
 use Rattle.files.specs.Fields.{records_field}
 use Rattle.files.proofs.Standing.{kind_stands, head_kinds, head_inside}
 use Rattle.files.proofs.Bodies.{end_fields}
-use Rattle.files.proofs.EndStages.{end_found}
-use Rattle.desk.specs.declared.states.Stage.{Stage}
-use Rattle.desk.specs.declared.states.Stage.TheVariants.{UpstreamPackets, DownstreamHead, DownstreamPackets, Nothing, Refused as Stopped}
-use Rattle.desk.specs.declared.states.State.{State}
-use Rattle.desk.specs.declared.stages.Due.{Due}
 use Rattle.desk.specs.declared.stages.Due.TheVariants.{Here, NotYet, Other}
-use Rattle.desk.specs.Desk.{packets_due, head_due, nothing_due, due_of, due_end, due_head, end_state, end_stage, head_state, head_stage}
-
--- another stage than the one that a `let .. else` asks for
-pub not_head : (g : Stage) → (g ≡ DownstreamHead → ⊥) → head_due g ≡ false
-not_head UpstreamPackets h = refl
-not_head DownstreamHead h = absurd (h refl)
-not_head DownstreamPackets h = refl
-not_head Nothing h = refl
-not_head (Stopped w) h = refl
-
-pub not_nothing : (g : Stage) → (g ≡ Nothing → ⊥) → nothing_due g ≡ false
-not_nothing UpstreamPackets h = refl
-not_nothing DownstreamHead h = refl
-not_nothing DownstreamPackets h = refl
-not_nothing Nothing h = absurd (h refl)
-not_nothing (Stopped w) h = refl
+use Rattle.desk.specs.Desk.{due_of, due_end, due_head}
+use Rattle.std.specs.Prelude.{Option, Some}
 
 -- a record that was found to be there is whole
 here_whole : (kind : ℕ) (bs : List ℕ) → due_of kind bs ≡ Here → is_kind kind (record_at bs 0) ≡ true
@@ -46,10 +23,10 @@ unfolding due_of
 here_whole kind bs e = at (leb (length bs) 0) (is_kind kind (record_at bs 0)) (eqb (get_or bs 0 0) kind) refl e
   where
     at : (x y z : Bool) → is_kind kind (record_at bs 0) ≡ y → cond x NotYet (cond y Here (cond z NotYet Other)) ≡ Here → is_kind kind (record_at bs 0) ≡ true
-    at true y z q h = absurd (let w : ◌≡◌ {A = ℕ} 0 1 = cc in omega arith)
+    at true y z q h = cc
     at false true z q h = q
-    at false false true q h = absurd (let w : ◌≡◌ {A = ℕ} 0 1 = cc in omega arith)
-    at false false false q h = absurd (let w : ◌≡◌ {A = ℕ} 0 1 = cc in omega arith)
+    at false false true q h = cc
+    at false false false q h = cc
 
 -- and one that is whole is found
 pub due_here : (kind : ℕ) (bs : List ℕ) → 0 < length bs → is_kind kind (record_at bs 0) ≡ true → due_of kind bs ≡ Here
@@ -61,7 +38,7 @@ unfolding due_end
 end_whole bs e = at (not (leb (length bs) 0) && eqb (get_or bs 0 0) packets_kind) e
   where
     at : (b : Bool) → cond b NotYet (due_of end_kind bs) ≡ Here → is_kind end_kind (record_at bs 0) ≡ true
-    at true h = absurd (let w : ◌≡◌ {A = ℕ} 0 1 = cc in omega arith)
+    at true h = cc
     at false h = here_whole end_kind bs h
 
 -- a head of either kind: the one that the first byte says
@@ -90,17 +67,8 @@ head_here bs e = due_here (head_kind_in bs) bs (head_inside bs 0 e) (⊎_elim pl
     extended h = rw (← (kind_stands extended_head_kind bs 0 h).kind) h
 
 -- what a reader finds of an end that is whole
-pub end_said : (bs : List ℕ) (n : ℕ) → is_kind end_kind (record_at bs 0) ≡ true → end_at bs 0 ≡ EndOf n → n ≡ word bs records_field
-end_said bs n w e = (end_found bs 0 refl e).1
+pub end_said : (bs : List ℕ) (n : ℕ) → is_kind end_kind (record_at bs 0) ≡ true → end_at bs 0 ≡ Some n → n ≡ word bs records_field
+end_said bs n w e = let found : Some n ≡ Some (word bs records_field) = rw w at (sym e ∙ end_fields bs 0) in cc
 
-pub end_not_said : (bs : List ℕ) {r : End} → is_kind end_kind (record_at bs 0) ≡ true → r ≡ end_at bs 0 → ((n : ℕ) → r ≡ EndOf n → ⊥) → ⊥
+pub end_not_said : (bs : List ℕ) {r : (Option ℕ)} → is_kind end_kind (record_at bs 0) ≡ true → r ≡ end_at bs 0 → ((n : ℕ) → r ≡ Some n → ⊥) → ⊥
 end_not_said bs {r} w e h = h _ (rw w at (e ∙ end_fields bs 0))
-
--- where packets, or a head, are due, what stands there decides
-pub end_decides : (bs : List ℕ) (s t : State) (d : Due) → packets_due s.stage ≡ true → d ≡ due_end bs → t ≡ end_state d bs s → t ≡ end_stage bs s
-unfolding end_stage
-end_decides bs s t d e q h = h ∙ rw (e, q)
-
-pub head_decides : (P : Params) (bs : List ℕ) (s t : State) (d : Due) → s.stage ≡ DownstreamHead → d ≡ due_head bs → t ≡ head_state d P bs s → t ≡ head_stage P bs s
-unfolding head_stage
-head_decides P bs s t d e q h = h ∙ rw (e, q)

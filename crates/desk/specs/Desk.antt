@@ -1,14 +1,11 @@
 -- Records of an upstream stream and, directly after it, of a downstream one, as they come.
-use Rattle.std.specs.Prelude.{◌≡◌, Bool, true, false, not, cond, ◌&&◌, List, ℕ, ◌+◌, ◌-◌, ◌*◌, eqb, ltb, leb, length, get_or, take, drop}
+use Rattle.std.specs.Prelude.{◌≡◌, Bool, true, false, not, cond, ◌&&◌, List, ℕ, ◌+◌, ◌-◌, ◌*◌, eqb, ltb, leb, length, get_or, take, drop, Err}
 use Rattle.params.specs.declared.params.Params.{Params}
-use Rattle.params.specs.declared.params.Obtained.{Obtained}
 use Rattle.params.specs.declared.answers.Refusal.{Refusal}
 use Rattle.params.specs.declared.answers.Refusal.TheVariants.{Param, Mismatch, Form}
-use Rattle.params.specs.declared.answers.Answer.{Answer}
-use Rattle.params.specs.declared.answers.Answer.TheVariants.{Done, Refused}
 use Rattle.params.specs.Lists.{least}
-use Rattle.params.specs.Answers.{refuse_if, first, kept}
-use Rattle.params.specs.Params.{size, same_params, lent_answer, obtained}
+use Rattle.params.specs.Answers.{refuse_if, first, kept, Answer, Done, Refused, Given, given}
+use Rattle.params.specs.Params.{size, same_params, lent_answer}
 use Rattle.sketch.specs.Sketch.{Sketch}
 use Rattle.sketch.specs.Packets.{step_answer, after}
 use Rattle.files.specs.Bytes.{word}
@@ -34,8 +31,8 @@ few_enough P = leb (size P) most_buckets
 unfoldable pub begin_answer : List ℕ → Answer
 begin_answer bs = first (head_answer bs) (refuse_if (not (few_enough (params_in bs))) Param 0 Done)
 
-abbrev pub begin_of : List ℕ → Obtained
-begin_of bs = obtained (begin_answer bs) (params_in bs)
+abbrev pub begin_of : List ℕ → Given Params
+begin_of bs = given (begin_answer bs) (params_in bs)
 
 -- A state says what is due next, at which offset of the whole input, and how many records stood since the head.
 -- Below, bs are the bytes at hand: the first of them is the one at that offset.
@@ -80,7 +77,7 @@ nothing_due (Stopped w) = false
 -- what is due after packets with this answer: still packets or an end, unless one was refused
 unfoldable pub stage_after : Stage → Answer → Stage
 stage_after g Done = g
-stage_after g (Refused w k) = Stopped w
+stage_after g (Err r) = Stopped r.0
 
 -- what is due after the end of a stream
 abbrev pub after_end : Stage → Stage
@@ -92,7 +89,7 @@ after_end (Stopped w) = Stopped w
 
 abbrev pub refuses : Answer → Bool
 refuses Done = false
-refuses (Refused w k) = true
+refuses (Err r) = true
 
 -- the answer for the k-th of the packet records at hand, which goes into the sketch that those before it left
 unfoldable pub record_answer : Params → List ℕ → Sketch → ℕ → Answer
@@ -154,7 +151,7 @@ headed_state P s = record { stage = DownstreamPackets; at = s.at + head_length_o
 
 abbrev pub answered : Answer → State → State → State
 answered Done s next = next
-answered (Refused w k) s next = stopped w s
+answered (Err r) s next = stopped r.0 s
 
 abbrev pub head_state : Due → Params → List ℕ → State → State
 head_state NotYet P bs s = s
@@ -204,7 +201,7 @@ turned_down w s = record { stage = stage_turned_down w s.stage; at = s.at; recor
 
 abbrev pub unless_turned_down : Answer → State → State → State
 unless_turned_down Done s next = next
-unless_turned_down (Refused w k) s next = turned_down w s
+unless_turned_down (Err r) s next = turned_down r.0 s
 
 -- the upstream's records and its end, the downstream head, the downstream's records and its end, and nothing more
 module _ (P : Params) (bs : List ℕ) (up down : Sketch) (s : State) where

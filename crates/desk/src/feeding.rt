@@ -7,7 +7,7 @@ ghost use Rattle.desk.specs.Desk.{TakesRecords, Feeds};
 
 use crate::stages::{end_stage, head_stage, nothing_stage, packets_stage};
 use crate::states::{Fed, State, offsets_fit, turn_down};
-use params::{Answer, Params};
+use params::{Params, Refused};
 
 // Takes all whole records of the bytes at hand, up to one at fault; their first byte is the next of the input. Says how many bytes that used. The
 // rest is to be at hand again, with more behind it, at the next call. Parameters that break a rule and wrong lengths are refused before anything is taken; how many
@@ -30,7 +30,7 @@ pub fn feed(
         down_counts.len(),
         down_idsums.len(),
     );
-    if let Answer::Refused(refusal, _) = lent {
+    if let Err(Refused(refusal, _)) = lent {
         return Fed {
             state: turn_down(refusal, s),
             used: 0,
@@ -46,13 +46,10 @@ fn judge_both(
     up_idsums: usize,
     down_counts: usize,
     down_idsums: usize,
-) -> Answer
+) -> Result<(), Refused>
     ensures { result ≡ first (lent_answer p up_counts up_idsums) (lent_answer p down_counts down_idsums) }
 {
-    let upstream = p.judge_lent(up_counts, up_idsums);
-    let Answer::Done = upstream else {
-        return upstream;
-    };
+    p.judge_lent(up_counts, up_idsums)?;
     p.judge_lent(down_counts, down_idsums)
 }
 

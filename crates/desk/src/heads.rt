@@ -5,7 +5,7 @@ ghost use Rattle.files.specs.Records.{record_at, is_head};
 ghost use Rattle.desk.specs.Desk.{few_enough, begin_of, downstream_head_answer};
 
 use files::heads::head;
-use params::{Answer, Obtained, Params, Refusal};
+use params::{Params, Refusal, Refused};
 
 // A desk takes sketches of at most so many buckets.
 pub const MOST_BUCKETS: usize = 1536;
@@ -19,37 +19,26 @@ fn few_enough(p: Params) -> bool
 }
 
 // Judges the first head of the input, once as many bytes are at hand as the head has that its first byte says, or a first byte that none has, or the input has ended.
-pub fn begin(bytes: &[u8]) -> Obtained
+pub fn begin(bytes: &[u8]) -> Result<Params, Refused>
     ensures { result ≡ begin_of bytes.now }
 {
-    let h = head(bytes);
-    let judged = h.answer;
-    let Answer::Done = judged else {
-        return h;
-    };
-    let p = h.params;
+    let p = head(bytes)?;
     if !few_enough(p) {
-        return Obtained::none(Answer::Refused(Refusal::Param, 0));
+        return Err(Refused(Refusal::Param, 0));
     }
-    h
+    Ok(p)
 }
 
 // Judges a downstream head that stands first, against the first one's parameters.
-pub(crate) fn judge_downstream_head(p: Params, bytes: &[u8]) -> Answer
+pub(crate) fn judge_downstream_head(p: Params, bytes: &[u8]) -> Result<(), Refused>
     requires { is_head (record_at bytes.now 0) ≡ true }
     ensures { result ≡ downstream_head_answer p bytes.now }
 {
-    let h = head(bytes);
-    let judged = h.answer;
-    let Answer::Done = judged else {
-        return Answer::Refused(Refusal::Param, 0);
+    let Ok(q) = begin(bytes) else {
+        return Err(Refused(Refusal::Param, 0));
     };
-    let q = h.params;
-    if !few_enough(q) {
-        return Answer::Refused(Refusal::Param, 0);
-    }
     if !p.same(q) {
-        return Answer::Refused(Refusal::Mismatch, 0);
+        return Err(Refused(Refusal::Mismatch, 0));
     }
-    Answer::Done
+    Ok(())
 }

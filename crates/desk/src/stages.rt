@@ -6,14 +6,14 @@ ghost use Rattle.desk.specs.Desk.{is_due, packets_due, stage_after, after_end, t
 
 use crate::heads::judge_downstream_head;
 use crate::states::{Stage, State, stop};
-use files::fields::{End, Packets, end_at, packets_at};
+use files::fields::{end_at, packets_at};
 use files::heads::head_length;
 use files::records::{END, END_LENGTH, EXTENDED_HEAD, HEAD, PACKETS, PACKETS_LENGTH, is_kind};
-use params::{Answer, Params, Refusal};
-use sketch::packets::put_in;
+use params::{Params, Refusal, Refused};
+use sketch::packets::step;
 
 // What stands where a record of a kind is due: it, not yet all of it, or something else.
-#[derive(Clone, Copy)]
+#[derive(Clone, Copy, Debug, PartialEq, Eq)]
 pub(crate) enum Due {
     Here,
     NotYet,
@@ -24,7 +24,7 @@ pub(crate) enum Due {
 #[derive(Clone, Copy)]
 pub(crate) struct Run {
     pub taken: usize,
-    pub answer: Answer,
+    pub answer: Result<(), Refused>,
 }
 
 // Takes the packet records that stand first, up to one that is refused.
@@ -34,21 +34,17 @@ fn take_packets(p: Params, counts: &mut [i32], idsums: &mut [u32], bytes: &[u8])
 {
     let mut at = 0;
     let mut taken = 0;
-    loop {
-        let found = packets_at(bytes, at);
-        let Packets::Of(flow, number) = found else {
-            break;
-        };
-        let answer = put_in(p, counts, idsums, flow, number);
-        let Answer::Done = answer else {
+    while let Some((flow, number)) = packets_at(bytes, at) {
+        let answer = step(false, p, counts, idsums, flow, number);
+        if answer.is_err() {
             return Run { taken, answer };
-        };
+        }
         at += PACKETS_LENGTH;
         taken += 1;
     }
     Run {
         taken,
-        answer: Answer::Done,
+        answer: Ok(()),
     }
 }
 
@@ -59,9 +55,7 @@ fn is_due(downstream: bool, stage: Stage) -> bool
     match stage {
         Stage::UpstreamPackets => !downstream,
         Stage::DownstreamPackets => downstream,
-        Stage::DownstreamHead => false,
-        Stage::Nothing => false,
-        Stage::Refused(_) => false,
+        _ => false,
     }
 }
 
@@ -69,22 +63,16 @@ fn is_due(downstream: bool, stage: Stage) -> bool
 fn packets_due(stage: Stage) -> bool
     ensures { result ≡ packets_due stage }
 {
-    match stage {
-        Stage::UpstreamPackets => true,
-        Stage::DownstreamPackets => true,
-        Stage::DownstreamHead => false,
-        Stage::Nothing => false,
-        Stage::Refused(_) => false,
-    }
+    matches!(stage, Stage::UpstreamPackets | Stage::DownstreamPackets)
 }
 
 // What is due after packets with this answer.
-fn stage_after(stage: Stage, answer: Answer) -> Stage
+fn stage_after(stage: Stage, answer: Result<(), Refused>) -> Stage
     ensures { result ≡ stage_after stage answer }
 {
     match answer {
-        Answer::Done => stage,
-        Answer::Refused(refusal, _) => Stage::Refused(refusal),
+        Ok(()) => stage,
+        Err(Refused(refusal, _)) => Stage::Refused(refusal),
     }
 }
 
@@ -95,9 +83,7 @@ fn after_end(stage: Stage) -> Stage
     match stage {
         Stage::UpstreamPackets => Stage::DownstreamHead,
         Stage::DownstreamPackets => Stage::Nothing,
-        Stage::DownstreamHead => stage,
-        Stage::Nothing => stage,
-        Stage::Refused(_) => stage,
+        _ => stage,
     }
 }
 
@@ -114,14 +100,12 @@ pub(crate) fn packets_stage(
     ensures value { result ≡ packets_stage downstream p bytes.now (sketch counts.old idsums.old) s }
     ensures sketch_after { sketch counts.new idsums.new ≡ packets_sketch downstream p bytes.now (sketch counts.old idsums.old) s }
 {
-    let stage = s.stage;
-    if !is_due(downstream, stage) {
+    if !is_due(downstream, s.stage) {
         return s;
     }
     let run = take_packets(p, counts, idsums, bytes);
-    let answer = run.answer;
     State {
-        stage: stage_after(stage, answer),
+        stage: stage_after(s.stage, run.answer),
         at: s.at + PACKETS_LENGTH * run.taken,
         records: s.records + run.taken,
     }
@@ -131,29 +115,22 @@ pub(crate) fn packets_stage(
 fn due_of(kind: u8, bytes: &[u8]) -> Due
     ensures { result ≡ due_of kind bytes.now }
 {
-    if bytes.len() == 0 {
-        return Due::NotYet;
+    match bytes.first() {
+        None => Due::NotYet,
+        Some(_) if is_kind(bytes, 0, kind) => Due::Here,
+        Some(&first) if first == kind => Due::NotYet,
+        Some(_) => Due::Other,
     }
-    if is_kind(bytes, 0, kind) {
-        return Due::Here;
-    }
-    if bytes[0] != kind {
-        return Due::Other;
-    }
-    Due::NotYet
 }
 
 // The same where packets are due: an end may stand there, and packets that are not whole yet may.
 fn due_end(bytes: &[u8]) -> Due
     ensures { result ≡ due_end bytes.now }
 {
-    if bytes.len() == 0 {
-        return Due::NotYet;
+    match bytes.first() {
+        Some(&PACKETS) => Due::NotYet,
+        _ => due_of(END, bytes),
     }
-    if bytes[0] == PACKETS {
-        return Due::NotYet;
-    }
-    due_of(END, bytes)
 }
 
 // A whole end stands first.
@@ -161,16 +138,14 @@ fn take_end(s: State, bytes: &[u8]) -> State
     requires { (is_kind end_kind (record_at bytes.now 0) ≡ true) × (offsets_fit bytes.now s ≡ true) }
     ensures { result ≡ end_state Due.Here bytes.now s }
 {
-    let found = end_at(bytes, 0);
-    let End::Of(number) = found else {
+    let Some(number) = end_at(bytes, 0) else {
         return stop(Refusal::Form, s);
     };
     if number as usize != s.records {
         return stop(Refusal::Form, s);
     }
-    let stage = s.stage;
     State {
-        stage: after_end(stage),
+        stage: after_end(s.stage),
         at: s.at + END_LENGTH,
         records: 0,
     }
@@ -181,12 +156,10 @@ pub(crate) fn end_stage(s: State, bytes: &[u8]) -> State
     requires { offsets_fit bytes.now s ≡ true }
     ensures { result ≡ end_stage bytes.now s }
 {
-    let stage = s.stage;
-    if !packets_due(stage) {
+    if !packets_due(s.stage) {
         return s;
     }
-    let d = due_end(bytes);
-    match d {
+    match due_end(bytes) {
         Due::NotYet => s,
         Due::Other => stop(Refusal::Form, s),
         Due::Here => take_end(s, bytes),
@@ -197,13 +170,10 @@ pub(crate) fn end_stage(s: State, bytes: &[u8]) -> State
 fn due_head(bytes: &[u8]) -> Due
     ensures { result ≡ due_head bytes.now }
 {
-    if bytes.len() == 0 {
-        return Due::NotYet;
+    match bytes.first() {
+        Some(&EXTENDED_HEAD) => due_of(EXTENDED_HEAD, bytes),
+        _ => due_of(HEAD, bytes),
     }
-    if bytes[0] == EXTENDED_HEAD {
-        return due_of(EXTENDED_HEAD, bytes);
-    }
-    due_of(HEAD, bytes)
 }
 
 // A whole head stands first.
@@ -211,17 +181,13 @@ fn take_head(p: Params, s: State, bytes: &[u8]) -> State
     requires { (is_head (record_at bytes.now 0) ≡ true) × (offsets_fit bytes.now s ≡ true) }
     ensures { result ≡ head_state Due.Here p bytes.now s }
 {
-    let r = judge_downstream_head(p, bytes);
-    match r {
-        Answer::Done => {
-            let length = head_length(p);
-            State {
-                stage: Stage::DownstreamPackets,
-                at: s.at + length,
-                records: 0,
-            }
-        }
-        Answer::Refused(refusal, _) => stop(refusal, s),
+    match judge_downstream_head(p, bytes) {
+        Ok(()) => State {
+            stage: Stage::DownstreamPackets,
+            at: s.at + head_length(p),
+            records: 0,
+        },
+        Err(Refused(refusal, _)) => stop(refusal, s),
     }
 }
 
@@ -230,12 +196,10 @@ pub(crate) fn head_stage(p: Params, s: State, bytes: &[u8]) -> State
     requires { offsets_fit bytes.now s ≡ true }
     ensures { result ≡ head_stage p bytes.now s }
 {
-    let stage = s.stage;
-    let Stage::DownstreamHead = stage else {
+    let Stage::DownstreamHead = s.stage else {
         return s;
     };
-    let d = due_head(bytes);
-    match d {
+    match due_head(bytes) {
         Due::NotYet => s,
         Due::Other => stop(Refusal::Form, s),
         Due::Here => take_head(p, s, bytes),
@@ -246,11 +210,10 @@ pub(crate) fn head_stage(p: Params, s: State, bytes: &[u8]) -> State
 pub(crate) fn nothing_stage(s: State, bytes: &[u8]) -> State
     ensures { result ≡ nothing_stage bytes.now s }
 {
-    let stage = s.stage;
-    let Stage::Nothing = stage else {
+    let Stage::Nothing = s.stage else {
         return s;
     };
-    if 0 < bytes.len() {
+    if !bytes.is_empty() {
         return stop(Refusal::Form, s);
     }
     s

@@ -3,11 +3,11 @@ ghost use Rattle.std.specs.Prelude.{◌≡◌, ◌&&◌, ◌+◌, ltb};
 ghost use Rattle.desk.specs.Desk.{started, stopped, stage_turned_down, turned_down, finish_answer};
 
 use files::heads::head_length;
-use params::{Answer, Params, Refusal};
+use params::{Params, Refusal, Refused};
 
 // What is due next: packets or the end of the upstream stream, the downstream one's head, its packets or end, or nothing more; or
 // the refusal of the input.
-#[derive(Clone, Copy)]
+#[derive(Clone, Copy, Debug, PartialEq, Eq)]
 pub enum Stage {
     UpstreamPackets,
     DownstreamHead,
@@ -18,7 +18,7 @@ pub enum Stage {
 
 // What is due, the offset of the next byte in the whole input, and how many records stood since the head. The offset is that of
 // the record at fault where the input is refused.
-#[derive(Clone, Copy)]
+#[derive(Clone, Copy, Debug, PartialEq, Eq)]
 pub struct State {
     pub stage: Stage,
     pub at: usize,
@@ -26,7 +26,7 @@ pub struct State {
 }
 
 // A state, and how many bytes were used on the way to it.
-#[derive(Clone, Copy)]
+#[derive(Clone, Copy, Debug, PartialEq, Eq)]
 pub struct Fed {
     pub state: State,
     pub used: usize,
@@ -36,10 +36,9 @@ pub struct Fed {
 pub fn start(p: Params) -> State
     ensures { result ≡ started p }
 {
-    let length = head_length(p);
     State {
         stage: Stage::UpstreamPackets,
-        at: length,
+        at: head_length(p),
         records: 0,
     }
 }
@@ -50,8 +49,7 @@ pub(crate) fn stop(refusal: Refusal, s: State) -> State
 {
     State {
         stage: Stage::Refused(refusal),
-        at: s.at,
-        records: s.records,
+        ..s
     }
 }
 
@@ -61,10 +59,7 @@ fn stage_turned_down(refusal: Refusal, stage: Stage) -> Stage
 {
     match stage {
         Stage::Refused(_) => stage,
-        Stage::UpstreamPackets => Stage::Refused(refusal),
-        Stage::DownstreamHead => Stage::Refused(refusal),
-        Stage::DownstreamPackets => Stage::Refused(refusal),
-        Stage::Nothing => Stage::Refused(refusal),
+        _ => Stage::Refused(refusal),
     }
 }
 
@@ -72,11 +67,9 @@ fn stage_turned_down(refusal: Refusal, stage: Stage) -> Stage
 pub(crate) fn turn_down(refusal: Refusal, s: State) -> State
     ensures { result ≡ turned_down refusal s }
 {
-    let stage = s.stage;
     State {
-        stage: stage_turned_down(refusal, stage),
-        at: s.at,
-        records: s.records,
+        stage: stage_turned_down(refusal, s.stage),
+        ..s
     }
 }
 
@@ -84,22 +77,16 @@ pub(crate) fn turn_down(refusal: Refusal, s: State) -> State
 pub(crate) fn offsets_fit(s: State, len: usize) -> bool
     ensures { result ≡ (ltb (s.at + len) 18446744073709551616 && ltb (s.records + len) 18446744073709551616) }
 {
-    if 18446744073709551615 - s.at < len {
-        return false;
-    }
-    len <= 18446744073709551615 - s.records
+    len <= usize::MAX - s.at && len <= usize::MAX - s.records
 }
 
 // Judges the end of the input: nothing more was due, or the place and the number of what is at fault.
-pub fn finish(s: State) -> Answer
+pub fn finish(s: State) -> Result<(), Refused>
     ensures { result ≡ finish_answer s.stage s.at }
 {
-    let stage = s.stage;
-    match stage {
-        Stage::Nothing => Answer::Done,
-        Stage::Refused(refusal) => Answer::Refused(refusal, s.at),
-        Stage::UpstreamPackets => Answer::Refused(Refusal::Form, s.at),
-        Stage::DownstreamHead => Answer::Refused(Refusal::Form, s.at),
-        Stage::DownstreamPackets => Answer::Refused(Refusal::Form, s.at),
+    match s.stage {
+        Stage::Nothing => Ok(()),
+        Stage::Refused(refusal) => Err(Refused(refusal, s.at)),
+        _ => Err(Refused(Refusal::Form, s.at)),
     }
 }

@@ -2,16 +2,16 @@
 #![tactic(auto)]
 
 use lines::lines::LINE_ROOM;
-use params::Params;
+use params::{Params, Refused};
+use peel::Figures;
 use peel::peeling::peel;
-use peel::{Figures, Peeled};
 use sketch::packets::insert;
 use sums::subtract;
 
 // Room for a line for each of ten entries and ten buckets, and for the end.
 const ROOM: usize = 21 * LINE_ROOM;
 
-fn main(rt: HostRuntime) {
+fn main(rt: HostRuntime) -> Result<(), Refused> {
     // two arrays of five buckets, each with a multiplier and an offset; no fifth pair, so flows have no fingerprints
     let p = Params {
         d: 2,
@@ -24,18 +24,18 @@ fn main(rt: HostRuntime) {
     // upstream three packets of flow 7 and two of flow 12 are seen, downstream two of flow 7
     let mut counts = [0i32; 10];
     let mut idsums = [0u32; 10];
-    insert(p, &mut counts, &mut idsums, 7, 3);
-    insert(p, &mut counts, &mut idsums, 12, 2);
+    insert(p, &mut counts, &mut idsums, 7, 3)?;
+    insert(p, &mut counts, &mut idsums, 12, 2)?;
     let mut down_counts = [0i32; 10];
     let mut down_idsums = [0u32; 10];
-    insert(p, &mut down_counts, &mut down_idsums, 7, 2);
+    insert(p, &mut down_counts, &mut down_idsums, 7, 2)?;
     // the difference, peeled into a table with at most 80 pops
-    subtract(p, p, &mut counts, &mut idsums, &down_counts, &down_idsums);
+    subtract(p, p, &mut counts, &mut idsums, &down_counts, &down_idsums)?;
     let mut flows = [0u32; 10];
     let mut numbers = [0i32; 10];
     let mut queue = [0u32; 10];
     let mut marks = [0u32; 10];
-    let peeled = peel(
+    let figures = peel(
         p,
         &mut counts,
         &mut idsums,
@@ -44,10 +44,9 @@ fn main(rt: HostRuntime) {
         &mut queue,
         &mut marks,
         80,
-    );
-    if let Peeled::Ended(figures) = peeled {
-        print(&rt, &flows, &numbers, &counts, &idsums, figures);
-    }
+    )?;
+    print(&rt, &flows, &numbers, &counts, &idsums, figures);
+    Ok(())
 }
 
 // The lines of a report: the table, what is left in the buckets, and how the walk ended.

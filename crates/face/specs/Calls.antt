@@ -2,7 +2,7 @@
 -- gives. r and k are the number and the place that the caller is returned; S is the lent sketch before, S' after.
 use Rattle.std.specs.Prelude.{Bool, true, false, List, ℕ, length}
 use Rattle.params.specs.declared.params.Params.{Params}
-use Rattle.params.specs.Answers.{located_of}
+use Rattle.params.specs.Answers.{given}
 use Rattle.params.specs.Params.{lent_answer}
 use Rattle.params.specs.Positions.{position_answer, position, index}
 use Rattle.sketch.specs.Sketch.{Sketch, Freshened}
@@ -12,7 +12,6 @@ use Rattle.sums.specs.Sums.{combine_answer, Combined}
 use Rattle.peel.specs.Slices.{Slices}
 use Rattle.peel.specs.Peel.{peel_returns, Peels}
 use Rattle.files.specs.Heads.{head_of}
-use Rattle.files.specs.Writing.{written_of}
 use Rattle.streamfile.specs.Streams.{stream_answer, StreamRead}
 use Rattle.streamfile.specs.Writing as streams
 use Rattle.sketchfile.specs.Reading.{sketch_answer, SketchRead}
@@ -41,10 +40,10 @@ FoldedFor P m2 S r k ns S' = ParamsReturned (fold_returns P m2 S) r k ns × Fold
 
 -- n is the position, or the index, that the caller gets of flow f in array i
 abbrev pub PositionFor : Params → ℕ → ℕ → ℕ → ℕ → ℕ → Type 0
-PositionFor P i f r k n = LocatedReturned (located_of (position_answer P i f) (position P i f)) r k n
+PositionFor P i f r k n = LocatedReturned (given (position_answer P i f) (position P i f)) r k n
 
 abbrev pub IndexFor : Params → ℕ → ℕ → ℕ → ℕ → ℕ → Type 0
-IndexFor P i f r k n = LocatedReturned (located_of (position_answer P i f) (index P i f)) r k n
+IndexFor P i f r k n = LocatedReturned (given (position_answer P i f) (index P i f)) r k n
 
 -- ns are the fourteen numbers that the caller gets of the head of the file bs
 abbrev pub HeadReadFor : List ℕ → ℕ → ℕ → List ℕ → Type 0
@@ -59,11 +58,11 @@ SketchReadFor P bs S r k S' = AnswerReturned (sketch_answer P bs (length S.count
 -- n is the length that the caller is returned; out is the output before, out' after
 abbrev pub StreamWrittenFor : Params → List ℕ → List ℕ → List ℕ → ℕ → ℕ → ℕ → List ℕ → Type 0
 StreamWrittenFor P fs ns out r k n out' =
-    WrittenReturned (written_of (streams.stream_write_answer P fs ns (length out)) (length (streams.stream_bytes P fs ns))) (λ x. streams.StreamWritten P fs ns out x out') r k n
+    WrittenReturned (given (streams.stream_write_answer P fs ns (length out)) (length (streams.stream_bytes P fs ns))) (λ x. streams.StreamWritten P fs ns out x out') r k n
 
 abbrev pub SketchWrittenFor : Params → Sketch → List ℕ → ℕ → ℕ → ℕ → List ℕ → Type 0
 SketchWrittenFor P S out r k n out' =
-    WrittenReturned (written_of (sketches.sketch_write_answer P S (length out)) (length (sketches.sketch_bytes P S))) (λ x. sketches.SketchWritten P S out x out') r k n
+    WrittenReturned (given (sketches.sketch_write_answer P S (length out)) (length (sketches.sketch_bytes P S))) (λ x. sketches.SketchWritten P S out x out') r k n
 
 -- gs are the figures that the caller is returned; L is what the walk is lent, L' what it holds after
 abbrev pub PeelsFor : Params → ℕ → Slices → ℕ → ℕ → List ℕ → Slices → Type 0

@@ -1,15 +1,10 @@
 -- Fourteen numbers as parameters, and an answer as the numbers that a caller in C is returned.
-use Rattle.std.specs.Prelude.{◌≡◌, cond, ◌&&◌, List, [], ◌∷◌, ℕ, eqb, get_or, replicate}
+use Rattle.std.specs.Prelude.{◌≡◌, cond, ◌&&◌, List, [], ◌∷◌, ℕ, eqb, get_or, replicate, Ok, Err}
 use Rattle.params.specs.declared.params.Params.{Params}
-use Rattle.params.specs.declared.params.Obtained.{Obtained}
-use Rattle.params.specs.declared.answers.Answer.{Answer}
-use Rattle.params.specs.declared.answers.Located.{Located}
-use Rattle.params.specs.Answers.{number_in, index_in, located_number, located_index, located_at, kept}
+use Rattle.params.specs.Answers.{number_in, index_in, Answer, Given, value_in}
 use Rattle.params.specs.Params.{no_params}
-use Rattle.files.specs.declared.writing.Written.{Written}
-use Rattle.files.specs.Writing.{written_number, written_index, written_length}
-use Rattle.peel.specs.declared.peeling.Peeled.{Peeled}
-use Rattle.peel.specs.Peel.{peeled_number, peeled_index, peeled_ending, peeled_entries, peeled_lost, peeled_extra, peeled_pops}
+use Rattle.peel.specs.declared.peeling.Figures.{Figures}
+use Rattle.peel.specs.Peel.{peeled_ending, peeled_entries, peeled_lost, peeled_extra, peeled_pops}
 
 -- the number of the prime; there is one
 abbrev pub first_prime : ℕ
@@ -39,11 +34,12 @@ param_numbers P =
     ∷ first_prime ∷ P.a5 ∷ P.b5 ∷ 0 ∷ []
 
 -- those of parameters that a call returns: all 0 where it is refused
-abbrev pub obtained_numbers : Obtained → List ℕ
-obtained_numbers o = kept o.answer (replicate 14 0) (param_numbers o.params)
+abbrev pub obtained_numbers : Given Params → List ℕ
+obtained_numbers (Ok P) = param_numbers P
+obtained_numbers (Err r) = replicate 14 0
 
 -- the ending's number, the entries, the packets lost, those extra and the pops
-abbrev pub figures_in : Peeled → List ℕ
+abbrev pub figures_in : Given Figures → List ℕ
 figures_in x = peeled_ending x ∷ peeled_entries x ∷ peeled_lost x ∷ peeled_extra x ∷ peeled_pops x ∷ []
 
 -- What a caller is returned of an answer, its number and its place, where `Contract` is what the library promises of a call that
@@ -53,26 +49,26 @@ pub record AnswerReturned (answer : Answer) (Contract : Answer → Type 0) (numb
   pub place_returned : place ≡ index_in answer
   pub call : Contract answer
 
-pub record WrittenReturned (written : Written) (Contract : Written → Type 0) (number place bytes : ℕ) : Type 0 where
-  pub number_returned : number ≡ written_number written
-  pub place_returned : place ≡ written_index written
-  pub length_returned : bytes ≡ written_length written
+pub record WrittenReturned (written : Given ℕ) (Contract : Given ℕ → Type 0) (number place bytes : ℕ) : Type 0 where
+  pub number_returned : number ≡ number_in written
+  pub place_returned : place ≡ index_in written
+  pub length_returned : bytes ≡ value_in written
   pub call : Contract written
 
-pub record PeeledReturned (peeled : Peeled) (Contract : Peeled → Type 0) (number place : ℕ) (figures : List ℕ) : Type 0 where
-  pub number_returned : number ≡ peeled_number peeled
-  pub place_returned : place ≡ peeled_index peeled
+pub record PeeledReturned (peeled : Given Figures) (Contract : Given Figures → Type 0) (number place : ℕ) (figures : List ℕ) : Type 0 where
+  pub number_returned : number ≡ number_in peeled
+  pub place_returned : place ≡ index_in peeled
   pub figures_returned : figures ≡ figures_in peeled
   pub call : Contract peeled
 
 -- What a caller is returned of a position or an index, and of parameters: the number and the place, with what was found or with their
 -- fourteen numbers.
-pub record LocatedReturned (located : Located) (number place found : ℕ) : Type 0 where
-  pub number_returned : number ≡ located_number located
-  pub place_returned : place ≡ located_index located
-  pub found_returned : found ≡ located_at located
+pub record LocatedReturned (located : Given ℕ) (number place found : ℕ) : Type 0 where
+  pub number_returned : number ≡ number_in located
+  pub place_returned : place ≡ index_in located
+  pub found_returned : found ≡ value_in located
 
-pub record ParamsReturned (obtained : Obtained) (number place : ℕ) (numbers : List ℕ) : Type 0 where
-  pub number_returned : number ≡ number_in obtained.answer
-  pub place_returned : place ≡ index_in obtained.answer
+pub record ParamsReturned (obtained : Given Params) (number place : ℕ) (numbers : List ℕ) : Type 0 where
+  pub number_returned : number ≡ number_in obtained
+  pub place_returned : place ≡ index_in obtained
   pub numbers_returned : numbers ≡ obtained_numbers obtained

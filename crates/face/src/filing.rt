@@ -3,7 +3,7 @@ ghost use Rattle.sketch.specs.Sketch.{sketch};
 ghost use Rattle.face.specs.Returned.{params_of};
 ghost use Rattle.face.specs.Calls.{HeadReadFor, StreamReadFor, StreamWrittenFor, SketchReadFor, SketchWrittenFor};
 
-use crate::returned::{params_of, return_answer, return_params, return_written};
+use crate::returned::{params_of, return_answer, return_number, return_params};
 use files::heads::head;
 use sketchfile::reading::read_sketch;
 use sketchfile::writing::write_sketch;
@@ -28,7 +28,7 @@ pub fn gabunlitik_read_stream(
     ensures { StreamReadFor (params_of params.now) bytes.now (sketch counts.old idsums.old) result place.new (sketch counts.new idsums.new) }
 {
     let inserted = read_stream(params_of(params), counts, idsums, bytes);
-    return_answer(inserted, place)
+    return_answer(&inserted, place)
 }
 
 // Writes the stream file of these flows, each by its number.
@@ -43,7 +43,7 @@ pub fn gabunlitik_write_stream(
     ensures { StreamWrittenFor (params_of params.now) flows.now numbers.now out.old result place.new length.new out.new }
 {
     let stream = write_stream(params_of(params), flows, numbers, out);
-    return_written(stream, length, place)
+    return_number(stream, length, place)
 }
 
 // Reads a sketch file in place of the lent sketch's content.
@@ -57,7 +57,7 @@ pub fn gabunlitik_read_sketch(
     ensures { SketchReadFor (params_of params.now) bytes.now (sketch counts.old idsums.old) result place.new (sketch counts.new idsums.new) }
 {
     let replaced = read_sketch(params_of(params), counts, idsums, bytes);
-    return_answer(replaced, place)
+    return_answer(&replaced, place)
 }
 
 // Writes the file of a sketch.
@@ -72,5 +72,5 @@ pub fn gabunlitik_write_sketch(
     ensures { SketchWrittenFor (params_of params.now) (sketch counts.now idsums.now) out.old result place.new length.new out.new }
 {
     let stored = write_sketch(params_of(params), counts, idsums, out);
-    return_written(stored, length, place)
+    return_number(stored, length, place)
 }

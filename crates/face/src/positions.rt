@@ -2,7 +2,7 @@
 ghost use Rattle.face.specs.Returned.{params_of};
 ghost use Rattle.face.specs.Calls.{PositionFor, IndexFor};
 
-use crate::returned::{params_of, return_located, wide};
+use crate::returned::{params_of, return_number, wide};
 
 // The position of a flow in an array, 0 where it is refused; arrays count from 1.
 pub fn gabunlitik_position(
@@ -16,7 +16,7 @@ pub fn gabunlitik_position(
 {
     let p = params_of(params);
     let located = p.position(wide(array), flow);
-    return_located(located, position, place)
+    return_number(located, position, place)
 }
 
 // The index of the flow's bucket there, likewise.
@@ -31,5 +31,5 @@ pub fn gabunlitik_index(
 {
     let p = params_of(params);
     let located = p.index(wide(array), flow);
-    return_located(located, index, place)
+    return_number(located, index, place)
 }

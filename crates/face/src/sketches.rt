@@ -19,7 +19,7 @@ pub fn gabunlitik_fresh(
     ensures { FreshenedFor (params_of params.now) (sketch counts.old idsums.old) result place.new (sketch counts.new idsums.new) }
 {
     let cleared = fresh(params_of(params), counts, idsums);
-    return_answer(cleared, place)
+    return_answer(&cleared, place)
 }
 
 // Puts `number` packets of a flow in.
@@ -34,7 +34,7 @@ pub fn gabunlitik_insert(
     ensures { InsertedFor (params_of params.now) flow number (sketch counts.old idsums.old) result place.new (sketch counts.new idsums.new) }
 {
     let inserted = insert(params_of(params), counts, idsums, flow, number);
-    return_answer(inserted, place)
+    return_answer(&inserted, place)
 }
 
 // Takes `number` packets of a flow out again.
@@ -49,7 +49,7 @@ pub fn gabunlitik_withdraw(
     ensures { WithdrawnFor (params_of params.now) flow number (sketch counts.old idsums.old) result place.new (sketch counts.new idsums.new) }
 {
     let withdrawn = withdraw(params_of(params), counts, idsums, flow, number);
-    return_answer(withdrawn, place)
+    return_answer(&withdrawn, place)
 }
 
 // Puts many packets in, each flow by its number, or none of them.
@@ -64,7 +64,7 @@ pub fn gabunlitik_insert_all(
     ensures { AllInsertedFor (params_of params.now) flows.now numbers.now (sketch counts.old idsums.old) result place.new (sketch counts.new idsums.new) }
 {
     let all_inserted = insert_all(params_of(params), counts, idsums, flows, numbers);
-    return_answer(all_inserted, place)
+    return_answer(&all_inserted, place)
 }
 
 // Adds the other sketch to the first, bucket by bucket.
@@ -82,7 +82,7 @@ pub fn gabunlitik_add(
     let p = params_of(params);
     let q = params_of(other_params);
     let added = add(p, q, counts, idsums, other_counts, other_idsums);
-    return_answer(added, place)
+    return_answer(&added, place)
 }
 
 // Takes the other sketch from the first, bucket by bucket.
@@ -100,7 +100,7 @@ pub fn gabunlitik_subtract(
     let p = params_of(params);
     let q = params_of(other_params);
     let subtracted = subtract(p, q, counts, idsums, other_counts, other_idsums);
-    return_answer(subtracted, place)
+    return_answer(&subtracted, place)
 }
 
 // Folds a sketch to m2 buckets an array, and writes its parameters, all 0 where it is refused.

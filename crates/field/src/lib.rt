@@ -14,10 +14,7 @@ pub const P31: u32 = 2147483647;
 fn rest(p: u32, n: u64) -> u32
     ensures { result ≡ residue p (pos n) }
 {
-    if p == 0 {
-        return 0;
-    }
-    (n % p as u64) as u32
+    if p == 0 { 0 } else { (n % p as u64) as u32 }
 }
 
 // The residue of - n.
@@ -25,16 +22,13 @@ fn opposite(p: u32, n: u32) -> u32
     ensures { result ≡ residue p (neg_ℤ (pos n)) }
 {
     if n == 0 {
-        return 0;
+        0
+    } else if n < p {
+        p - n
+    } else {
+        let r = rest(p, n as u64);
+        if r == 0 { 0 } else { p - r }
     }
-    if n < p {
-        return p - n;
-    }
-    let r = rest(p, n as u64);
-    if r == 0 {
-        return 0;
-    }
-    p - r
 }
 
 pub fn multiply(p: u32, a: u32, b: u32) -> u32
@@ -48,9 +42,9 @@ pub fn raise(p: u32, c: i32) -> u32
     ensures { result ≡ residue p c }
 {
     if c < 0 {
-        opposite(p, (0 - c as i64) as u32)
+        opposite(p, c.unsigned_abs())
     } else {
-        rest(p, c as u64)
+        rest(p, c.unsigned_abs() as u64)
     }
 }
 
@@ -65,10 +59,7 @@ fn inverse(p: u32, a: u32) -> u32
         x = multiply(p, x, p - p / left);
         left = p % left;
     }
-    if left == 0 {
-        return 0;
-    }
-    x
+    if left == 0 { 0 } else { x }
 }
 
 // The one f below a prime p with c * f = s modulo p, where p does not divide c.

@@ -4,16 +4,16 @@ use mathlib.Core.List.{List, [], ◌∷◌, ◌++◌, map}
 use Prim.Native.Nat.{ℕ}
 use lib.ListN.{take}
 use Rattle.params.specs.declared.params.Params.{Params}
-use Rattle.params.specs.declared.answers.Answer.TheVariants.{Done, Refused}
 use Rattle.params.specs.declared.answers.Refusal.TheVariants.{Param, Mismatch, Form}
 use Rattle.params.specs.Lists.{below}
-use Rattle.params.specs.Answers.{kept}
+use Rattle.params.specs.Answers.{kept, Done, Refused}
 use Rattle.params.specs.Params.{pair_at, twins, good_dimensions, good_params, same_pair, same_params}
 use Rattle.files.specs.declared.records.Record.TheVariants.{Whole, Unknown, Cut, Missing}
 use Rattle.files.specs.Bytes.{word, word_bytes}
 use Rattle.files.specs.Records.{head_length_in, record_at, body_of, body_from}
 use Rattle.files.specs.Heads.{params_in_body, params_in, good_head, head_answer, head_of, parameters_answer}
 use Rattle.files.specs.Layout.{arrays_bytes, head_bytes}
+use Rattle.std.specs.Prelude.{Ok}
 
 -- the body of a head of two arrays of five buckets, up to its fourth pair; the head of both streams, and packets or an end
 abbrev arrays : List ℕ
@@ -45,7 +45,7 @@ pub e11_records :
 unfolding record_at
 e11_records = refl
 
-pub e11_head : head_of e11 ≡ record { answer = Done; params = K 0 0 }
+pub e11_head : head_of e11 ≡ Ok (K 0 0)
 unfolding record_at body_from word params_in_body params_in head_answer kept below pair_at twins good_dimensions good_params good_head
 e11_head = refl
 
@@ -63,7 +63,7 @@ e11_body = refl
 abbrev extended : ℕ → List ℕ
 extended x = 10 ∷ arrays ++ (0 ∷ 0 ∷ 158 ∷ 55 ∷ 0 ∷ 0 ∷ 0 ∷ x ∷ [])
 
-pub extended_head : head_of (extended 7) ≡ record { answer = Done; params = K 40503 7 }
+pub extended_head : head_of (extended 7) ≡ Ok (K 40503 7)
 unfolding record_at body_from word params_in_body params_in head_answer kept below pair_at twins good_dimensions good_params good_head
 extended_head = refl
 

@@ -1,20 +1,18 @@
 -- Heads there and back: the head that is written is read as the parameters, and a head that was read is the one that is written.
 use mathlib.Core.Path.{◌≡◌, refl, sym, ap, ap₂, ◌∙◌}
-use mathlib.Core.Bool.{Bool, true, false, not, cond, ◌&&◌, or-true}
+use mathlib.Core.Bool.{Bool, true, false, ◌&&◌}
 use mathlib.Core.List.{List, [], ◌∷◌, ◌++◌, append_assoc, append-nil}
 use Prim.Native.Nat.{ℕ, suc, ◌+◌, ◌≤◌, ◌<◌}
+use Rattle.std.proofs.lemmas.Grind.{common_steps}
 use native.Mathlib.Omega.{arith}
-use borrow.Author.Tests.{ltb-true, eqb-true, eq-eqb, not-false}
-use lib.Dec.{eqb, ltb, leb}
-use lib.ListN.{get_or, length, take, drop, length-append}
+use Rattle.std.proofs.Common.{rules}
+use lib.Dec.{ltb}
+use lib.ListN.{get_or, length, take, drop}
 use Rattle.params.specs.declared.params.Params.{Params}
-use Rattle.params.specs.declared.answers.Refusal.TheVariants.{Param, Mismatch, Form}
-use Rattle.params.specs.declared.answers.Answer.TheVariants.{Done}
 use Rattle.params.specs.Lists.{below}
-use Rattle.params.specs.Answers.{first}
-use Rattle.params.specs.Params.{prime, prime_of, fingerprinted, pair_ok, pair_at, twins, good_dimensions, good_params, same_pair, same_params, lengths_answer, lent_answer}
+use Rattle.params.specs.Answers.{first, Done}
+use Rattle.params.specs.Params.{prime, fingerprinted, pair_ok, pair_at, twins, good_dimensions, good_params, same_pair, same_params, lengths_answer, lent_answer}
 use Rattle.params.proofs.Searches.{and_true, below_at}
-use Rattle.params.proofs.Judging.{refuse_done, first_passed, first_done}
 use Rattle.params.proofs.Rules.{good_dimensions_lem, good_fifth}
 use Rattle.params.proofs.SameParams.{same_itself, dimensions_same, fifth_same, pair_same}
 use Rattle.files.specs.Bytes.{word, word_bytes}
@@ -27,17 +25,12 @@ use Rattle.files.proofs.Profiles.{extended_kind, extended_length, extended_bytes
 use Rattle.files.proofs.Standing.{kind_ends, head_is_kind}
 use Rattle.files.proofs.Bodies.{params_fields, plain_fields, extended_fields}
 use Rattle.files.proofs.RoundTrips.{digits_make, byte_then, word_then, two_words}
-use Rattle.files.proofs.RecordTrips.{record_whole, record_read}
+use Rattle.files.proofs.RecordTrips.{record_read}
+use Rattle.std.specs.Prelude.{Ok}
 
 -- the numbers of good parameters have four bytes
 pair_small : (used : Bool) (a b : ℕ) → pair_ok prime used a b ≡ true → (a < 4294967296) × (b < 4294967296)
-pair_small true a b e =
-    let h = and_true (leb 1 a && ltb a prime) (ltb b prime) e in
-    let k = and_true (leb 1 a) (ltb a prime) h.0 in
-    (omega (arith, ltb-true a prime k.1), omega (arith, ltb-true b prime h.1))
-pair_small false a b e =
-    let h = and_true (eqb a 0) (eqb b 0) e in
-    (omega (arith, eqb-true a 0 h.0), omega (arith, eqb-true b 0 h.1))
+pair_small used a b e = grind arith
 
 good_pair : (P : Params) (i : ℕ) → good_params P ≡ true → i < 4 → (get_or P.a i 0 < 4294967296) × (get_or P.b i 0 < 4294967296)
 unfolding good_params pair_at
@@ -47,10 +40,8 @@ good_pair P i g l =
 
 -- in the plain profile there is no fifth pair
 no_fifth : (P : Params) → good_params P ≡ true → fingerprinted P ≡ false → (P.a5 ≡ 0) × (P.b5 ≡ 0)
-no_fifth P g plain =
-    let unused : pair_ok (prime_of P) false P.a5 P.b5 ≡ true = ap (λ (used : Bool). pair_ok (prime_of P) used P.a5 P.b5) (sym plain) ∙ good_fifth P g in
-    let h = and_true (eqb P.a5 0) (eqb P.b5 0) unused in
-    (eqb-true _ _ h.0, eqb-true _ _ h.1)
+unfolding good_params
+no_fifth P g plain = grind arith
 
 -- all that a head can say of parameters: their first four pairs, and the fifth
 abbrev five_pairs : Params → ℕ → ℕ → Params
@@ -73,22 +64,7 @@ said_good P = refl
 
 said_same : (P : Params) → same_params P (said_of P) ≡ true
 unfolding same_params same_pair below
-said_same P =
-    let same : (n : ℕ) → eqb n n ≡ true = λ n. eq-eqb n n refl in
-    rw (
-      same P.d,
-      same P.m,
-      same (get_or P.a 0 0),
-      same (get_or P.b 0 0),
-      same (get_or P.a 1 0),
-      same (get_or P.b 1 0),
-      same (get_or P.a 2 0),
-      same (get_or P.b 2 0),
-      same (get_or P.a 3 0),
-      same (get_or P.b 3 0),
-      same P.a5,
-      same P.b5,
-    )
+said_same P = search rules
 
 said_alike : (P Q : Params) → same_params Q (said_of P) ≡ same_params Q P
 unfolding same_params same_pair below
@@ -98,30 +74,12 @@ said_alike P Q = refl
 module _ (P : Params) (good : good_params P ≡ true) (k : ℕ) where
   four_written : (zs : List ℕ) (x y : ℕ) → params_fields (arrays_bytes k P ++ zs) x y ≡ five_pairs P x y
   unfolding arrays_bytes word word_bytes
-  four_written zs x y =
-      let dimensions = good_dimensions_lem P good in
-      let p = good_pair P 0 good (omega arith) in
-      let q = good_pair P 1 good (omega arith) in
-      let r = good_pair P 2 good (omega arith) in
-      let s = good_pair P 3 good (omega arith) in
-      rw (
-        digits_make P.m (omega (arith, dimensions.m_high)),
-        digits_make (get_or P.a 0 0) p.0,
-        digits_make (get_or P.b 0 0) p.1,
-        digits_make (get_or P.a 1 0) q.0,
-        digits_make (get_or P.b 1 0) q.1,
-        digits_make (get_or P.a 2 0) r.0,
-        digits_make (get_or P.b 2 0) r.1,
-        digits_make (get_or P.a 3 0) s.0,
-        digits_make (get_or P.b 3 0) s.1,
-      )
+  four_written zs x y = search rules
 
   fifth_written : (ys : List ℕ) → let zs : List ℕ = arrays_bytes k P ++ ((word_bytes P.a5 ++ word_bytes P.b5) ++ ys) in
       (word zs (multiplier_field 4) ≡ P.a5) × (word zs (offset_field 4) ≡ P.b5)
   unfolding arrays_bytes word word_bytes
-  fifth_written ys =
-      let h = pair_small (fingerprinted P) P.a5 P.b5 (good_fifth P good) in
-      (digits_make P.a5 h.0, digits_make P.b5 h.1)
+  fifth_written ys = search rules
 
 -- a head that was written, and what follows it
 module _ (P : Params) (ys : List ℕ) where
@@ -132,20 +90,14 @@ module _ (P : Params) (ys : List ℕ) where
 
   -- it is as long as the profile says, by its bytes and by its first byte
   pub headed_long : length (head_bytes P ++ ys) ≡ head_length_of P + length ys
-  headed_long = length-append (head_bytes P) ys ∙ ap (λ (n : ℕ). n + length ys) (length_head_bytes P)
+  headed_long = grind (arith, common_steps, length_head_bytes)
 
   pub headed_length : head_length_in (head_bytes P ++ ys) ≡ head_length_of P
   headed_length = kind_long P (head_bytes P ++ ys) headed_kind
 
   headed : is_head (record_at (head_bytes P ++ ys) 0) ≡ true
-  headed = go (fingerprinted P) refl
-    where
-      whole : (k : ℕ) → head_kind_of P ≡ k → 0 < body_length k → is_kind k (record_at (head_bytes P ++ ys) 0) ≡ true
-      whole k e l = record_whole (head_bytes P ++ ys) 0 k (headed_kind ∙ e) l (omega (arith, headed_long, ap record_length e))
-
-      go : (b : Bool) → fingerprinted P ≡ b → is_head (record_at (head_bytes P ++ ys) 0) ≡ true
-      go true e = rw (whole extended_head_kind (extended_kind P e) (omega arith), or-true)
-      go false e = rw (whole head_kind (plain_kind P e) (omega arith))
+  unfolding record_at head_bytes arrays_bytes word_bytes
+  headed = search rules
 
   params_written : good_params P ≡ true → params_in (head_bytes P ++ ys) ≡ said_of P
   params_written g = go (fingerprinted P) refl
@@ -166,13 +118,11 @@ module _ (P : Params) (ys : List ℕ) where
           ∙ ap₂ (five_pairs P) (sym none.0) (sym none.1)
 
   good_written : good_params P ≡ true → good_head (head_bytes P ++ ys) ≡ true
-  good_written g =
-      let said = params_written g in
-      rules_kept (head_bytes P ++ ys) (ap good_params said ∙ said_good P ∙ g) (headed_kind ∙ sym (ap head_kind_of said))
+  good_written g = search (rules, headed_kind, params_written, rules_kept, said_good)
 
   -- it is accepted, and read as the parameters
-  pub head_written : good_params P ≡ true → head_of (head_bytes P ++ ys) ≡ record { answer = Done; params = said_of P }
-  head_written g = sym (good_head_lem (head_bytes P ++ ys) headed (good_written g)) ∙ ap (λ Q. record { answer = Done; params = Q }) (params_written g)
+  pub head_written : good_params P ≡ true → head_of (head_bytes P ++ ys) ≡ Ok (said_of P)
+  head_written g = sym (good_head_lem (head_bytes P ++ ys) headed (good_written g)) ∙ ap (λ Q. Ok Q) (params_written g)
 
   pub opening_written : (c s : ℕ) → good_params P ≡ true → opening_answer P (head_bytes P ++ ys) c s ≡ lengths_answer P c s
   unfolding parameters_answer first
@@ -184,7 +134,8 @@ module _ (P : Params) (ys : List ℕ) where
 
 -- the same parameters are of the same profile
 pub same_kind : (P Q : Params) → same_params P Q ≡ true → head_kind_of Q ≡ head_kind_of P
-same_kind P Q e = ap (λ (n : ℕ). cond (not (eqb n 0)) extended_head_kind head_kind) (sym (fifth_same P Q e).0)
+unfolding same_params
+same_kind P Q e = search rules
 
 -- where the opening is not refused
 pub record Opened (P : Params) (bs : List ℕ) (c s : ℕ) : Type 0 where
@@ -198,38 +149,19 @@ pub record Opened (P : Params) (bs : List ℕ) (c s : ℕ) : Type 0 where
 pub opened_length : {P : Params} {bs : List ℕ} {c s : ℕ} → Opened P bs c s → head_length_in bs ≡ head_length_of P
 opened_length {P} {bs} o = kind_long P bs ((good_parts bs o.file_good).1 ∙ same_kind P (params_in bs) o.same)
 
--- parameters that are not refused are good, and the lengths decide then
-parameters_good : (P : Params) (bs : List ℕ) → parameters_answer P bs ≡ Done → good_params P ≡ true
-unfolding parameters_answer
-parameters_good P bs e =
-    let h = refuse_done (not (is_head (record_at bs 0))) Form 0 _ e in
-    (and_true (good_head bs) (good_params P) (not-false _ (refuse_done (not (good_head bs && good_params P)) Param 0 _ h.1).0)).1
-
+-- where the parameters are not refused the lengths decide
 pub opening_lent : (P : Params) (bs : List ℕ) (c s : ℕ) → parameters_answer P bs ≡ Done → lent_answer P c s ≡ opening_answer P bs c s
-unfolding lent_answer
-opening_lent P bs c s e = rw (parameters_good P bs e) (sym (first_passed _ _ e))
+unfolding parameters_answer lent_answer first
+opening_lent P bs c s e = search rules
 
 pub opening_done : (P : Params) (bs : List ℕ) (c s : ℕ) → opening_answer P bs c s ≡ Done → Opened P bs c s
-unfolding parameters_answer
-opening_done P bs c s e =
-    let both = first_done (parameters_answer P bs) (lengths_answer P c s) e in
-    let h = refuse_done (not (is_head (record_at bs 0))) Form 0 _ both.0 in
-    let k = refuse_done (not (good_head bs && good_params P)) Param 0 _ h.1 in
-    let l = refuse_done (not (same_params P (params_in bs))) Mismatch 0 Done k.1 in
-    record {
-      head = not-false _ h.0;
-      good = (and_true (good_head bs) (good_params P) (not-false _ k.0)).1;
-      file_good = (and_true (good_head bs) (good_params P) (not-false _ k.0)).0;
-      same = not-false _ l.0;
-      lengths = both.1;
-    }
+unfolding parameters_answer first
+opening_done P bs c s e = search rules
 
 -- an accepted head is whole and good
 pub head_accepted : (bs : List ℕ) → head_answer bs ≡ Done → (is_head (record_at bs 0) ≡ true) × (good_head bs ≡ true)
 unfolding head_answer
-head_accepted bs e =
-    let h = refuse_done (not (is_head (record_at bs 0))) Form 0 _ e in
-    (not-false _ h.0, not-false _ (refuse_done (not (good_head bs)) Param 0 Done h.1).0)
+head_accepted bs e = search rules
 
 -- and as long as its profile says
 pub accepted_length : (bs : List ℕ) → head_answer bs ≡ Done → head_length_in bs ≡ head_length_of (params_in bs)
@@ -239,12 +171,7 @@ accepted_length bs e = kind_long (params_in bs) bs (good_parts bs (head_accepted
 module _ (bs : List ℕ) (small : (k : ℕ) → get_or bs k 0 < 256) where
   pair_then : {a b : ℕ} {xs : List ℕ} (at n : ℕ) → at + 8 ≤ length bs → a ≡ word bs at → b ≡ word bs (at + 4) → xs ≡ take n (drop (at + 8) bs)
       → (word_bytes a ++ word_bytes b) ++ xs ≡ take (n + 8) (drop at bs)
-  pair_then {a} {b} {xs} at n h p q r =
-      let bytes : 4 + (4 + n) ≡ n + 8 = omega arith in
-      append_assoc (word_bytes a) (word_bytes b) xs
-      ∙ ap₂ {C = List ℕ} (λ a ys. word_bytes a ++ ys) p
-      (ap₂ {C = List ℕ} (λ b ys. word_bytes b ++ ys) q r ∙ word_then bs small (at + 4) (at + 8) n (omega arith) (omega arith))
-      ∙ word_then bs small at (at + 4) (4 + n) (omega arith) refl ∙ ap (λ (k : ℕ). take k (drop at bs)) bytes
+  pair_then at n h p q r = grind (arith, common_steps, word_then bs small)
 
   -- a head of kind k, with n bytes after its fourth pair
   module _ (P : Params) (k n : ℕ) (h : is_kind k (record_at bs 0) ≡ true) (l : body_length k ≡ body_length head_kind + n) where
@@ -295,6 +222,4 @@ module _ (bs : List ℕ) (small : (k : ℕ) → get_or bs k 0 < 256) where
 
   -- and so the parameters of an accepted head are written as they stand
   pub accepted_written : head_answer bs ≡ Done → head_bytes (params_in bs) ≡ take (head_length_in bs) bs
-  accepted_written e =
-      let h = head_accepted bs e in
-      head_read (params_in bs) h.0 h.1 (same_itself (params_in bs)) ∙ ap (λ (n : ℕ). take n bs) (sym (accepted_length bs e))
+  accepted_written e = search (rules, accepted_length, head_accepted, head_read, same_itself)

@@ -1,4 +1,5 @@
--- The laws of records, heads, counts and ends, read and written, which the proofs of this crate and of those above it cite.
+-- The laws of records, heads and ends, read and written, which the proofs of this crate and of those above it cite.
+pub mod FirstByte
 pub mod Standing
 pub mod Profiles
 pub mod Bodies
@@ -6,8 +7,6 @@ pub mod HeadStages
 pub mod RoundTrips
 pub mod RecordTrips
 pub mod HeadTrips
-pub mod Counts
-pub mod EndStages
 pub mod Turning
 pub mod InOrder
 pub mod Overwriting

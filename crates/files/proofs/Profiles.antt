@@ -1,17 +1,17 @@
 -- The head of each profile: its bytes, and how long it is.
-use mathlib.Core.Path.{◌≡◌, refl, sym, ap, ◌∙◌}
-use mathlib.Core.Bool.{Bool, true, false}
+use mathlib.Core.Path.{◌≡◌, refl}
+use mathlib.Core.Bool.{true, false}
 use mathlib.Core.List.{List, ◌++◌, append-nil}
 use Prim.Native.Nat.{ℕ, ◌≤◌}
 use native.Mathlib.Omega.{arith}
-use lib.ListN.{get_or, length, length-append}
+use Rattle.std.proofs.Common.{rules}
+use lib.ListN.{get_or, length}
 use Rattle.params.specs.declared.params.Params.{Params}
 use Rattle.params.specs.Params.{fingerprinted}
 use Rattle.files.specs.Bytes.{word_bytes}
 use Rattle.files.specs.Records.{record_length, head_length_in, head_kind, extended_head_kind}
 use Rattle.files.specs.Heads.{head_kind_of, head_length_of}
 use Rattle.files.specs.Layout.{arrays_bytes, head_bytes}
-use Rattle.files.proofs.Standing.{plain_long, extended_long}
 
 module _ (P : Params) where
   pub length_arrays_bytes : (k : ℕ) → length (arrays_bytes k P) ≡ record_length head_kind
@@ -44,33 +44,14 @@ module _ (P : Params) where
 
   -- a written head is as long as its profile says
   pub length_head_bytes : length (head_bytes P) ≡ head_length_of P
-  unfolding word_bytes
-  length_head_bytes = go (fingerprinted P) refl
-    where
-      go : (b : Bool) → fingerprinted P ≡ b → length (head_bytes P) ≡ head_length_of P
-      go true e =
-          let pair : List ℕ = word_bytes P.a5 ++ word_bytes P.b5 in
-          omega (arith, ap length (extended_bytes e), length-append (arrays_bytes (head_kind_of P) P) pair, length_arrays_bytes (head_kind_of P), extended_length e)
-      go false e = omega (arith, ap length (plain_bytes e), length_arrays_bytes (head_kind_of P), plain_length e)
+  unfolding head_bytes arrays_bytes word_bytes
+  length_head_bytes = search rules
 
-  -- four pairs at the least, and five at the most
-  bounds : (record_length head_kind ≤ head_length_of P) × (head_length_of P ≤ record_length extended_head_kind)
-  bounds = go (fingerprinted P) refl
-    where
-      go : (b : Bool) → fingerprinted P ≡ b → (record_length head_kind ≤ head_length_of P) × (head_length_of P ≤ record_length extended_head_kind)
-      go true e = let long = extended_length e in (omega arith, omega arith)
-      go false e = let long = plain_length e in (omega arith, omega arith)
-
-  pub length_least : record_length head_kind ≤ head_length_of P
-  length_least = bounds.0
-
+  -- five pairs at the most
   pub length_most : head_length_of P ≤ record_length extended_head_kind
-  length_most = bounds.1
+  length_most = grind arith
 
 -- a head of the profile's kind is as long as the profile says
 pub kind_long : (P : Params) (bs : List ℕ) → get_or bs 0 0 ≡ head_kind_of P → head_length_in bs ≡ head_length_of P
-kind_long P bs e = go (fingerprinted P) refl
-  where
-    go : (b : Bool) → fingerprinted P ≡ b → head_length_in bs ≡ head_length_of P
-    go true q = extended_long bs (e ∙ extended_kind P q) ∙ sym (extended_length P q)
-    go false q = plain_long bs (e ∙ plain_kind P q) ∙ sym (plain_length P q)
+unfolding head_length_in
+kind_long P bs e = search rules

@@ -1,6 +1,7 @@
 -- Laws of records one after the other: how far a reader has come, and which record decides.
+use Rattle.std.proofs.Common.{rules}
 use mathlib.Core.Path.{◌≡◌, refl, sym, ap, ◌∙◌}
-use mathlib.Core.Bool.{Bool, true, false, not, cond}
+use mathlib.Core.Bool.{Bool, true, false, not}
 use mathlib.Core.Logic.{⊎_elim}
 use mathlib.Core.List.{List}
 use Prim.Native.Nat.{ℕ, zero, suc, ◌+◌, ◌-◌, ◌≤◌, ◌<◌}
@@ -12,14 +13,13 @@ use borrow.Author.Tests.{ltb-true, ltb-false, not-false}
 use lib.Dec.{ltb}
 use lib.ListN.{length}
 use Rattle.params.specs.declared.answers.Refusal.{Refusal}
-use Rattle.params.specs.declared.answers.Answer.{Answer}
-use Rattle.params.specs.declared.answers.Answer.TheVariants.{Done, Refused}
 use Rattle.params.specs.Lists.{least}
 use Rattle.params.proofs.Searches.{least_skip, scan_start, scan_next, scan_found, scan_end, none_found, nothing_found}
 use Rattle.params.proofs.Judging.{Refuses, first_refused, first_passed, first_done, first_either}
 use Rattle.params.proofs.Lowest.{least_lowest}
 use Rattle.files.specs.Records.{record_at, is_kind}
 use Rattle.files.specs.Turns.{in_turn, records_of}
+use Rattle.params.specs.Answers.{Answer, Done, Refused}
 
 -- records in turn: those that pass give way to the next
 in_turn_past : (i k n : ℕ) (judge : ℕ → Answer) → ((j : ℕ) → k ≤ j → j < k + i → judge j ≡ Done) → in_turn k (i + n) judge ≡ in_turn (k + i) n judge
@@ -86,11 +86,7 @@ in_turn_earliest n judge w k e = earliest_same (zero-add n) (earliest_from 0 n j
 least_from_lem : (n k : ℕ) (t : ℕ → Bool) → k ≤ least k n t
 unfolding least
 least_from_lem zero k t = omega arith
-least_from_lem (suc n) k t = at (t k) (least_from_lem n (suc k) t)
-  where
-    at : (b : Bool) → suc k ≤ least (suc k) n t → k ≤ cond b k (least (suc k) n t)
-    at true h = omega arith
-    at false h = omega arith
+least_from_lem (suc n) k t = grind (arith, least_from_lem n (suc k) t)
 
 before_least : (n j : ℕ) (t : ℕ → Bool) → j < least 0 n t → t j ≡ false
 before_least n j t l = at (ltb (least 0 n t) n) refl
@@ -115,11 +111,7 @@ module _ (kind : ℕ) (place : ℕ → ℕ) (bs : List ℕ) where
   come_next i l e q = scan_next (length bs) i _ other l (ap not e) q
 
   pub come_end : (i : ℕ) → is_kind kind (record_at bs (place i)) ≡ false → Come i → i ≡ records_of kind place bs
-  come_end i e q = at (ltb i (length bs)) refl
-    where
-      at : (b : Bool) → ltb i (length bs) ≡ b → i ≡ records_of kind place bs
-      at true h = scan_found (length bs) i _ other (ltb-true i (length bs) h) (ap not e) q
-      at false h = scan_end (length bs) i _ other (ltb-false i (length bs) h) q
+  come_end i e q = search (rules, ltb-false, ltb-true, scan_end, scan_found)
 
   pub come_within : (i : ℕ) → Come i → i ≤ records_of kind place bs
   come_within i q = rw q (least_from_lem (length bs - i) i other)

@@ -1,12 +1,9 @@
 -- The head of a file: d (1 byte), m (4), then four pairs of a multiplier (4) and an offset (4), and with fingerprints the fifth; and what is judged with it.
 use Rattle.std.specs.Prelude.{Bool, not, cond, ◌&&◌, List, [], ◌∷◌, ℕ, eqb, get_or}
 use Rattle.params.specs.declared.params.Params.{Params}
-use Rattle.params.specs.declared.params.Obtained.{Obtained}
 use Rattle.params.specs.declared.answers.Refusal.TheVariants.{Param, Mismatch, Form}
-use Rattle.params.specs.declared.answers.Answer.{Answer}
-use Rattle.params.specs.declared.answers.Answer.TheVariants.{Done}
-use Rattle.params.specs.Answers.{refuse_if}
-use Rattle.params.specs.Params.{fingerprinted, good_params, same_params, obtained}
+use Rattle.params.specs.Answers.{refuse_if, Answer, Done, Given, given}
+use Rattle.params.specs.Params.{fingerprinted, good_params, same_params}
 use Rattle.files.specs.Bytes.{word}
 use Rattle.files.specs.Records.{head_kind, extended_head_kind, record_length, record_at, is_head, body_from}
 use Rattle.files.specs.Fields.{arrays_in_body, buckets_in_body, multiplier_in_body, offset_in_body}
@@ -45,8 +42,8 @@ head_answer bs =
     (refuse_if (not (good_head bs)) Param 0
     Done)
 
-abbrev pub head_of : List ℕ → Obtained
-head_of bs = obtained (head_answer bs) (params_in bs)
+abbrev pub head_of : List ℕ → Given Params
+head_of bs = given (head_answer bs) (params_in bs)
 
 -- what is judged first of a file: the head, the parameters in it and those that are given, and whether they are the same. The
 -- lengths of the lent counts and idsums come after them.

@@ -1,13 +1,7 @@
 -- The bytes of each record, and what the fields of a body say.
-use Rattle.std.specs.Prelude.{cond, List, [], ◌∷◌, ◌++◌, ℕ, eqb, ℤ, get_or, length}
+use Rattle.std.specs.Prelude.{cond, List, [], ◌∷◌, ◌++◌, ℕ, eqb, ℤ, get_or, length, None, Option, Some}
 use Rattle.params.specs.declared.params.Params.{Params}
 use Rattle.params.specs.Params.{fingerprinted}
-use Rattle.files.specs.declared.fields.Packets.{Packets}
-use Rattle.files.specs.declared.fields.Packets.TheVariants.{Of as PacketsOf, No as NoPackets}
-use Rattle.files.specs.declared.fields.Bucket.{Bucket}
-use Rattle.files.specs.declared.fields.Bucket.TheVariants.{Of as BucketOf, No as NoBucket}
-use Rattle.files.specs.declared.fields.End.{End}
-use Rattle.files.specs.declared.fields.End.TheVariants.{Of as EndOf, No as NoEnd}
 use Rattle.files.specs.Bytes.{word, word_bytes, count_word, count_of}
 use Rattle.files.specs.Records.{body_length, body_of_kind, packets_kind, bucket_kind, end_kind}
 use Rattle.files.specs.Heads.{head_kind_of}
@@ -42,23 +36,23 @@ end_bytes n = end_kind ∷ word_bytes n
 
 -- What the fields of a body say, where it has as many bytes as its kind fixes; and of the body of a whole record of the kind at an offset:
 -- the flow and the number of packets
-unfoldable pub packets_in_body : List ℕ → Packets
-packets_in_body xs = cond (eqb (length xs) (body_length packets_kind)) (PacketsOf (word xs flow_in_body) (word xs number_in_body)) NoPackets
+unfoldable pub packets_in_body : List ℕ → Option (ℕ × ℕ)
+packets_in_body xs = cond (eqb (length xs) (body_length packets_kind)) (Some ((word xs flow_in_body), (word xs number_in_body))) None
 
-unfoldable pub packets_at : List ℕ → ℕ → Packets
+unfoldable pub packets_at : List ℕ → ℕ → Option (ℕ × ℕ)
 packets_at bs at = packets_in_body (body_of_kind packets_kind bs at)
 
 -- the index, the count and the idsum of a bucket
-unfoldable pub bucket_in_body : List ℕ → Bucket
+unfoldable pub bucket_in_body : List ℕ → Option (ℕ × ℤ × ℕ)
 bucket_in_body xs =
-    cond (eqb (length xs) (body_length bucket_kind)) (BucketOf (word xs index_in_body) (count_of (word xs count_in_body)) (word xs idsum_in_body)) NoBucket
+    cond (eqb (length xs) (body_length bucket_kind)) (Some ((word xs index_in_body), (count_of (word xs count_in_body)), (word xs idsum_in_body))) None
 
-unfoldable pub bucket_at : List ℕ → ℕ → Bucket
+unfoldable pub bucket_at : List ℕ → ℕ → Option (ℕ × ℤ × ℕ)
 bucket_at bs at = bucket_in_body (body_of_kind bucket_kind bs at)
 
 -- how many records an end says there were
-unfoldable pub end_in_body : List ℕ → End
-end_in_body xs = cond (eqb (length xs) (body_length end_kind)) (EndOf (word xs records_in_body)) NoEnd
+unfoldable pub end_in_body : List ℕ → Option ℕ
+end_in_body xs = cond (eqb (length xs) (body_length end_kind)) (Some (word xs records_in_body)) None
 
-unfoldable pub end_at : List ℕ → ℕ → End
+unfoldable pub end_at : List ℕ → ℕ → Option ℕ
 end_at bs at = end_in_body (body_of_kind end_kind bs at)

@@ -1,10 +1,8 @@
 -- Records one after the other: the earliest at fault decides, then the end.
-use Rattle.std.specs.Prelude.{not, List, ℕ, zero, suc, ◌+◌, ◌*◌, eqb, ltb, length}
+use Rattle.std.specs.Prelude.{not, List, ℕ, zero, suc, ◌+◌, ◌*◌, eqb, ltb, length, Err}
 use Rattle.params.specs.declared.answers.Refusal.TheVariants.{Form}
-use Rattle.params.specs.declared.answers.Answer.{Answer}
-use Rattle.params.specs.declared.answers.Answer.TheVariants.{Done, Refused}
 use Rattle.params.specs.Lists.{least}
-use Rattle.params.specs.Answers.{refuse_if, first}
+use Rattle.params.specs.Answers.{refuse_if, first, Answer, Done, Refused}
 use Rattle.files.specs.Bytes.{word}
 use Rattle.files.specs.Records.{record_at, is_kind, offset_of, end_kind, head_length_in, packets_length, bucket_length, end_length}
 use Rattle.files.specs.Fields.{records_field}
@@ -12,7 +10,7 @@ use Rattle.files.specs.Fields.{records_field}
 -- a refusal with an offset in place of its index
 unfoldable pub at_offset : ℕ → Answer → Answer
 at_offset at Done = Done
-at_offset at (Refused w k) = Refused w at
+at_offset at (Err r) = Refused r.0 at
 
 -- the answers for records k, k + 1, .., n of them: the first that refuses decides
 unfoldable pub in_turn : ℕ → ℕ → (ℕ → Answer) → Answer

@@ -2,26 +2,25 @@
 ghost use Rattle.std.specs.Prelude.{◌≡◌};
 ghost use Rattle.files.specs.Turns.{end_answer};
 
-use crate::fields::{End, end_at};
+use crate::fields::end_at;
 use crate::records::END_LENGTH;
-use params::{Answer, Refusal};
+use params::{Refusal, Refused};
 
 // A whole end that says how many records there were, and no byte after it.
-pub fn judge_end(bytes: &[u8], at: usize, n: usize) -> Answer
+pub fn judge_end(bytes: &[u8], at: usize, n: usize) -> Result<(), Refused>
     ensures { result ≡ end_answer bytes.now at n }
 {
     if bytes.len() <= at {
-        return Answer::Refused(Refusal::Form, bytes.len());
+        return Err(Refused(Refusal::Form, bytes.len()));
     }
-    let found = end_at(bytes, at);
-    let End::Of(records) = found else {
-        return Answer::Refused(Refusal::Form, at);
+    let Some(records) = end_at(bytes, at) else {
+        return Err(Refused(Refusal::Form, at));
     };
     if records as usize != n {
-        return Answer::Refused(Refusal::Form, at);
+        return Err(Refused(Refusal::Form, at));
     }
     if at + END_LENGTH < bytes.len() {
-        return Answer::Refused(Refusal::Form, at + END_LENGTH);
+        return Err(Refused(Refusal::Form, at + END_LENGTH));
     }
-    Answer::Done
+    Ok(())
 }

@@ -45,80 +45,58 @@ pub(crate) const MULTIPLIER_5_IN_BODY: usize = OFFSET_4_IN_BODY + 4;
 
 pub(crate) const OFFSET_5_IN_BODY: usize = MULTIPLIER_5_IN_BODY + 4;
 
-// A flow and a number of its packets, or no whole record of packets.
-#[derive(Clone, Copy)]
-pub enum Packets {
-    Of(u32, u32),
-    No,
-}
-
-// An index, a count and an idsum, or no whole bucket.
-#[derive(Clone, Copy)]
-pub enum Bucket {
-    Of(u32, i32, u32),
-    No,
-}
-
-// How many records an end says there were, or no whole end.
-#[derive(Clone, Copy)]
-pub enum End {
-    Of(u32),
-    No,
-}
-
 // The count that 32 bits stand for in two's complement.
 fn count_of(n: u32) -> i32
     ensures { result ≡ count_of n }
 {
-    if n < 2147483648 {
-        return n as i32;
-    }
-    (n as i64 - 4294967296) as i32
+    n.cast_signed()
 }
 
-// What a body says: no packets, no bucket, no end where it has not as many bytes as one of that kind.
-pub fn packets_in(body: &[u8]) -> Packets
+// What a body says: a flow and a number of its packets, or none where it has not as many bytes as a body of packets.
+pub fn packets_in(body: &[u8]) -> Option<(u32, u32)>
     ensures { result ≡ packets_in_body body.now }
 {
     if body.len() != PACKETS_BODY {
-        return Packets::No;
+        return None;
     }
-    Packets::Of(word(body, FLOW_IN_BODY), word(body, NUMBER_IN_BODY))
+    Some((word(body, FLOW_IN_BODY), word(body, NUMBER_IN_BODY)))
 }
 
-pub fn bucket_in(body: &[u8]) -> Bucket
+// The index, the count and the idsum of a bucket, likewise.
+pub fn bucket_in(body: &[u8]) -> Option<(u32, i32, u32)>
     ensures { result ≡ bucket_in_body body.now }
 {
     if body.len() != BUCKET_BODY {
-        return Bucket::No;
+        return None;
     }
     let count = count_of(word(body, COUNT_IN_BODY));
-    Bucket::Of(word(body, INDEX_IN_BODY), count, word(body, IDSUM_IN_BODY))
+    Some((word(body, INDEX_IN_BODY), count, word(body, IDSUM_IN_BODY)))
 }
 
-pub fn end_in(body: &[u8]) -> End
+// How many records an end says there were, likewise.
+pub fn end_in(body: &[u8]) -> Option<u32>
     ensures { result ≡ end_in_body body.now }
 {
     if body.len() != END_BODY {
-        return End::No;
+        return None;
     }
-    End::Of(word(body, RECORDS_IN_BODY))
+    Some(word(body, RECORDS_IN_BODY))
 }
 
 // And the body of the record at an offset.
-pub fn packets_at(bytes: &[u8], at: usize) -> Packets
+pub fn packets_at(bytes: &[u8], at: usize) -> Option<(u32, u32)>
     ensures { result ≡ packets_at bytes.now at }
 {
     packets_in(body_of(bytes, at, PACKETS))
 }
 
-pub fn bucket_at(bytes: &[u8], at: usize) -> Bucket
+pub fn bucket_at(bytes: &[u8], at: usize) -> Option<(u32, i32, u32)>
     ensures { result ≡ bucket_at bytes.now at }
 {
     bucket_in(body_of(bytes, at, BUCKET))
 }
 
-pub fn end_at(bytes: &[u8], at: usize) -> End
+pub fn end_at(bytes: &[u8], at: usize) -> Option<u32>
     ensures { result ≡ end_at bytes.now at }
 {
     end_in(body_of(bytes, at, END))

@@ -11,16 +11,17 @@ use crate::fields::{
     OFFSET_2_IN_BODY, OFFSET_3_IN_BODY, OFFSET_4_IN_BODY, OFFSET_5_IN_BODY,
 };
 use crate::records::{EXTENDED_HEAD, EXTENDED_HEAD_LENGTH, HEAD, HEAD_LENGTH, body, is_head, word};
-use params::{Answer, Obtained, Params, Refusal};
+use params::{Params, Refusal, Refused};
 
 // The kind of the head that a profile has.
 pub(crate) fn head_kind(p: Params) -> u8
     ensures { result ≡ head_kind_of p }
 {
     if p.fingerprinted() {
-        return EXTENDED_HEAD;
+        EXTENDED_HEAD
+    } else {
+        HEAD
     }
-    HEAD
 }
 
 // And its length.
@@ -28,19 +29,17 @@ pub fn head_length(p: Params) -> usize
     ensures { result ≡ head_length_of p }
 {
     if p.fingerprinted() {
-        return EXTENDED_HEAD_LENGTH;
+        EXTENDED_HEAD_LENGTH
+    } else {
+        HEAD_LENGTH
     }
-    HEAD_LENGTH
 }
 
 // The length of the head in a file, by its first byte.
 pub fn head_length_in(bytes: &[u8]) -> usize
     ensures { result ≡ head_length_in bytes.now }
 {
-    if bytes.len() == 0 {
-        return HEAD_LENGTH;
-    }
-    if bytes[0] == EXTENDED_HEAD {
+    if bytes.first() == Some(&EXTENDED_HEAD) {
         EXTENDED_HEAD_LENGTH
     } else {
         HEAD_LENGTH
@@ -90,44 +89,33 @@ fn params_in(body: &[u8]) -> Params
 fn good_head(kind: u8, p: Params) -> bool
     ensures { result ≡ (good_params p && eqb kind (head_kind_of p)) }
 {
-    if !p.check() {
-        return false;
-    }
-    kind == head_kind(p)
+    p.check() && kind == head_kind(p)
 }
 
 // Judges the head of a file and reads its parameters.
-pub fn head(bytes: &[u8]) -> Obtained
+pub fn head(bytes: &[u8]) -> Result<Params, Refused>
     ensures { result ≡ head_of bytes.now }
 {
     if !is_head(bytes, 0) {
-        return Obtained::none(Answer::Refused(Refusal::Form, 0));
+        return Err(Refused(Refusal::Form, 0));
     }
     let p = params_in(body(bytes, 0));
     if !good_head(bytes[0], p) {
-        return Obtained::none(Answer::Refused(Refusal::Param, 0));
+        return Err(Refused(Refusal::Param, 0));
     }
-    Obtained {
-        answer: Answer::Done,
-        params: p,
-    }
+    Ok(p)
 }
 
 // What is judged first of a file: the head, the parameters in it and the given ones, and whether they are the same.
-pub fn judge_parameters(p: Params, bytes: &[u8]) -> Answer
+pub fn judge_parameters(p: Params, bytes: &[u8]) -> Result<(), Refused>
     ensures { result ≡ parameters_answer p bytes.now }
 {
-    let h = head(bytes);
-    let judged = h.answer;
-    let Answer::Done = judged else {
-        return judged;
-    };
+    let q = head(bytes)?;
     if !p.check() {
-        return Answer::Refused(Refusal::Param, 0);
+        return Err(Refused(Refusal::Param, 0));
     }
-    let q = h.params;
     if !p.same(q) {
-        return Answer::Refused(Refusal::Mismatch, 0);
+        return Err(Refused(Refusal::Mismatch, 0));
     }
-    Answer::Done
+    Ok(())
 }

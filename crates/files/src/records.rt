@@ -39,7 +39,7 @@ pub const END_LENGTH: usize = 1 + END_BODY;
 
 // What stands at an offset: a whole record of its kind, and where the next begins; one that is cut; one of no known kind; or
 // nothing.
-#[derive(Clone, Copy)]
+#[derive(Clone, Copy, Debug, PartialEq, Eq)]
 pub enum Record {
     Whole(u8, usize),
     Cut,
@@ -51,22 +51,14 @@ pub enum Record {
 fn body_length(kind: u8) -> usize
     ensures { result ≡ body_length kind }
 {
-    if kind == HEAD {
-        return HEAD_BODY;
+    match kind {
+        HEAD => HEAD_BODY,
+        PACKETS => PACKETS_BODY,
+        BUCKET => BUCKET_BODY,
+        END => END_BODY,
+        EXTENDED_HEAD => EXTENDED_HEAD_BODY,
+        _ => 0,
     }
-    if kind == PACKETS {
-        return PACKETS_BODY;
-    }
-    if kind == BUCKET {
-        return BUCKET_BODY;
-    }
-    if kind == END {
-        return END_BODY;
-    }
-    if kind == EXTENDED_HEAD {
-        return EXTENDED_HEAD_BODY;
-    }
-    0
 }
 
 pub fn record_at(bytes: &[u8], at: usize) -> Record
@@ -90,29 +82,21 @@ pub fn record_at(bytes: &[u8], at: usize) -> Record
 pub fn is_kind(bytes: &[u8], at: usize, kind: u8) -> bool
     ensures { result ≡ is_kind kind (record_at bytes.now at) }
 {
-    let found = record_at(bytes, at);
-    let Record::Whole(k, _) = found else {
-        return false;
-    };
-    k == kind
+    matches!(record_at(bytes, at), Record::Whole(k, _) if k == kind)
 }
 
 // Whether a whole head stands there, of either profile.
 pub fn is_head(bytes: &[u8], at: usize) -> bool
     ensures { result ≡ is_head (record_at bytes.now at) }
 {
-    if is_kind(bytes, at, HEAD) {
-        return true;
-    }
-    is_kind(bytes, at, EXTENDED_HEAD)
+    is_kind(bytes, at, HEAD) || is_kind(bytes, at, EXTENDED_HEAD)
 }
 
 // The body of the record at an offset, a part of the lent bytes; an empty part at their start where no whole record stands there.
 pub fn body(bytes: &[u8], at: usize) -> &[u8]
     ensures { Body at bytes.entry.ref_ptr bytes.now result.ref_ptr result.now }
 {
-    let found = record_at(bytes, at);
-    let Record::Whole(_, next) = found else {
+    let Record::Whole(_, next) = record_at(bytes, at) else {
         return &bytes[..0];
     };
     let start = at + 1;
@@ -134,7 +118,5 @@ pub(crate) fn word(bytes: &[u8], at: usize) -> u32
     requires { at + 4 ≤ length bytes.now }
     ensures { result ≡ «word_of» bytes.now at }
 {
-    let high = bytes[at] as u32 * 256 + bytes[at + 1] as u32;
-    let low = bytes[at + 2] as u32 * 256 + bytes[at + 3] as u32;
-    high * 65536 + low
+    u32::from_be_bytes([bytes[at], bytes[at + 1], bytes[at + 2], bytes[at + 3]])
 }

@@ -13,7 +13,7 @@ use crate::fields::{
 };
 use crate::heads::{head_kind, head_length};
 use crate::records::{BUCKET, BUCKET_LENGTH, END, END_LENGTH, PACKETS, PACKETS_LENGTH};
-use params::{Params, Refusal};
+use params::Params;
 
 // Where the fields of a record stand, counted from its kind byte.
 const FLOW_AT: usize = 1 + FLOW_IN_BODY;
@@ -42,31 +42,18 @@ const MULTIPLIER_4_AT: usize = 1 + MULTIPLIER_4_IN_BODY;
 
 const MULTIPLIER_5_AT: usize = 1 + MULTIPLIER_5_IN_BODY;
 
-// How many bytes were written, or the refusal.
-#[derive(Clone, Copy)]
-pub enum Written {
-    Bytes(usize),
-    Refused(Refusal, usize),
-}
-
 // A count as 32 bits, in two's complement.
 fn count_word(c: i32) -> u32
     ensures { result ≡ count_word c }
 {
-    if c < 0 {
-        return (c as i64 + 4294967296) as u32;
-    }
-    c as u32
+    c.cast_unsigned()
 }
 
 // Whether so many bytes from an offset on lie within the output.
 fn fits(long: usize, at: usize, bytes: usize) -> bool
     ensures { result ≡ leb (at + bytes) long }
 {
-    if long < bytes {
-        return false;
-    }
-    at <= long - bytes
+    at.checked_add(bytes).is_some_and(|end| end <= long)
 }
 
 // Four bytes, the highest first.
@@ -74,10 +61,7 @@ fn put_word(out: &mut [u8], at: usize, n: u32)
     requires { at + 4 ≤ length out.old }
     ensures { out.new ≡ overwritten out.old at (word_bytes n) }
 {
-    out[at] = (n / 16777216) as u8;
-    out[at + 1] = (n / 65536 % 256) as u8;
-    out[at + 2] = (n / 256 % 256) as u8;
-    out[at + 3] = (n % 256) as u8;
+    out[at..at + 4].copy_from_slice(&n.to_be_bytes());
 }
 
 // A pair of a head.
@@ -94,11 +78,10 @@ fn put_arrays(out: &mut [u8], kind: u8, p: Params)
     requires { (good_params p ≡ true) × (record_length head_kind ≤ length out.old) }
     ensures { out.new ≡ overwritten out.old 0 (arrays_bytes kind p) }
 {
-    let a = p.a;
-    let b = p.b;
+    let Params { d, m, a, b, .. } = p;
     out[0] = kind;
-    out[ARRAYS_AT] = p.d as u8;
-    put_word(out, BUCKETS_AT, p.m as u32);
+    out[ARRAYS_AT] = d as u8;
+    put_word(out, BUCKETS_AT, m as u32);
     put_pair(out, MULTIPLIER_1_AT, a[0], b[0]);
     put_pair(out, MULTIPLIER_2_AT, a[1], b[1]);
     put_pair(out, MULTIPLIER_3_AT, a[2], b[2]);

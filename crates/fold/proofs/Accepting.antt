@@ -7,9 +7,8 @@ use lib.Dec.{eqb, leb}
 use lib.ListN.{length}
 use Rattle.params.specs.declared.params.Params.{Params}
 use Rattle.params.specs.declared.answers.Refusal.TheVariants.{Damage, Range, Fold}
-use Rattle.params.specs.declared.answers.Answer.TheVariants.{Done}
 use Rattle.params.specs.Lists.{below}
-use Rattle.params.specs.Answers.{refuse_if}
+use Rattle.params.specs.Answers.{refuse_if, Done}
 use Rattle.params.specs.Params.{size, lent_answer}
 use Rattle.params.proofs.Searches.{and_true, below_at, all_below}
 use Rattle.params.proofs.Judging.{first_done, first_passed, refuse_done, refuse_at_done, refuse_none}

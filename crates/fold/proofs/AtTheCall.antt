@@ -10,17 +10,16 @@ use lib.ListN.{length, replicate, get_or-eq_default}
 use lib.Seq.{take_at}
 use Rattle.field.specs.Residue.{residue}
 use Rattle.field.proofs.Residues.{residue_below}
+use Rattle.std.specs.Prelude.{Ok}
 use Rattle.params.specs.declared.params.Params.{Params}
-use Rattle.params.specs.declared.params.Obtained.{Obtained}
 use Rattle.params.specs.declared.answers.Refusal.{Refusal}
 use Rattle.params.specs.declared.answers.Refusal.TheVariants.{Damage, Range}
-use Rattle.params.specs.declared.answers.Answer.{Answer}
-use Rattle.params.specs.declared.answers.Answer.TheVariants.{Done, Refused}
-use Rattle.params.specs.Answers.{kept}
-use Rattle.params.specs.Params.{prime, size, no_params, resized, good_params, obtained}
+use Rattle.params.specs.Answers.{kept, Answer, Done, Refused, Given, given, answer_of}
+use Rattle.params.specs.Params.{prime, size, resized, good_params}
 use Rattle.params.specs.Lists.{padded}
 use Rattle.params.proofs.Changes.{padded_long, padded_past}
 use Rattle.params.proofs.InOrder.{GoesBy, goes_by}
+use Rattle.params.proofs.Judging.{answer_given}
 use Rattle.params.proofs.Lowest.{Lowest}
 use Rattle.params.proofs.Rules.{lent_good, resized_good}
 use Rattle.buckets.specs.Buckets.{in_limits, damaged}
@@ -39,6 +38,28 @@ use Rattle.fold.proofs.OfLists.{folded_list}
 use Rattle.fold.proofs.Again.{foldable_on, count_on, folded_twice, folded_same}
 use Rattle.fold.proofs.InOrder.{fold_number, fold_index}
 use Rattle.fold.proofs.Lowest.{fold_lowest_damage, fold_lowest_range}
+
+-- what was judged: a refusal goes by the table, and an answer that is done comes with the old parameters and m2 buckets an array
+module _ {P : Params} {m2 : ℕ} {S S' : Sketch} {r : Given Params} (f : Folded P m2 S r S') where
+  judged_as : answer_of r ≡ fold_answer P m2 S
+  judged_as = ap answer_of f.answer ∙ answer_given (fold_answer P m2 S) (resized P m2)
+
+  pub fold_goes_by : GoesBy (fold_fault P m2 S) (answer_of r)
+  fold_goes_by = goes_by judged_as (fold_number P m2 S) (fold_index P m2 S)
+
+  -- the index is that of the lowest damaged bucket, or of the lowest bucket of the folded sketch whose whole sum leaves the limits
+  pub fold_damage : {k : ℕ} → r ≡ Refused Damage k → Lowest (size P) (λ j. damaged (count_in S j) (idsum_in S j)) k
+  fold_damage {k} e = fold_lowest_damage P m2 S k (sym judged_as ∙ ap answer_of e)
+
+  pub fold_range : {k : ℕ} → r ≡ Refused Range k → Lowest (P.d * m2) (λ j. not (in_limits (whole_count P.d P.m m2 S.counts j))) k
+  fold_range {k} e = (fold_lowest_range P m2 S k (sym judged_as ∙ ap answer_of e)).0
+
+  pub fold_done : answer_of r ≡ Done → r ≡ folded_to (resized P m2)
+  fold_done e = f.answer ∙ ap (λ (a : Answer). given a (resized P m2)) (sym judged_as ∙ e)
+
+  pub fold_refused : {w : Refusal} {k : ℕ} → r ≡ Refused w k → S' ≡ S
+  unfolding kept
+  fold_refused e = f.after ∙ rw e
 
 -- how many buckets the folded sketch has
 module _ (P : Params) (m2 : ℕ) (S : Sketch) where
@@ -62,15 +83,14 @@ module _ (P : Params) (m2 : ℕ) (S : Sketch) where
 module _ {P Q : Params} {m2 : ℕ} {S S' : Sketch} (f : Folded P m2 S (folded_to Q) S') where
   -- nothing was refused, so all that is judged holds
   pub not_refused : fold_answer P m2 S ≡ Done
-  not_refused = sym (ap (λ o. o.answer) f.answer)
+  not_refused = sym (judged_as f)
 
   pub all_accepted : FoldAccepted P m2 S
   all_accepted = accepted P m2 S not_refused
 
   -- the parameters are those that were there, with m2 buckets an array, and keep the rules
   pub params_are : Q ≡ resized P m2
-  unfolding kept
-  params_are = ap (λ o. o.params) f.answer ∙ rw not_refused
+  params_are = let e : Ok Q ≡ Ok (resized P m2) = fold_done f refl in cc
 
   pub params_good : good_params Q ≡ true
   params_good =
@@ -140,8 +160,8 @@ module _ {P Q : Params} {m2 : ℕ} {S S' : Sketch} (f : Folded P m2 S (folded_to
   pub all_after_fold : {gs ns : List ℕ} {k : ℕ} {T : Sketch} → AllInserted Q gs ns (front (size Q) S') (Refused Damage k) T → ⊥
   all_after_fold h = all_whole folded_whole h
 
-  pub fold_after_fold : {m3 k : ℕ} {T : Sketch} {r : Obtained} → Folded Q m3 (front (size Q) S') r T → r.answer ≡ Refused Damage k → ⊥
-  fold_after_fold {m3} {k} h e = no_damage (fold_lowest_damage Q m3 (front (size Q) S') k (sym (ap (λ o. o.answer) h.answer) ∙ e))
+  pub fold_after_fold : {m3 k : ℕ} {T : Sketch} {r : Given Params} → Folded Q m3 (front (size Q) S') r T → r ≡ Refused Damage k → ⊥
+  fold_after_fold h e = no_damage (fold_damage h e)
 
   -- the sketch of a list becomes the list's sketch with the new parameters, in both fields
   pub fold_of_list : (es : List Entry) → S ≡ sketch_of P es → front (size Q) S' ≡ sketch_of Q es
@@ -182,11 +202,11 @@ twice_accepted P m2 m3 S a b =
     }
 
 -- to m2 and then to m3 is to m3: the fold at once has the same parameters and the same sketch
-pub fold_twice : {P Q R : Params} {m2 m3 : ℕ} {S S' S'' T : Sketch} {r : Obtained} → Folded P m2 S (folded_to Q) S' → Folded Q m3 (front (size Q) S') (folded_to R) S''
+pub fold_twice : {P Q R : Params} {m2 m3 : ℕ} {S S' S'' T : Sketch} {r : Given Params} → Folded P m2 S (folded_to Q) S' → Folded Q m3 (front (size Q) S') (folded_to R) S''
     → Folded P m3 S r T → (r ≡ folded_to R) × (front (size R) T ≡ front (size R) S'')
 unfolding kept
 fold_twice {P} {Q} {R} {m2} {m3} {S} {S'} {S''} {T} {r} f g h =
-    (returned, front_is (subst (λ (o : Obtained). Folded P m3 S o T) returned h) ∙ sym (folded_twice P m2 m3 (all_accepted f).asked next.asked S) ∙ sym second)
+    (returned, front_is (subst (λ (o : Given Params). Folded P m3 S o T) returned h) ∙ sym (folded_twice P m2 m3 (all_accepted f).asked next.asked S) ∙ sym second)
   where
     next : FoldAccepted (resized P m2) m3 (folded P m2 S)
     next = subst (λ (X : Params). FoldAccepted X m3 (folded P m2 S)) (params_are f) (subst (λ (X : Sketch). FoldAccepted Q m3 X) (front_is f) (all_accepted g))
@@ -197,30 +217,5 @@ fold_twice {P} {Q} {R} {m2} {m3} {S} {S'} {S''} {T} {r} f g h =
     returned : r ≡ folded_to R
     returned =
         h.answer
-        ∙ ap (λ (a : Answer). obtained a (resized P m3)) (accepted_done P m3 S (twice_accepted P m2 m3 S (all_accepted f) next))
+        ∙ ap (λ (a : Answer). given a (resized P m3)) (accepted_done P m3 S (twice_accepted P m2 m3 S (all_accepted f) next))
         ∙ ap folded_to (sym (params_are g ∙ ap (λ (X : Params). resized X m3) (params_are f)))
-
--- an answer that is done comes with the old parameters and m2 buckets an array; a refusal with no parameters, and the sketch is as it was
-pub fold_done : {P : Params} {m2 : ℕ} {S S' : Sketch} {r : Obtained} → Folded P m2 S r S' → r.answer ≡ Done → r ≡ folded_to (resized P m2)
-unfolding kept
-fold_done {P} {m2} f e = f.answer ∙ ap (λ (a : Answer). obtained a (resized P m2)) (sym (ap (λ o. o.answer) f.answer) ∙ e)
-
-pub fold_refused : {P : Params} {m2 : ℕ} {S S' : Sketch} {r : Obtained} {w : Refusal} {k : ℕ} → Folded P m2 S r S' → r.answer ≡ Refused w k → (r.params ≡ no_params) × (S' ≡ S)
-unfolding kept
-fold_refused f e =
-    let judged = sym (ap (λ o. o.answer) f.answer) ∙ e in
-    (ap (λ o. o.params) f.answer ∙ rw judged, f.after ∙ rw e)
-
-module _ {P : Params} {m2 : ℕ} {S S' : Sketch} {r : Obtained} (f : Folded P m2 S r S') where
-  judged_as : r.answer ≡ fold_answer P m2 S
-  judged_as = ap (λ o. o.answer) f.answer
-
-  pub fold_goes_by : GoesBy (fold_fault P m2 S) r.answer
-  fold_goes_by = goes_by judged_as (fold_number P m2 S) (fold_index P m2 S)
-
-  -- the index is that of the lowest damaged bucket, or of the lowest bucket of the folded sketch whose whole sum leaves the limits
-  pub fold_damage : {k : ℕ} → r.answer ≡ Refused Damage k → Lowest (size P) (λ j. damaged (count_in S j) (idsum_in S j)) k
-  fold_damage {k} e = fold_lowest_damage P m2 S k (sym judged_as ∙ e)
-
-  pub fold_range : {k : ℕ} → r.answer ≡ Refused Range k → Lowest (P.d * m2) (λ j. not (in_limits (whole_count P.d P.m m2 S.counts j))) k
-  fold_range {k} e = (fold_lowest_range P m2 S k (sym judged_as ∙ e)).0

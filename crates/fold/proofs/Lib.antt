@@ -1,6 +1,5 @@
 -- The laws of folding, which the proofs of this crate and of those above it cite.
 pub mod Totals
-pub mod Adding
 pub mod Sources
 pub mod Zeroing
 pub mod Turns

@@ -6,13 +6,13 @@ use lib.ListN.{length}
 use Rattle.params.specs.declared.params.Params.{Params}
 use Rattle.params.specs.declared.answers.Refusal.{Refusal}
 use Rattle.params.specs.declared.answers.Refusal.TheVariants.{Damage, Range, Fold}
-use Rattle.params.specs.declared.answers.Answer.TheVariants.{Refused}
 use Rattle.params.specs.Params.{size}
 use Rattle.params.proofs.Lowest.{Lowest}
 use Rattle.buckets.specs.Buckets.{in_limits, damaged}
 use Rattle.sketch.specs.Sketch.{Sketch, count_in, idsum_in}
 use Rattle.sketch.proofs.Lowest.{damage_lowest, range_lowest, of_bucket, refuse_late, first_late, lent_early}
 use Rattle.fold.specs.Fold.{divides, whole_count, leaves_folded, fold_buckets_answer, fold_answer}
+use Rattle.params.specs.Answers.{Refused}
 
 module _ (P : Params) (m2 : ℕ) (S : Sketch) (k : ℕ) where
   fold_late : (w : Refusal) → of_bucket w ≡ true → fold_answer P m2 S ≡ Refused w k → fold_buckets_answer P m2 S ≡ Refused w k

@@ -1,7 +1,7 @@
 -- Where the buckets that go into one stand: bucket k of the folded sketch has m / m2 sources, in one array, each m2 behind the one before it.
 use mathlib.Core.Path.{◌≡◌, sym, ap, ap₂, ◌∙◌}
 use mathlib.Core.Bool.{Bool, cond}
-use Prim.Native.Nat.{ℕ, suc, ◌+◌, ◌-◌, ◌*◌, ◌/◌, ◌%◌, ◌≤◌, ◌<◌}
+use Prim.Native.Nat.{ℕ, suc, ◌+◌, ◌*◌, ◌/◌, ◌%◌, ◌≤◌, ◌<◌}
 use native.Mathlib.Nat.{mod-lt, mod-eq_of_lt, mod-add-div', mul-add-div_right, mul-add-mod_self_right, add-mul-mod_self_right, div-eq_of_lt, div-lt_iff_lt-mul, div-mul_cancel, dvd_of_mod-eq-zero, le_of_dvd, mul-le-mul_left, mul-le-mul_right, suc-mul}
 use native.Mathlib.Omega.{arith}
 use borrow.Author.Tests.{eq-eqb, ne_eqb}
@@ -83,17 +83,3 @@ module _ (m m2 : ℕ) (low : 1 ≤ m2) (m_low : 1 ≤ m) (whole : m % m2 ≡ 0) 
       (λ p q h. omega (arith, suc-mul p m2, mul-le-mul_right {m = suc p} {n = q} m2 h))
       (λ s h miss. ap (λ (b : Bool). cond b (t s) (pos 0)) (ne_eqb (target m m2 s) k (λ e. let g = goes_source k s e in miss (s % m / m2) g.0 g.1)))
       ∙ total_same (m / m2) _ _ (λ q h. ap (λ (b : Bool). cond b (t (start_of m m2 k + q * m2)) (pos 0)) (eq-eqb (target m m2 (start_of m m2 k + q * m2)) k (source_goes k q h)))
-
-  -- from one target to the next: in the same array, or to the start of the next one
-  pub start_next : (k : ℕ) → (k % m2 + 1 ≡ m2 → ⊥) → ((k + 1) % m2 ≡ k % m2 + 1) × (start_of m m2 (k + 1) ≡ start_of m m2 k + 1)
-  start_next k n =
-      let l : k % m2 + 1 < m2 = omega (arith, mod-lt k low) in
-      let h = apart m2 (k / m2) (k % m2 + 1) (k + 1) l (omega (arith, mod-add-div' k m2)) in
-      let same : k / m2 * m ≡ (k + 1) / m2 * m = ap (λ (i : ℕ). i * m) h.0 in
-      (sym h.1, omega (arith, same, h.1))
-
-  pub start_wraps : (k : ℕ) → k % m2 + 1 ≡ m2 → ((k + 1) % m2 ≡ 0) × (start_of m m2 (k + 1) ≡ start_of m m2 k + 1 + (m - m2))
-  start_wraps k e =
-      let h = apart m2 (k / m2 + 1) 0 (k + 1) (omega arith) (omega (arith, mod-add-div' k m2)) in
-      let same : (k / m2 + 1) * m ≡ (k + 1) / m2 * m = ap (λ (i : ℕ). i * m) h.0 in
-      (sym h.1, omega (arith, same, h.1, not_below))

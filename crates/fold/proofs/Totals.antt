@@ -25,9 +25,9 @@ total_add zero s t = refl
 total_add (suc n) s t = ap (λ (z : ℤ). z +ℤ (s n +ℤ t n)) (total_add n s t) ∙ swap_middle (total n s) (total n t) (s n) (t n)
 
 -- one summand more
-pub total_more : (n : ℕ) (t : ℕ → ℤ) {z v : ℤ} → z ≡ total n t → v ≡ t n → z +ℤ v ≡ total (n + 1) t
+pub total_next : (n : ℕ) (t : ℕ → ℤ) → total (n + 1) t ≡ total n t +ℤ t n
 unfolding total
-total_more n t e h = ap₂ ◌+ℤ◌ e h ∙ ap (λ (k : ℕ). total k t) (sym (add-one n))
+total_next n t = ap (λ (k : ℕ). total k t) (add-one n)
 
 pub total_same : (n : ℕ) (s t : ℕ → ℤ) → ((i : ℕ) → i < n → s i ≡ t i) → total n s ≡ total n t
 unfolding total

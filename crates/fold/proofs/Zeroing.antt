@@ -1,17 +1,19 @@
 -- Laws of a list of which a front is stored anew and the rest is zeroed.
-use mathlib.Core.Path.{◌≡◌, refl, sym, ap, ◌∙◌}
-use mathlib.Core.Bool.{Bool, true, false, cond}
+use mathlib.Core.Path.{◌≡◌, sym, ap, ◌∙◌}
+use mathlib.Core.Bool.{Bool, cond}
 use mathlib.Core.List.{List}
-use Prim.Native.Nat.{ℕ, ◌+◌, ◌≤◌, ◌<◌}
+use Prim.Native.Nat.{ℕ, ◌-◌, ◌≤◌, ◌<◌}
 use native.Mathlib.Decide.{dec_lt}
 use native.Mathlib.Nat.{zero-add}
 use native.Mathlib.Omega.{arith}
 use borrow.Author.Tests.{lt-ltb, le-ltb}
 use lib.Dec.{ltb}
-use lib.ListN.{length, get_or, set}
-use lib.Seq.{ext_get_or}
+use lib.ListN.{length, get_or, take, replicate, length-replicate, get_or-append}
+use lib.Seq.{ext_get_or, get_or-take, length-take-le}
+use borrow.Rule.Slice.PartMut.{mid_of, put_mid, same_len_mid, mid_len}
+use Rattle.std.proofs.lemmas.List.{get_or-append_right, get_or-replicate}
 use Rattle.params.specs.Lists.{map_from, touched, from, padded}
-use Rattle.params.proofs.Changes.{up_to, length_map_from, get_d_map_from, length_touched, get_d_touched, each_next, padded_long, padded_front, padded_past}
+use Rattle.params.proofs.Changes.{up_to, length_map_from, get_d_map_from, length_touched, get_d_touched, padded_long, padded_front, padded_past}
 use Rattle.sketch.proofs.Tables.{length_from, from_at}
 
 module _ {A : Type 0} (z : A) (first : ℕ) (xs : List A) where
@@ -19,17 +21,28 @@ module _ {A : Type 0} (z : A) (first : ℕ) (xs : List A) where
   abbrev pub zeroed : ℕ → A → A
   zeroed k x = cond (ltb k first) x z
 
-  -- as long as none of these is passed nothing changes
-  pub zeroing_none : xs ≡ touched (up_to first) zeroed xs
-  zeroing_none =
-      sym (ext_get_or z _ _ (length_touched (up_to first) zeroed xs) (λ j l. at j (rw length_touched at l) (ltb j first) refl))
+  -- the places from `first` on come back as zeros
+  pub zeroed_tail : first ≤ length xs → (ys : List A) → ys ≡ replicate (length (mid_of first (length xs - first) xs)) z → put_mid first (length xs - first) xs ys ≡ map_from 0 zeroed xs
+  zeroed_tail h ys e =
+      ext_get_or z _ _ (long ∙ sym (length_map_from 0 zeroed xs))
+      (λ j l. let inside : j < length xs = rw long at l in at j inside (dec_lt j first) ∙ sym (get_d_map_from 0 zeroed xs j z inside ∙ ap (λ (k : ℕ). zeroed k (get_or xs j z)) (zero-add j)))
     where
-      at : (j : ℕ) → j < length xs → (b : Bool) → ltb j first ≡ b → get_or (touched (up_to first) zeroed xs) j z ≡ get_or xs j z
-      at j l true e = rw (get_d_touched (up_to first) zeroed xs j z l, e)
-      at j l false e = rw (get_d_touched (up_to first) zeroed xs j z l, e)
+      zeros : length ys ≡ length xs - first
+      zeros = ap length e ∙ length-replicate _ z ∙ mid_len first (length xs) xs (omega arith)
 
-  pub zeroing_next : (i : ℕ) (ys : List A) → first ≤ i → i < length xs → ys ≡ touched (up_to i) zeroed xs → set ys i z ≡ touched (up_to (i + 1)) zeroed xs
-  zeroing_next i ys h l e = each_next z zeroed xs i ys z l e (sym (ap (λ (b : Bool). cond b (get_or xs i z) z) (le-ltb i first h)))
+      long : length (put_mid first (length xs - first) xs ys) ≡ length xs
+      long = same_len_mid first (length xs - first) xs ys (ap length e ∙ length-replicate _ z)
+
+      before : length (take first xs) ≡ first
+      before = length-take-le first xs h
+
+      at : (j : ℕ) → j < length xs → Dec (j < first) → get_or (put_mid first (length xs - first) xs ys) j z ≡ zeroed j (get_or xs j z)
+      at j l (yes p) = rw (lt-ltb j first p) (get_or-append (take first xs) _ z j (omega (arith, before)) ∙ get_or-take first xs j z p)
+      at j l (no p) =
+          rw (le-ltb j first (omega arith))
+          (get_or-append_right (take first xs) _ first j z before (omega arith)
+          ∙ get_or-append ys _ z (j - first) (omega (arith, zeros))
+          ∙ rw e (get_or-replicate _ (j - first) z z (omega (arith, zeros, ap length e ∙ length-replicate _ z))))
 
 -- a front stored anew and zeros behind it
 pub front_and_zeros : {A : Type 0} (z : A) (f : ℕ → A) (xs : List A) (first n : ℕ) → length xs ≡ n → first ≤ n

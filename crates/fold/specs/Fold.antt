@@ -1,14 +1,11 @@
 -- What folding a sketch to m2 buckets an array answers and leaves: bucket j of each array is added into bucket j mod m2.
-use Rattle.std.specs.Prelude.{Bool, not, cond, ◌&&◌, ◌≡◌, List, ℕ, zero, suc, ◌+◌, ◌*◌, ◌/◌, ◌%◌, ◌≤◌, ℤ, pos, ◌+ℤ◌, eqb, leb, length, get_or, take}
+use Rattle.std.specs.Prelude.{Bool, not, cond, ◌&&◌, ◌≡◌, List, ℕ, zero, suc, ◌+◌, ◌*◌, ◌/◌, ◌%◌, ◌≤◌, ℤ, pos, ◌+ℤ◌, eqb, leb, length, get_or, take, Ok}
 use Rattle.field.specs.Residue.{residue}
 use Rattle.params.specs.declared.params.Params.{Params}
-use Rattle.params.specs.declared.params.Obtained.{Obtained}
 use Rattle.params.specs.declared.answers.Refusal.TheVariants.{Damage, Range, Fold}
-use Rattle.params.specs.declared.answers.Answer.{Answer}
-use Rattle.params.specs.declared.answers.Answer.TheVariants.{Done}
 use Rattle.params.specs.Lists.{below, from, padded}
-use Rattle.params.specs.Answers.{refuse_if, refuse_at, first, kept}
-use Rattle.params.specs.Params.{prime_of, size, resized, lent_answer, obtained}
+use Rattle.params.specs.Answers.{refuse_if, refuse_at, first, kept, Answer, Done, Given, given}
+use Rattle.params.specs.Params.{prime_of, size, resized, lent_answer}
 use Rattle.buckets.specs.Buckets.{in_limits}
 use Rattle.sketch.specs.Sketch.{Sketch, sketch, damaged_at}
 
@@ -70,17 +67,17 @@ fold_answer P m2 S =
     (fold_buckets_answer P m2 S))
 
 -- the answer with the new parameters
-abbrev pub fold_returns : Params → ℕ → Sketch → Obtained
-fold_returns P m2 S = obtained (fold_answer P m2 S) (resized P m2)
+abbrev pub fold_returns : Params → ℕ → Sketch → Given Params
+fold_returns P m2 S = given (fold_answer P m2 S) (resized P m2)
 
 -- S is folded to m2 buckets an array: what is returned, and the lent sketch before and after
-pub record Folded (P : Params) (m2 : ℕ) (S : Sketch) (r : Obtained) (S' : Sketch) : Type 0 where
+pub record Folded (P : Params) (m2 : ℕ) (S : Sketch) (r : Given Params) (S' : Sketch) : Type 0 where
   pub answer : r ≡ fold_returns P m2 S
-  pub after : S' ≡ kept r.answer S (in_slices (size P) (folded P m2 S))
+  pub after : S' ≡ kept r S (in_slices (size P) (folded P m2 S))
 
 -- what a fold to the parameters Q returns
-abbrev pub folded_to : Params → Obtained
-folded_to Q = record { answer = Done; params = Q }
+abbrev pub folded_to : Params → Given Params
+folded_to Q = Ok Q
 
 -- The last three are for the code's own functions. No public contract cites them.
 

@@ -6,7 +6,6 @@ use Prim.Native.Nat.{ℕ, ◌-◌}
 use lib.ListN.{take, drop}
 use lib.Seq.{drop-append-le}
 use Rattle.params.specs.declared.params.Params.{Params}
-use Rattle.params.specs.declared.answers.Answer.TheVariants.{Done}
 use Rattle.sketch.specs.Sketch.{Sketch}
 use Rattle.files.specs.Heads.{head_length_of}
 use Rattle.desk.specs.declared.states.State.{State}
@@ -16,6 +15,7 @@ use Rattle.intake.specs.declared.turning.Turned.{Turned}
 use Rattle.intake.specs.Intake.{Moves, Turns}
 use Rattle.intake.proofs.OneTurn.{moved_first, held_then}
 use Rattle.intake.proofs.HeadSettled.{head_begun, begun_whole}
+use Rattle.std.specs.Prelude.{Ok}
 
 -- Reads one after another, of the pieces xs: from a buffer, how many of its bytes are held, a state and two sketches, to the last state and what is then in the sketches.
 -- A read leaves the bytes that are held as they are, with its piece behind them, and a turn follows.
@@ -41,9 +41,9 @@ module _ {P : Params} {up down up₁ down₁ up' down' : Sketch} {t : State} {r 
 
   -- The whole input: the first `got` bytes, among which the head is accepted and put aside, and the pieces that reads gave behind them.
   -- The head is that of the whole input, and the rest of the input is fed as at once.
-  pub whole_input : {bs bs₁ bs₂ : List ℕ} {got held : ℕ} → begin_of (take got bs) ≡ record { answer = Done; params = P } → Moves (head_length_of P) got bs held bs₁ → Turns P bs₁ held up down (started P) r up₁ down₁ bs₂
+  pub whole_input : {bs bs₁ bs₂ : List ℕ} {got held : ℕ} → begin_of (take got bs) ≡ Ok P → Moves (head_length_of P) got bs held bs₁ → Turns P bs₁ held up down (started P) r up₁ down₁ bs₂
       → Reads P bs₂ r.held xs r.state up₁ down₁ t up' down' → offsets_fit (drop (head_length_of P) (take got bs ++ joined xs)) (started P) ≡ true
-      → (begin_of (take got bs ++ joined xs) ≡ record { answer = Done; params = P })
+      → (begin_of (take got bs ++ joined xs) ≡ Ok P)
       × Feeds P (drop (head_length_of P) (take got bs ++ joined xs)) up down (started P) record { state = t; used = t.at - head_length_of P } up' down'
   whole_input {bs} {bs₁} {got = got} {held = held} head aside turn more near =
       let whole = begun_whole (take got bs) head in

@@ -8,7 +8,6 @@ use borrow.Author.Tests.{lt-leb, leb-true, leb-false, eqb-false, not-true}
 use lib.Dec.{eqb, leb}
 use lib.ListN.{length, get_or}
 use Rattle.params.specs.declared.params.Params.{Params}
-use Rattle.params.specs.declared.answers.Answer.TheVariants.{Done}
 use Rattle.params.proofs.Searches.{and_true}
 use Rattle.files.specs.Records.{head_length_in, head_kind, extended_head_kind}
 use Rattle.files.specs.Heads.{head_length_of}
@@ -18,6 +17,7 @@ use Rattle.desk.proofs.MoreBytes.{not_yet}
 use Rattle.desk.proofs.FirstHead.{begin_found, begin_settled}
 use Rattle.desk.proofs.Accepted.{begun, begun_length, input_long}
 use Rattle.intake.specs.Intake.{head_settled}
+use Rattle.std.specs.Prelude.{Ok}
 
 -- where a first byte stands that no head has, none is waited for
 no_head_byte : (xs : List ℕ) → 0 < length xs → (eqb (get_or xs 0 0) head_kind || eqb (get_or xs 0 0) extended_head_kind) ≡ false → not_yet (due_head xs) ≡ false
@@ -41,9 +41,9 @@ head_settled_for_all xs ys settled = at (leb (head_length_in xs) (length xs)) re
     at false e = begin_found xs ys (no_head_byte xs (leb-false (length xs) 0 (not-true _ some)) (not-true _ (rw e at (and_true (not (leb (length xs) 0)) _ settled).1)))
 
 -- a head that is accepted is whole, and so it is that of the whole input
-module _ {P : Params} (xs : List ℕ) (e : begin_of xs ≡ record { answer = Done; params = P }) where
+module _ {P : Params} (xs : List ℕ) (e : begin_of xs ≡ Ok P) where
   pub begun_whole : head_length_of P ≤ length xs
   begun_whole = input_long P xs (begun P xs e)
 
-  pub head_begun : (ys : List ℕ) → begin_of (xs ++ ys) ≡ record { answer = Done; params = P }
+  pub head_begun : (ys : List ℕ) → begin_of (xs ++ ys) ≡ Ok P
   head_begun ys = begin_settled xs ys (omega (arith, begun_length P xs (begun P xs e), begun_whole)) ∙ e

@@ -9,15 +9,10 @@ use files::records::{EXTENDED_HEAD, HEAD};
 pub fn head_settled(bytes: &[u8]) -> bool
     ensures { result ≡ head_settled bytes.now }
 {
-    if bytes.len() == 0 {
-        return false;
+    match bytes.first() {
+        None => false,
+        Some(&first) => {
+            head_length_in(bytes) <= bytes.len() || !(first == HEAD || first == EXTENDED_HEAD)
+        }
     }
-    let length = head_length_in(bytes);
-    if length <= bytes.len() {
-        return true;
-    }
-    if bytes[0] == HEAD {
-        return false;
-    }
-    bytes[0] != EXTENDED_HEAD
 }

@@ -2,13 +2,13 @@
 ghost use Rattle.sketch.specs.Sketch.{sketch};
 ghost use Rattle.intake.specs.Intake.{Turns};
 
-use crate::moving::{smaller, to_front};
+use crate::moving::to_front;
 use desk::feeding::feed;
 use desk::states::State;
 use params::Params;
 
 // The state that a turn leads to, and how many bytes are held then.
-#[derive(Clone, Copy)]
+#[derive(Clone, Copy, Debug, PartialEq, Eq)]
 pub struct Turned {
     pub state: State,
     pub held: usize,
@@ -27,7 +27,7 @@ pub fn turn(
 ) -> Turned
     ensures { Turns p buf.old held (sketch up_counts.old up_idsums.old) (sketch down_counts.old down_idsums.old) s result (sketch up_counts.new up_idsums.new) (sketch down_counts.new down_idsums.new) buf.new }
 {
-    let end = smaller(held, buf.len());
+    let end = held.min(buf.len());
     let fed = feed(
         p,
         s,
@@ -37,7 +37,8 @@ pub fn turn(
         down_idsums,
         &buf[0..end],
     );
-    let state = fed.state;
-    let left = to_front(buf, fed.used, held);
-    Turned { state, held: left }
+    Turned {
+        state: fed.state,
+        held: to_front(buf, fed.used, held),
+    }
 }

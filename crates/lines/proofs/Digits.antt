@@ -76,9 +76,9 @@ below_minus_one (pos n) h = absurd (omega int)
 below_minus_one (negsuc n) h =
     omega (int, up_down_add (negsuc 0) (neg_ℤ (negsuc n)), up_neg (negsuc n), down_neg (negsuc n))
 
-pub signed_below : (z : ℤ) → lt_z z (pos 0) ≡ true → signed_decimal z ≡ 45 ∷ decimal (nat_abs z - 1 + 1)
+pub signed_below : (z : ℤ) → lt_z z (pos 0) ≡ true → signed_decimal z ≡ 45 ∷ decimal (nat_abs z)
 signed_below (pos n) h = absurd (omega int)
-signed_below (negsuc n) h = ap (λ k. 45 ∷ decimal k) (omega arith)
+signed_below (negsuc n) h = refl
 
 pub signed_not_below : (z : ℤ) → lt_z z (pos 0) ≡ false → signed_decimal z ≡ decimal (nat_abs z)
 signed_not_below (pos n) h = refl

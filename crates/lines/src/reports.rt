@@ -20,20 +20,12 @@ fn fits(
 ) -> bool
     ensures { result ≡ report_fits out flows numbers entries counts idsums }
 {
-    if flows < entries {
-        return false;
-    }
-    if numbers < entries {
-        return false;
-    }
-    if idsums != counts {
-        return false;
-    }
     let lines = out / LINE_ROOM;
-    if lines <= entries {
-        return false;
-    }
-    counts < lines - entries
+    entries <= flows
+        && entries <= numbers
+        && idsums == counts
+        && entries < lines
+        && counts < lines - entries
 }
 
 // A line for an entry, from an offset on; the offset after it is returned, as by the functions below.
@@ -66,10 +58,8 @@ fn put_losses(out: &mut [u8], from: usize, flows: &[u32], numbers: &[i32], entri
     ensures upper_bound { result ≤ from + line_room * entries }
 {
     let mut at = from;
-    let mut i = 0;
-    while i < entries {
+    for i in 0..entries {
         at = put_loss(out, at, flows[i], numbers[i]);
-        i += 1;
     }
     at
 }
@@ -82,10 +72,8 @@ fn put_lefts(out: &mut [u8], from: usize, counts: &[i32], idsums: &[u32]) -> usi
     ensures upper_bound { result ≤ from + line_room * length counts.now }
 {
     let mut at = from;
-    let mut i = 0;
-    while i < counts.len() {
+    for i in 0..counts.len() {
         at = put_left(out, at, i, counts[i], idsums[i]);
-        i += 1;
     }
     at
 }

@@ -11,12 +11,9 @@ pub(crate) fn put(out: &mut [u8], at: usize, word: &[u8]) -> usize
     requires { at + length word.now ≤ length out.old }
     ensures { TextWritten word.now out.old at result out.new }
 {
-    let mut i = 0;
-    while i < word.len() {
-        out[at + i] = word[i];
-        i += 1;
-    }
-    at + i
+    let end = at + word.len();
+    out[at..end].copy_from_slice(word);
+    end
 }
 
 // Writes a number in decimal.
@@ -25,11 +22,11 @@ pub(crate) fn put_decimal(out: &mut [u8], at: usize, n: u64) -> usize
     ensures { TextWritten (decimal n) out.old at result out.new }
 {
     if n < 10 {
-        out[at] = 48 + n as u8;
+        out[at] = b'0' + n as u8;
         return at + 1;
     }
     let next = put_decimal(out, at, n / 10);
-    out[next] = 48 + (n % 10) as u8;
+    out[next] = b'0' + (n % 10) as u8;
     next + 1
 }
 
@@ -39,10 +36,10 @@ pub(crate) fn put_signed(out: &mut [u8], at: usize, z: i64) -> usize
     ensures { TextWritten (signed_decimal z) out.old at result out.new }
 {
     if z < 0 {
-        out[at] = 45;
-        return put_decimal(out, at + 1, (-1 - z) as u64 + 1);
+        out[at] = b'-';
+        return put_decimal(out, at + 1, z.unsigned_abs());
     }
-    put_decimal(out, at, z as u64)
+    put_decimal(out, at, z.unsigned_abs())
 }
 
 // Writes a word and then a number in decimal.

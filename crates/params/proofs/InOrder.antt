@@ -12,16 +12,14 @@ use lib.ListN.{take, drop}
 use Rattle.params.specs.declared.params.Params.{Params}
 use Rattle.params.specs.declared.answers.Refusal.{Refusal}
 use Rattle.params.specs.declared.answers.Refusal.TheVariants.{Param, Length, Flow, Count, Damage, Range, Mismatch, Form, Fold}
-use Rattle.params.specs.declared.answers.Answer.{Answer}
-use Rattle.params.specs.declared.answers.Answer.TheVariants.{Done, Refused}
-use Rattle.params.specs.declared.answers.Located.{Located}
 use Rattle.params.specs.Lists.{least}
-use Rattle.params.specs.Answers.{number_of, number_in, index_in, refuse_if, refuse_at, first, located_of, located_number, located_index, located_at}
+use Rattle.params.specs.Answers.{number_of, number_in, index_in, refuse_if, refuse_at, first, given, value_in, Answer, Done, Given}
 use Rattle.params.specs.Params.{is_flow, size, good_params, lengths_answer, lent_answer}
 use Rattle.params.specs.Faults.{order, first_of, somewhere, lent_fault, position_fault}
 use Rattle.params.specs.Positions.{position_answer}
 use Rattle.params.proofs.Searches.{and_true, all_below, below_fails, none_found}
 use Rattle.params.proofs.Lowest.{least_lowest}
+use Rattle.std.specs.Prelude.{Err}
 
 -- where neither Mismatch nor Fold applies that is the lowest number: `rising` has them as the table does
 abbrev rising : List Refusal
@@ -91,16 +89,16 @@ unfolding lent_answer lengths_answer
 lent_number P c s = simp refuse_number
 
 -- a position or an index, k, is given, or 0 with the number of the first fault; the index at fault is always 0
-pub record LocatedInOrder (P : Params) (i f k : ℕ) (r : Located) : Type 0 where
-  pub number : located_number r ≡ first_of order (position_fault P i f)
-  pub index : located_index r ≡ 0
-  pub place : located_at r ≡ cond (eqb (located_number r) 0) k 0
+pub record LocatedInOrder (P : Params) (i f k : ℕ) (r : Given ℕ) : Type 0 where
+  pub number : number_in r ≡ first_of order (position_fault P i f)
+  pub index : index_in r ≡ 0
+  pub place : value_in r ≡ cond (eqb (number_in r) 0) k 0
 
-pub located_in_order : (P : Params) (i f k : ℕ) → LocatedInOrder P i f k (located_of (position_answer P i f) k)
+pub located_in_order : (P : Params) (i f k : ℕ) → LocatedInOrder P i f k (given (position_answer P i f) k)
 unfolding position_answer
 located_in_order P i f k = by_tests (not (good_params P && (leb 1 i && leb i P.d))) (not (is_flow P f)) refl refl
   where
-    by_tests : (s t : Bool) → s ≡ not (good_params P && (leb 1 i && leb i P.d)) → t ≡ not (is_flow P f) → LocatedInOrder P i f k (located_of (refuse_if s Param 0 (refuse_if t Flow 0 Done)) k)
+    by_tests : (s t : Bool) → s ≡ not (good_params P && (leb 1 i && leb i P.d)) → t ≡ not (is_flow P f) → LocatedInOrder P i f k (given (refuse_if s Param 0 (refuse_if t Flow 0 Done)) k)
     by_tests true t e h = record { number = rw (← e); index = refl; place = refl }
     by_tests false true e h = record { number = rw (← e, ← h); index = refl; place = refl }
     by_tests false false e h = record { number = rw (← e, ← h); index = refl; place = refl }
@@ -119,7 +117,7 @@ refuse_index false w next h = h
 pub first_index : (r next : Answer) → IndexZero r → IndexZero next → IndexZero (first r next)
 unfolding first
 first_index Done next h k = k
-first_index (Refused w j) next h k = h
+first_index (Err r) next h k = h
 
 bucket_index_lem : (b : Bool) (w : Refusal) (k : ℕ) (next : Answer) → (number_of w ≡ 5) ⊎ (number_of w ≡ 6) → IndexZero next → IndexZero (refuse_if b w k next)
 bucket_index_lem true w k next e h = record { zero_else = λ d r. absurd (⊎_elim d r e) }

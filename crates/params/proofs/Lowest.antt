@@ -1,5 +1,5 @@
 -- What a search finds is the lowest number that passes its test, and so is the index of a refusal that a search makes.
-use mathlib.Core.Path.{◌≡◌, refl}
+use mathlib.Core.Path.{◌≡◌, refl, ap}
 use mathlib.Core.Bool.{Bool, true, false, cond}
 use mathlib.Core.Logic.{◌⊎◌, inl, inr}
 use Prim.Native.Nat.{ℕ, zero, suc, ◌+◌, ◌≤◌, ◌<◌}
@@ -8,10 +8,9 @@ use native.Mathlib.Omega.{arith}
 use borrow.Author.Tests.{ltb-true}
 use lib.Dec.{ltb}
 use Rattle.params.specs.declared.answers.Refusal.{Refusal}
-use Rattle.params.specs.declared.answers.Answer.{Answer}
-use Rattle.params.specs.declared.answers.Answer.TheVariants.{Refused}
+use Rattle.params.specs.declared.answers.Refused.{Refused as RefusedAt}
 use Rattle.params.specs.Lists.{least}
-use Rattle.params.specs.Answers.{refuse_if, refuse_at}
+use Rattle.params.specs.Answers.{refuse_if, refuse_at, Answer, Refused}
 use Rattle.params.proofs.Searches.{none_found}
 
 -- k is the lowest number below n that passes the test
@@ -45,7 +44,8 @@ least_lowest n t h =
 at_step : (n : ℕ) (t : ℕ → Bool) (w v : Refusal) (k : ℕ) (next : Answer) (b : Bool) → ltb (least 0 n t) n ≡ b → refuse_if b w (least 0 n t) next ≡ Refused v k
     → ((w ≡ v) × Lowest n t k) ⊎ (((j : ℕ) → j < n → t j ≡ false) × (next ≡ Refused v k))
 at_step n t w v k next true e q =
-    let found : least 0 n t ≡ k = cc in inl (cc, rw found at (least_lowest n t (ltb-true (least 0 n t) n e)))
+    let same : ◌≡◌ {A = RefusedAt} (w, least 0 n t) (v, k) = cc in
+    inl (ap (λ (r : RefusedAt). r.0) same, rw (ap (λ (r : RefusedAt). r.1) same) at (least_lowest n t (ltb-true (least 0 n t) n e)))
 at_step n t w v k next false e q =
     inr (none_found n t e, q)
 

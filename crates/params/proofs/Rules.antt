@@ -1,5 +1,5 @@
 -- Laws of the rules that parameters obey, of what follows where nothing was refused, and of the positions that the code keeps.
-use mathlib.Core.Path.{◌≡◌, refl, sym, ap, ap₂, ◌∙◌}
+use mathlib.Core.Path.{◌≡◌, refl, sym, ap₂, ◌∙◌}
 use mathlib.Core.List.{List}
 use mathlib.Core.Bool.{Bool, true, false, not, cond, ◌&&◌}
 use Prim.Native.Nat.{ℕ, ◌+◌, ◌-◌, ◌*◌, ◌≤◌, ◌<◌}
@@ -8,19 +8,14 @@ use borrow.Author.Tests.{le-leb, leb-true, lt-ltb, eq-eqb, eqb-true, not-false}
 use lib.Dec.{eqb, ltb, leb}
 use lib.ListN.{length}
 use Rattle.params.specs.declared.params.Params.{Params}
-use Rattle.params.specs.declared.params.Obtained.{Obtained}
-use Rattle.params.specs.declared.answers.Refusal.{Refusal}
 use Rattle.params.specs.declared.answers.Refusal.TheVariants.{Param, Length, Flow}
-use Rattle.params.specs.declared.answers.Answer.{Answer}
-use Rattle.params.specs.declared.answers.Answer.TheVariants.{Done, Refused}
-use Rattle.params.specs.declared.answers.Located.TheVariants.{At, Refused as NotLocated}
-use Rattle.params.specs.Answers.{refuse_if, located_of}
+use Rattle.params.specs.Answers.{refuse_if, Done}
 use Rattle.params.specs.Lists.{below, touched}
-use Rattle.params.specs.Params.{prime_of, fingerprinted, most_flow, is_flow, size, Dimensions, pair_ok, pair_at, twins, good_dimensions, good_params, same_pair, same_params, lengths_answer, dimensions_answer, lent_answer, resized, plain, no_params, none_obtained, obtained}
+use Rattle.params.specs.Params.{prime_of, fingerprinted, most_flow, is_flow, size, Dimensions, pair_ok, pair_at, twins, good_dimensions, good_params, lengths_answer, dimensions_answer, lent_answer, resized, plain, no_params}
 use Rattle.params.specs.Positions.{stand, position_answer, positions_in, Positioned}
-use Rattle.params.proofs.Searches.{and_true, below_fails}
+use Rattle.params.proofs.Searches.{and_true}
 use Rattle.params.proofs.Changes.{length_touched, get_d_touched, touched_none, up_to}
-use Rattle.params.proofs.Judging.{Refuses, refuse_done, kept_old, kept_new}
+use Rattle.params.proofs.Judging.{refuse_done}
 use Rattle.params.proofs.BucketNumbers.{stretch_within, small}
 
 pub dimensions : (P : Params) → good_dimensions P ≡ true → Dimensions P
@@ -51,21 +46,6 @@ good_fifth P e = (and_true (good_dimensions P && _ && _) _ e).1
 pub good_dimensions_lem : (P : Params) → good_params P ≡ true → Dimensions P
 good_dimensions_lem P e = dimensions P (good_has_dimensions P e)
 
--- of four tests, where three hold, the last is left
-pub last_of_four : (t : ℕ → Bool) → t 0 ≡ true → t 1 ≡ true → t 2 ≡ true → t 3 ≡ below 4 t
-unfolding below
-last_of_four t e h k = simp (e, h, k)
-
--- i and j are twins by the test t: not all are apart
-pub not_apart : (t : ℕ → ℕ → Bool) (i j : ℕ) {r : Bool} → i < 4 → j < i → r ≡ t i j → r ≡ true → false ≡ below 4 (λ i. below i (λ j. not (t i j)))
-not_apart t i j h k e q = sym (below_fails 4 i _ h (below_fails i j _ k (rw (← e, q))))
-
--- of the six ways to choose two of four, where five are apart, the last is left
-pub last_apart : (t : ℕ → ℕ → Bool) {p q r s u v : Bool} → p ≡ t 1 0 → p ≡ false → q ≡ t 2 0 → q ≡ false → r ≡ t 2 1 → r ≡ false
-    → s ≡ t 3 0 → s ≡ false → u ≡ t 3 1 → u ≡ false → v ≡ t 3 2 → not v ≡ below 4 (λ i. below i (λ j. not (t i j)))
-unfolding below
-last_apart t e e₁ h h₁ k k₁ l l₁ m m₁ n = simp (sym e ∙ e₁, sym h ∙ h₁, sym k ∙ k₁, sym l ∙ l₁, sym m ∙ m₁) (ap not n)
-
 -- a flow's number is below the prime, and is not 0
 below_prime : (b : Bool) (p : ℕ) → 8388606 < p → cond b 8388606 (p - 1) < p
 below_prime true p l = l
@@ -77,21 +57,10 @@ flow_below P f e = omega (arith, leb-true f (most_flow P) (and_true (leb 1 f) _ 
 pub flow_above : (P : Params) (f : ℕ) → is_flow P f ≡ true → 1 ≤ f
 flow_above P f e = leb-true 1 f (and_true (leb 1 f) _ e).0
 
--- of the dimensions' tests the last is left
-pub last_size : (P : Params) → 2 ≤ P.d → P.d ≤ 4 → 1 ≤ P.m → leb P.m 16384 ≡ good_dimensions P
-unfolding good_dimensions
-last_size P h k l = simp (le-leb 2 _ h, le-leb _ 4 k, le-leb 1 _ l)
-
+-- and the other way round
 pub dimensions_good : {P : Params} → Dimensions P → good_dimensions P ≡ true
-dimensions_good {P} z = sym (last_size P z.d_low z.d_high z.m_low) ∙ le-leb _ _ z.m_high
-
--- where the dimensions are the same, the pairs decide
-pub pairs_decide : (P Q : Params) → P.d ≡ Q.d → P.m ≡ Q.m → (below 4 (same_pair P Q) && (eqb P.a5 Q.a5 && eqb P.b5 Q.b5)) ≡ same_params P Q
-unfolding same_params
-pairs_decide P Q h k = simp (eq-eqb _ _ h, eq-eqb _ _ k)
-
-pub pair_differs : (P Q : Params) → P.d ≡ Q.d → P.m ≡ Q.m → below 4 (same_pair P Q) ≡ false → false ≡ same_params P Q
-pair_differs P Q h k e = ap (λ (b : Bool). b && (eqb P.a5 Q.a5 && eqb P.b5 Q.b5)) (sym e) ∙ pairs_decide P Q h k
+unfolding good_dimensions
+dimensions_good {P} z = rw (le-leb 2 P.d z.d_low, le-leb P.d 4 z.d_high, le-leb 1 P.m z.m_low, le-leb P.m 16384 z.m_high)
 
 -- array i, counted from 1, is one of those that the parameters give, and lies within the sketch, which is small
 pub record Asked (P : Params) (i : ℕ) : Type 0 where
@@ -171,13 +140,6 @@ module _ (P : Params) where
   unfolding position_answer
   flow_done i f e = not-false (is_flow P f) (refuse_done (not (is_flow P f)) Flow 0 Done (refuse_done (not (good_params P && (leb 1 i && leb i P.d))) Param 0 _ e).1).0
 
--- a position or an index as it is given
-pub located_at_lem : (r answer : Answer) (k j : ℕ) → r ≡ answer → r ≡ Done → k ≡ j → At k ≡ located_of answer j
-located_at_lem r answer k j e h q = rw (← e, h, q)
-
-pub not_located : (r answer : Answer) (w : Refusal) (i j : ℕ) → r ≡ answer → r ≡ Refused w i → NotLocated w i ≡ located_of answer j
-not_located r answer w i j e h = rw (← e, h)
-
 module _ (P : Params) (f : ℕ) (ks : List ℕ) where
   -- the positions of what is sketched, f, in a list that is as long as there can be arrays
   pub positions_found : Dimensions P → length ks ≡ 4 → Positioned P f (positions_in P f ks)
@@ -199,13 +161,6 @@ module _ (P : Params) (f : ℕ) (ks : List ℕ) where
   pub all_positions : {ys : List ℕ} (n : ℕ) → good_dimensions P ≡ true → P.d ≡ n → ys ≡ touched (up_to n) (λ j k. stand P j f) ks → ys ≡ positions_in P f ks
   unfolding positions_in
   all_positions n e h q = q ∙ ap₂ (λ (b : Bool) (m : ℕ). touched (λ j. b && ltb j m) (λ j k. stand P j f) ks) (sym e) (sym h)
-
--- the parameters that a call returns, by its answer
-pub obtained_none : {r judged : Answer} (P : Params) → r ≡ judged → Refuses r → none_obtained r ≡ obtained judged P
-obtained_none {r} {judged} P e q = ap (λ p. record { answer = r; params = p }) (kept_old r _ P q) ∙ ap (λ (a : Answer). obtained a P) e
-
-pub obtained_done : {r judged : Answer} (P : Params) → r ≡ judged → r ≡ Done → ◌≡◌ {A = Obtained} (record { answer = r; params = P }) (obtained judged P)
-obtained_done {r} {judged} P e q = ap (λ p. record { answer = r; params = p }) (kept_new r _ P q) ∙ ap (λ (a : Answer). obtained a P) e
 
 -- parameters that stand for none break a rule
 pub none_bad : good_params no_params ≡ false

@@ -5,21 +5,22 @@ use Prim.Native.Nat.{ℕ, ◌*◌, ◌/◌, ◌%◌, ◌<◌}
 use native.Mathlib.Omega.{arith}
 use borrow.Author.Tests.{ltb-true, eqb-true, eq-eqb}
 use lib.Dec.{eqb, ltb}
-use lib.ListN.{get_or}
+use lib.ListN.{length, get_or}
+use lib.Pointwise.{pointwise, bytes_decides}
+use lib.Seq.{ext_get_or}
 use Rattle.params.specs.declared.params.Params.{Params}
 use Rattle.params.specs.Lists.{below}
 use Rattle.params.specs.Params.{size, fingerprinted, resized, good_params, same_pair, same_params}
 use Rattle.params.specs.Sketched.{sketched}
 use Rattle.params.specs.Positions.{stand, stands_in, sketched_stands, stands}
 use Rattle.params.proofs.Searches.{and_true, below_at, all_below}
-use Rattle.params.proofs.Rules.{good_dimensions_lem, pairs_decide}
+use Rattle.params.proofs.Rules.{good_dimensions_lem}
 
 -- parameters are the same as themselves
 pub same_itself : (P : Params) → same_params P P ≡ true
-unfolding same_pair
+unfolding same_params same_pair
 same_itself P =
-    sym (pairs_decide P P refl refl)
-    ∙ rw (all_below 4 (same_pair P P) (λ i l. rw (eq-eqb (get_or P.a i 0) (get_or P.a i 0) refl, eq-eqb (get_or P.b i 0) (get_or P.b i 0) refl)), eq-eqb P.a5 P.a5 refl, eq-eqb P.b5 P.b5 refl)
+    rw (eq-eqb P.d P.d refl, eq-eqb P.m P.m refl, all_below 4 (same_pair P P) (λ i l. rw (eq-eqb (get_or P.a i 0) (get_or P.a i 0) refl, eq-eqb (get_or P.b i 0) (get_or P.b i 0) refl)), eq-eqb P.a5 P.a5 refl, eq-eqb P.b5 P.b5 refl)
 
 -- two sets of parameters that the test finds the same
 module _ (P Q : Params) (same : same_params P Q ≡ true) where
@@ -82,3 +83,32 @@ module _ (P Q : Params) (same : same_params P Q ≡ true) where
   -- so they are of the same profile
   pub same_profile : fingerprinted P ≡ fingerprinted Q
   same_profile = ap (λ (n : ℕ). not (eqb n 0)) fifth_same.0
+
+-- what `==` finds, which compares each number and each array: two tests that hold of the same
+both_hold : (s t : Bool) → (s ≡ true → t ≡ true) → (t ≡ true → s ≡ true) → s ≡ t
+both_hold true t h k = sym (h refl)
+both_hold false true h k = k refl
+both_hold false false h k = refl
+
+abbrev equal : Params → Params → Bool
+equal P Q = eqb P.d Q.d && (eqb P.m Q.m && (pointwise eqb P.a Q.a && (pointwise eqb P.b Q.b && (eqb P.a5 Q.a5 && eqb P.b5 Q.b5))))
+
+all_equal : (P Q : Params) → equal P Q ≡ true → P ≡ Q
+all_equal P Q e =
+    let h = and_true (eqb P.d Q.d) _ e in
+    let k = and_true (eqb P.m Q.m) _ h.1 in
+    let l = and_true (pointwise eqb P.a Q.a) _ k.1 in
+    let m = and_true (pointwise eqb P.b Q.b) _ l.1 in
+    let n = and_true (eqb P.a5 Q.a5) _ m.1 in
+    λ i. record { d = eqb-true _ _ h.0 i; m = eqb-true _ _ k.0 i; a = (bytes_decides P.a Q.a).0 l.0 i; b = (bytes_decides P.b Q.b).0 m.0 i; a5 = eqb-true _ _ n.0 i; b5 = eqb-true _ _ n.1 i }
+
+pub equal_same : (P Q : Params) → length P.a ≡ 4 → length Q.a ≡ 4 → length P.b ≡ 4 → length Q.b ≡ 4 → equal P Q ≡ same_params P Q
+equal_same P Q h k l m =
+    both_hold (equal P Q) (same_params P Q)
+    (λ e. ap (same_params P) (sym (all_equal P Q e)) ∙ same_itself P)
+    (λ e.
+    let n = dimensions_same P Q e in
+    let o = fifth_same P Q e in
+    let a : P.a ≡ Q.a = ext_get_or 0 _ _ (h ∙ sym k) (λ i u. (pair_same P Q e i (omega arith)).0) in
+    let b : P.b ≡ Q.b = ext_get_or 0 _ _ (l ∙ sym m) (λ i u. (pair_same P Q e i (omega arith)).1) in
+    rw (eq-eqb _ _ n.0, eq-eqb _ _ n.1, (bytes_decides _ _).1 a, (bytes_decides _ _).1 b, eq-eqb _ _ o.0, eq-eqb _ _ o.1))

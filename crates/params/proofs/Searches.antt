@@ -1,13 +1,14 @@
--- Laws of the computed tests: that they hold or fail, what is chosen by them, `&&`, `below`, and `least`.
+-- Laws of the computed tests: that they hold or fail, what is chosen by them, `&&`, `below`, `least`, and `found`.
 use mathlib.Core.Path.{◌≡◌, refl, sym, ap, ap₂, ◌∙◌}
 use mathlib.Core.Bool.{Bool, true, false, not, cond, ◌&&◌}
 use Prim.Native.Nat.{ℕ, zero, suc, ◌+◌, ◌-◌, ◌≤◌, ◌<◌}
 use native.Mathlib.Numerals.{add-one}
 use native.Mathlib.Decide.{ℕ_discrete}
 use native.Mathlib.Omega.{arith}
-use borrow.Author.Tests.{ltb-false, not-true, not-false}
+use borrow.Author.Tests.{ltb-false, ltb-true, lt-ltb, le-ltb, not-true, not-false}
 use lib.Dec.{ltb}
-use Rattle.params.specs.Lists.{below, least}
+use Rattle.params.specs.Lists.{below, least, found}
+use Rattle.std.specs.Prelude.{Option, Some, None}
 
 -- a test that cannot hold fails
 pub cannot_hold : (t : Bool) → (t ≡ true → ⊥) → t ≡ false
@@ -47,6 +48,10 @@ pub below_at : (n i : ℕ) (t : ℕ → Bool) → below n t ≡ true → i < n �
 unfolding below
 below_at zero i t e h = absurd (omega arith)
 below_at (suc n) i t e h = below_step n i t e (ℕ_discrete i n) h (below_at n i t)
+
+pub below_next : (n : ℕ) (t : ℕ → Bool) → below (n + 1) t ≡ (below n t && t n)
+unfolding below
+below_next n t = ap (λ (k : ℕ). below k t) (add-one n)
 
 pub all_below : (n : ℕ) (t : ℕ → Bool) → ((k : ℕ) → k < n → t k ≡ true) → below n t ≡ true
 unfolding below
@@ -132,3 +137,40 @@ nothing_found n t none =
     let all : n + 0 ≡ n = omega arith in
     let end : 0 + n ≡ n = omega arith in
     ap (λ (x : ℕ). least 0 x t) (sym all) ∙ least_skip n 0 0 t (λ x l m. none x (omega arith)) ∙ least_end (0 + n) t ∙ end
+
+-- what a scan one by one answers at the first number that passes
+pub first_found : (n i : ℕ) (t : ℕ → Bool) → i < n → t i ≡ true → ((k : ℕ) → k < i → t k ≡ false) → least 0 n t ≡ i
+first_found n i t h e none =
+    let all : n ≡ i + suc (n - suc i) = omega arith in
+    let here : 0 + i ≡ i = omega arith in
+    ap (λ (x : ℕ). least 0 x t) all ∙ least_skip i 0 (suc (n - suc i)) t (λ x l m. none x (omega arith)) ∙ least_here (0 + i) (n - suc i) t (rw here e) ∙ here
+
+-- the same as an Option: Some of the first number that passes, None where none does
+pub found_first : (n i : ℕ) (t : ℕ → Bool) → i < n → t i ≡ true → ((k : ℕ) → k < i → t k ≡ false) → found n t ≡ Some i
+unfolding found
+found_first n i t h e none = rw (first_found n i t h e none, lt-ltb i n h)
+
+pub found_nothing : (n : ℕ) (t : ℕ → Bool) → ((k : ℕ) → k < n → t k ≡ false) → found n t ≡ None
+unfolding found
+found_nothing n t none = rw (nothing_found n t none, le-ltb n n (omega arith))
+
+pub found_same : (n : ℕ) (t u : ℕ → Bool) → ((k : ℕ) → k < n → t k ≡ u k) → found n t ≡ found n u
+unfolding found
+found_same n t u e = rw (least_same 0 n t u (λ k l m. e k (omega arith))) refl
+
+-- and what each of the two tells
+some_step : {n x k : ℕ} (b : Bool) → ltb x n ≡ b → cond b (Some x) None ≡ Some k → (x ≡ k) × (x < n)
+some_step {n} {x} true h e = (cc, ltb-true x n h)
+some_step false h e = (cc, cc)
+
+pub found_some : (n : ℕ) {k : ℕ} (t : ℕ → Bool) → found n t ≡ Some k → (least 0 n t ≡ k) × (least 0 n t < n)
+unfolding found
+found_some n t e = some_step (ltb (least 0 n t) n) refl e
+
+none_given : (x : ℕ) (b : Bool) → cond b (Some x) None ≡ None → b ≡ false
+none_given x true e = cc
+none_given x false e = refl
+
+pub found_none : (n : ℕ) (t : ℕ → Bool) → found n t ≡ None → (k : ℕ) → k < n → t k ≡ false
+unfolding found
+found_none n t e = none_found n t (none_given _ (ltb (least 0 n t) n) e)

@@ -1,11 +1,8 @@
 -- The numbers that a caller may get, and how several faults make one answer.
-use Rattle.std.specs.Prelude.{Bool, true, false, ℕ, ltb}
+use Rattle.std.specs.Prelude.{Bool, true, false, ℕ, ltb, Result, Ok, Err}
 use Rattle.params.specs.declared.answers.Refusal.{Refusal}
 use Rattle.params.specs.declared.answers.Refusal.TheVariants.{Param, Length, Flow, Count, Damage, Range, Mismatch, Form, Fold}
-use Rattle.params.specs.declared.answers.Answer.{Answer}
-use Rattle.params.specs.declared.answers.Answer.TheVariants.{Done, Refused}
-use Rattle.params.specs.declared.answers.Located.{Located}
-use Rattle.params.specs.declared.answers.Located.TheVariants.{At, Refused as NotLocated}
+use Rattle.params.specs.declared.answers.Refused.{Refused as RefusedAt}
 use Rattle.params.specs.Lists.{least}
 
 -- the table of refusals
@@ -20,14 +17,33 @@ number_of Mismatch = 7
 number_of Form = 8
 number_of Fold = 9
 
--- an answer's number and index, both 0 where nothing was refused
-abbrev pub number_in : Answer → ℕ
-number_in Done = 0
-number_in (Refused w k) = number_of w
+-- what a call gives: a value, or the refusal with its index
+abbrev pub Given : Type 0 → Type 0
+Given A = Result A RefusedAt
 
-abbrev pub index_in : Answer → ℕ
-index_in Done = 0
-index_in (Refused w k) = k
+abbrev pub Refused : {A : Type 0} → Refusal → ℕ → Given A
+Refused w k = Err (w, k)
+
+-- what a call answers that gives no value
+abbrev pub Answer : Type 0
+Answer = Given (Unit {0})
+
+pattern abbrev pub Done : Answer
+Done = Ok tt
+
+-- the answer alone, without the value
+abbrev pub answer_of : {A : Type 0} → Given A → Answer
+answer_of (Ok x) = Done
+answer_of (Err r) = Err r
+
+-- the number and the index of a refusal, both 0 where nothing was refused
+abbrev pub number_in : {A : Type 0} → Given A → ℕ
+number_in (Ok x) = 0
+number_in (Err r) = number_of r.0
+
+abbrev pub index_in : {A : Type 0} → Given A → ℕ
+index_in (Ok x) = 0
+index_in (Err r) = r.1
 
 -- a refusal where the test holds, else what is judged next
 abbrev pub refuse_if : Bool → Refusal → ℕ → Answer → Answer
@@ -41,27 +57,19 @@ refuse_at n t w next = refuse_if (ltb (least 0 n t) n) w (least 0 n t) next
 -- the first of two answers that refuses
 unfoldable pub first : Answer → Answer → Answer
 first Done next = next
-first (Refused w k) next = Refused w k
+first (Err r) next = Err r
 
--- nothing changes unless the answer is Done
-unfoldable pub kept : {A : Type 0} → Answer → A → A → A
-kept Done old new = new
-kept (Refused w k) old new = old
+-- nothing changes where a call refuses
+unfoldable pub kept : {A B : Type 0} → Given B → A → A → A
+kept (Ok x) old new = new
+kept (Err r) old new = old
 
--- a position or an index, or why there is none
-abbrev pub located_of : Answer → ℕ → Located
-located_of Done k = At k
-located_of (Refused w j) k = NotLocated w j
+-- a value unless the answer refuses
+abbrev pub given : {A : Type 0} → Answer → A → Given A
+given Done x = Ok x
+given (Err r) x = Err r
 
--- the number, the index at fault, and the position or index that a caller gets, each 0 where there is none
-abbrev pub located_number : Located → ℕ
-located_number (At k) = 0
-located_number (NotLocated w j) = number_of w
-
-abbrev pub located_index : Located → ℕ
-located_index (At k) = 0
-located_index (NotLocated w j) = j
-
-abbrev pub located_at : Located → ℕ
-located_at (At k) = k
-located_at (NotLocated w j) = 0
+-- the number that a call gives, 0 where it is refused
+abbrev pub value_in : Given ℕ → ℕ
+value_in (Ok n) = n
+value_in (Err r) = 0

@@ -1,5 +1,5 @@
 -- Lists and numbers by index: a test at every number, the least number that passes a test, changes place by place, and lists filled up.
-use Rattle.std.specs.Prelude.{Bool, true, cond, ◌&&◌, List, [], ◌∷◌, ◌++◌, ℕ, zero, suc, ◌-◌, length, replicate}
+use Rattle.std.specs.Prelude.{Bool, true, cond, ◌&&◌, List, [], ◌∷◌, ◌++◌, ℕ, zero, suc, ◌-◌, ltb, length, replicate, Option, Some, None}
 
 -- the test holds at each number below n
 unfoldable pub below : ℕ → (ℕ → Bool) → Bool
@@ -10,6 +10,10 @@ below (suc n) t = below n t && t n
 unfoldable pub least : ℕ → ℕ → (ℕ → Bool) → ℕ
 least k zero t = k
 least k (suc n) t = cond (t k) k (least (suc k) n t)
+
+-- the least number below n at which the test holds, None where there is none
+unfoldable pub found : ℕ → (ℕ → Bool) → Option ℕ
+found n t = cond (ltb (least 0 n t) n) (Some (least 0 n t)) None
 
 -- g at each place of a list, whose first place is k
 unfoldable pub map_from : {A B : Type 0} → ℕ → (ℕ → A → B) → List A → List B

@@ -1,12 +1,9 @@
--- The rules that parameters obey, the flows under them, the lengths of what is lent, and parameters that a call returns.
+-- The rules that parameters obey, the flows under them, and the lengths of what is lent.
 use Rattle.std.specs.Prelude.{Bool, not, ◌&&◌, cond, List, [], ◌∷◌, ℕ, ◌-◌, ◌*◌, ◌≤◌, eqb, ltb, leb, get_or}
 use Rattle.params.specs.declared.params.Params.{Params}
-use Rattle.params.specs.declared.params.Obtained.{Obtained}
 use Rattle.params.specs.declared.answers.Refusal.TheVariants.{Param, Length}
-use Rattle.params.specs.declared.answers.Answer.{Answer}
-use Rattle.params.specs.declared.answers.Answer.TheVariants.{Done}
 use Rattle.params.specs.Lists.{below}
-use Rattle.params.specs.Answers.{refuse_if, kept}
+use Rattle.params.specs.Answers.{Answer, Done, refuse_if}
 
 -- 2 ^ 31 - 1, the prime of every sketch
 abbrev pub prime : ℕ
@@ -93,10 +90,3 @@ plain P = record { d = P.d; m = P.m; a = P.a; b = P.b; a5 = 0; b5 = 0 }
 -- what stands for parameters where there are none
 abbrev pub no_params : Params
 no_params = record { d = 0; m = 0; a = 0 ∷ 0 ∷ 0 ∷ 0 ∷ []; b = 0 ∷ 0 ∷ 0 ∷ 0 ∷ []; a5 = 0; b5 = 0 }
-
--- an answer without parameters, and one with the parameters P unless it refuses
-abbrev pub none_obtained : Answer → Obtained
-none_obtained r = record { answer = r; params = no_params }
-
-abbrev pub obtained : Answer → Params → Obtained
-obtained r P = record { answer = r; params = kept r no_params P }

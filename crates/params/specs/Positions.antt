@@ -2,9 +2,7 @@
 use Rattle.std.specs.Prelude.{Bool, not, ◌&&◌, ◌≡◌, List, ℕ, ◌+◌, ◌-◌, ◌*◌, ◌/◌, ◌%◌, ◌≤◌, ◌<◌, eqb, ltb, leb, get_or}
 use Rattle.params.specs.declared.params.Params.{Params}
 use Rattle.params.specs.declared.answers.Refusal.TheVariants.{Param, Flow}
-use Rattle.params.specs.declared.answers.Answer.{Answer}
-use Rattle.params.specs.declared.answers.Answer.TheVariants.{Done}
-use Rattle.params.specs.Answers.{refuse_if}
+use Rattle.params.specs.Answers.{Answer, Done, refuse_if}
 use Rattle.params.specs.Lists.{touched}
 use Rattle.params.specs.Params.{prime_of, is_flow, good_dimensions, good_params}
 use Rattle.params.specs.Sketched.{sketched}

@@ -1,14 +1,14 @@
 // The parameters of a sketch, and where a flow stands.
 ghost use Rattle.std.specs.Prelude.{◌≡◌, ◌&&◌, not, cond, ◌+◌, ◌-◌, ◌*◌, ◌%◌, ◌<◌, ◌≤◌, eqb, leb};
 ghost use Rattle.params.specs.Lists.{below};
-ghost use Rattle.params.specs.Params.{prime, fingerprinted as «fingerprinted_of», most_flow, is_flow, size as «size_of», no_params, resized as «resized_of», none_obtained, Dimensions, pair_ok, pair_at, twins, good_dimensions, good_params, same_params};
+ghost use Rattle.params.specs.Params.{prime, fingerprinted as «fingerprinted_of», most_flow, is_flow, size as «size_of», no_params, resized as «resized_of», Dimensions, pair_ok, pair_at, twins, good_dimensions, good_params, same_params};
 ghost use Rattle.params.specs.Sketched.{sketched as «sketched_of», told as «told_of», is_sketched};
 ghost use Rattle.params.specs.Positions.{stand as «StandOf», sketched_stands, position as «position_of», index as «index_of», positions_in};
-ghost use Rattle.params.specs.Answers.{located_of};
+ghost use Rattle.params.specs.Answers.{given};
 ghost use Rattle.params.specs.Params.{lengths_answer, dimensions_answer, lent_answer};
 ghost use Rattle.params.specs.Positions.{position_answer};
 
-use crate::answers::{Answer, Located, Refusal};
+use crate::answers::{Refusal, Refused};
 
 // The prime of every sketch.
 pub const PRIME: u32 = field::P31;
@@ -18,7 +18,7 @@ const MOST_FINGERPRINTED: u32 = 8388606;
 
 // d arrays of m buckets, room for four pairs of a multiplier and an offset, and the fifth pair, which gives flows their fingerprints. Both
 // of its numbers are 0 in the plain profile.
-#[derive(Clone, Copy)]
+#[derive(Clone, Copy, Debug, Default, PartialEq, Eq)]
 pub struct Params {
     pub d: usize,
     pub m: usize,
@@ -28,31 +28,14 @@ pub struct Params {
     pub b5: u32,
 }
 
-// The parameters that a call returns, or why there are none: they are all 0 then. An enum cannot hold an array, so that both come in one
-// struct.
-#[derive(Clone, Copy)]
-pub struct Obtained {
-    pub answer: Answer,
-    pub params: Params,
-}
-
 // Whether a pair keeps the rule of its place: in use, or zero.
 fn pair_ok(used: bool, a: u32, b: u32) -> bool
     ensures { result ≡ pair_ok prime used a b }
 {
     if used {
-        if a < 1 {
-            return false;
-        }
-        if PRIME <= a {
-            return false;
-        }
-        b < PRIME
+        1 <= a && a < PRIME && b < PRIME
     } else {
-        if a != 0 {
-            return false;
-        }
-        b == 0
+        a == 0 && b == 0
     }
 }
 
@@ -61,53 +44,28 @@ fn pair_ok(used: bool, a: u32, b: u32) -> bool
 fn pairs_ok(d: usize, a: [u32; 4], b: [u32; 4]) -> bool
     ensures { result ≡ below 4 (pair_at prime d a b) }
 {
-    if !pair_ok(0 < d, a[0], b[0]) {
-        return false;
-    }
-    if !pair_ok(1 < d, a[1], b[1]) {
-        return false;
-    }
-    if !pair_ok(2 < d, a[2], b[2]) {
-        return false;
-    }
-    pair_ok(3 < d, a[3], b[3])
-}
-
-fn same_pair(a: u32, b: u32, c: u32, e: u32) -> bool
-    ensures { result ≡ (eqb a c && eqb b e) }
-{
-    if a != c {
-        return false;
-    }
-    b == e
+    pair_ok(0 < d, a[0], b[0])
+        && pair_ok(1 < d, a[1], b[1])
+        && pair_ok(2 < d, a[2], b[2])
+        && pair_ok(3 < d, a[3], b[3])
 }
 
 // Whether a pair in use equals one before it.
 fn twin(used: bool, a: u32, b: u32, c: u32, e: u32) -> bool
     ensures { result ≡ (used && (eqb a c && eqb b e)) }
 {
-    if used { same_pair(a, b, c, e) } else { false }
+    used && a == c && b == e
 }
 
 fn pairs_apart(d: usize, a: [u32; 4], b: [u32; 4]) -> bool
     ensures { result ≡ below 4 (λ i. below i (λ j. not (twins d a b i j))) }
 {
-    if twin(1 < d, a[1], b[1], a[0], b[0]) {
-        return false;
-    }
-    if twin(2 < d, a[2], b[2], a[0], b[0]) {
-        return false;
-    }
-    if twin(2 < d, a[2], b[2], a[1], b[1]) {
-        return false;
-    }
-    if twin(3 < d, a[3], b[3], a[0], b[0]) {
-        return false;
-    }
-    if twin(3 < d, a[3], b[3], a[1], b[1]) {
-        return false;
-    }
-    !twin(3 < d, a[3], b[3], a[2], b[2])
+    !twin(1 < d, a[1], b[1], a[0], b[0])
+        && !twin(2 < d, a[2], b[2], a[0], b[0])
+        && !twin(2 < d, a[2], b[2], a[1], b[1])
+        && !twin(3 < d, a[3], b[3], a[0], b[0])
+        && !twin(3 < d, a[3], b[3], a[1], b[1])
+        && !twin(3 < d, a[3], b[3], a[2], b[2])
 }
 
 // A number's position among m by the pair a, b: in an array, or, among 256, the fingerprint of a flow.
@@ -123,137 +81,76 @@ impl Params {
     pub fn none() -> Params
         ensures { result ≡ no_params }
     {
-        Params {
-            d: 0,
-            m: 0,
-            a: [0; 4],
-            b: [0; 4],
-            a5: 0,
-            b5: 0,
-        }
+        Params::default()
     }
 
     // The same arrays with m buckets in each.
     pub fn resized(self, m: usize) -> Params
         ensures { result ≡ «resized_of» self m }
     {
-        let a = self.a;
-        let b = self.b;
-        Params {
-            d: self.d,
-            m,
-            a,
-            b,
-            a5: self.a5,
-            b5: self.b5,
-        }
+        Params { m, ..self }
     }
 
     // Whether the dimensions keep the rules: what the code needs so that every index is one.
     fn good_dimensions(self) -> bool
         ensures { result ≡ good_dimensions self }
     {
-        if self.d < 2 {
-            return false;
-        }
-        if 4 < self.d {
-            return false;
-        }
-        if self.m < 1 {
-            return false;
-        }
-        self.m <= 16384
+        2 <= self.d && self.d <= 4 && 1 <= self.m && self.m <= 16384
     }
 
     // Whether the parameters keep the rules.
     pub fn check(self) -> bool
         ensures { result ≡ good_params self }
     {
-        if !self.good_dimensions() {
-            return false;
-        }
-        let d = self.d;
-        let a = self.a;
-        let b = self.b;
-        if !pairs_ok(d, a, b) {
-            return false;
-        }
-        if !pairs_apart(d, a, b) {
-            return false;
-        }
-        pair_ok(self.fingerprinted(), self.a5, self.b5)
+        let Params { d, a, b, .. } = self;
+        self.good_dimensions()
+            && pairs_ok(d, a, b)
+            && pairs_apart(d, a, b)
+            && pair_ok(self.fingerprinted(), self.a5, self.b5)
     }
 
     // Whether two sets of parameters are the same.
     pub fn same(self, q: Params) -> bool
         ensures { result ≡ same_params self q }
     {
-        if self.d != q.d {
-            return false;
-        }
-        if self.m != q.m {
-            return false;
-        }
-        let a = self.a;
-        let b = self.b;
-        let c = q.a;
-        let e = q.b;
-        if !same_pair(a[0], b[0], c[0], e[0]) {
-            return false;
-        }
-        if !same_pair(a[1], b[1], c[1], e[1]) {
-            return false;
-        }
-        if !same_pair(a[2], b[2], c[2], e[2]) {
-            return false;
-        }
-        if !same_pair(a[3], b[3], c[3], e[3]) {
-            return false;
-        }
-        same_pair(self.a5, self.b5, q.a5, q.b5)
+        self == q
     }
 
     // How many buckets there are; 0 for parameters that break a rule.
     pub fn size(self) -> usize
         ensures { result ≡ cond (good_params self) («size_of» self) 0 }
     {
-        if !self.check() {
-            return 0;
-        }
-        self.d * self.m
+        if self.check() { self.d * self.m } else { 0 }
     }
 
     // The two slices of a sketch have d * m numbers.
-    fn lengths(self, counts: usize, idsums: usize) -> Answer
+    fn lengths(self, counts: usize, idsums: usize) -> Result<(), Refused>
         requires { Dimensions self }
         ensures { result ≡ lengths_answer self counts idsums }
     {
         let size = self.d * self.m;
-        if counts != size {
-            return Answer::Refused(Refusal::Length, 0);
+        if counts != size || idsums != size {
+            return Err(Refused(Refusal::Length, 0));
         }
-        if idsums != size {
-            return Answer::Refused(Refusal::Length, 0);
-        }
-        Answer::Done
+        Ok(())
     }
 
     // The dimensions keep the rules, and the two slices have d * m numbers.
-    pub fn judge_dimensions(self, counts: usize, idsums: usize) -> Answer
+    pub fn judge_dimensions(self, counts: usize, idsums: usize) -> Result<(), Refused>
         ensures { result ≡ dimensions_answer self counts idsums }
     {
         if !self.good_dimensions() {
-            return Answer::Refused(Refusal::Param, 0);
+            return Err(Refused(Refusal::Param, 0));
         }
         self.lengths(counts, idsums)
     }
 
     // The parameters keep the rules, and the two slices have d * m numbers.
-    pub fn judge_lent(self, counts: usize, idsums: usize) -> Answer
+    pub fn judge_lent(self, counts: usize, idsums: usize) -> Result<(), Refused>
         ensures { result ≡ lent_answer self counts idsums }
     {
         if !self.check() {
-            return Answer::Refused(Refusal::Param, 0);
+            return Err(Refused(Refusal::Param, 0));
         }
         self.lengths(counts, idsums)
     }
@@ -270,19 +167,17 @@ impl Params {
         ensures { result ≡ most_flow self }
     {
         if self.fingerprinted() {
-            return MOST_FINGERPRINTED;
+            MOST_FINGERPRINTED
+        } else {
+            PRIME - 1
         }
-        PRIME - 1
     }
 
     // Whether a number is that of a flow: switches send 0 for a header that they cannot parse.
     pub fn is_flow(self, f: u32) -> bool
         ensures { result ≡ is_flow self f }
     {
-        if f < 1 {
-            return false;
-        }
-        f <= self.most_flow()
+        1 <= f && f <= self.most_flow()
     }
 
     // What is sketched for a flow: itself, or its extended number. Of a number that is no flow it is taken modulo 2^32, so that no flow is
@@ -290,21 +185,19 @@ impl Params {
     pub fn sketched(self, f: u32) -> u32
         ensures { result ≡ «sketched_of» self f % 4294967296 }
     {
-        if !self.fingerprinted() {
-            return f;
+        if self.fingerprinted() {
+            let fingerprint = position_by(self.a5, self.b5, 256, f);
+            f.wrapping_mul(256).wrapping_add(fingerprint as u32)
+        } else {
+            f
         }
-        let fingerprint = position_by(self.a5, self.b5, 256, f);
-        ((f as u64 * 256 + fingerprint as u64) % 4294967296) as u32
     }
 
     // The flow that a sketched number tells.
     pub fn told(self, x: u32) -> u32
         ensures { result ≡ «told_of» self x }
     {
-        if !self.fingerprinted() {
-            return x;
-        }
-        x / 256
+        if self.fingerprinted() { x / 256 } else { x }
     }
 
     // Whether a number is what is sketched for a flow. The plain profile comes first, so that a walk in it pays for one question more.
@@ -312,54 +205,40 @@ impl Params {
         ensures { result ≡ is_sketched self x }
     {
         if !self.fingerprinted() {
-            return self.is_flow(x);
+            self.is_flow(x)
+        } else {
+            let f = self.told(x);
+            self.is_flow(f) && (x % 256) as usize == position_by(self.a5, self.b5, 256, f)
         }
-        let f = self.told(x);
-        if !self.is_flow(f) {
-            return false;
-        }
-        (x % 256) as usize == position_by(self.a5, self.b5, 256, f)
     }
 
     // The parameters, the array and the flow are right.
-    fn asked(self, i: usize, f: u32) -> Answer
+    fn asked(self, i: usize, f: u32) -> Result<(), Refused>
         ensures { result ≡ position_answer self i f }
     {
-        if !self.check() {
-            return Answer::Refused(Refusal::Param, 0);
-        }
-        if i < 1 {
-            return Answer::Refused(Refusal::Param, 0);
-        }
-        if self.d < i {
-            return Answer::Refused(Refusal::Param, 0);
+        if !self.check() || i < 1 || self.d < i {
+            return Err(Refused(Refusal::Param, 0));
         }
         if !self.is_flow(f) {
-            return Answer::Refused(Refusal::Flow, 0);
+            return Err(Refused(Refusal::Flow, 0));
         }
-        Answer::Done
+        Ok(())
     }
 
     // The position of a flow in array i; arrays count from 1.
-    pub fn position(self, i: usize, f: u32) -> Located
-        ensures { result ≡ located_of (position_answer self i f) («position_of» self i f) }
+    pub fn position(self, i: usize, f: u32) -> Result<usize, Refused>
+        ensures { result ≡ given (position_answer self i f) («position_of» self i f) }
     {
-        let asked = self.asked(i, f);
-        match asked {
-            Answer::Done => Located::At(self.stand(i - 1, self.sketched(f))),
-            Answer::Refused(refusal, index) => Located::Refused(refusal, index),
-        }
+        self.asked(i, f)?;
+        Ok(self.stand(i - 1, self.sketched(f)))
     }
 
     // The index of the flow's bucket there.
-    pub fn index(self, i: usize, f: u32) -> Located
-        ensures { result ≡ located_of (position_answer self i f) («index_of» self i f) }
+    pub fn index(self, i: usize, f: u32) -> Result<usize, Refused>
+        ensures { result ≡ given (position_answer self i f) («index_of» self i f) }
     {
-        let asked = self.asked(i, f);
-        match asked {
-            Answer::Done => Located::At((i - 1) * self.m + self.stand(i - 1, self.sketched(f))),
-            Answer::Refused(refusal, index) => Located::Refused(refusal, index),
-        }
+        self.asked(i, f)?;
+        Ok((i - 1) * self.m + self.stand(i - 1, self.sketched(f)))
     }
 
     // Where what is sketched stands in the array that i others stand before: here, for the code's own use, arrays count from 0.
@@ -367,9 +246,7 @@ impl Params {
         requires { Dimensions self × (i < self.d) }
         ensures { (result ≡ «StandOf» self i x) × (result < self.m) }
     {
-        let a = self.a;
-        let b = self.b;
-        position_by(a[i], b[i], self.m, x)
+        position_by(self.a[i], self.b[i], self.m, x)
     }
 
     // Whether what is sketched stands in bucket k; in no bucket where the dimensions break a rule. Written out, as the checks are: with an
@@ -380,10 +257,7 @@ impl Params {
         if !self.good_dimensions() {
             return false;
         }
-        let d = self.d;
-        let m = self.m;
-        let a = self.a;
-        let b = self.b;
+        let Params { d, m, a, b, .. } = self;
         if k < m {
             return k == position_by(a[0], b[0], m, x);
         }
@@ -413,10 +287,7 @@ impl Params {
         if !self.good_dimensions() {
             return;
         }
-        let d = self.d;
-        let m = self.m;
-        let a = self.a;
-        let b = self.b;
+        let Params { d, m, a, b, .. } = self;
         ks[0] = position_by(a[0], b[0], m, x);
         ks[1] = position_by(a[1], b[1], m, x);
         if 2 < d {
@@ -424,18 +295,6 @@ impl Params {
         }
         if 3 < d {
             ks[3] = position_by(a[3], b[3], m, x);
-        }
-    }
-}
-
-impl Obtained {
-    // An answer without parameters.
-    pub fn none(answer: Answer) -> Obtained
-        ensures { result ≡ none_obtained answer }
-    {
-        Obtained {
-            answer,
-            params: Params::none(),
         }
     }
 }

@@ -24,13 +24,6 @@ unfolding chain_by
 key_below f s = scaled_below _ _ (omega arith) (size_some s)
 
 module _ {key : ℕ → ℕ} {size : ℕ} {fs q ms : List ℕ} where
-  pub chains_none : ((k : ℕ) → get_or ms k 0 / 2 ≡ 0) → Chains key size fs q ms 0
-  chains_none z = record {
-    newest = λ k. rw (z k) (record { within = omega arith; keyed = λ h. absurd (omega arith); past = λ j a b. absurd (omega arith) });
-    links = λ e h. absurd (omega arith);
-    differ = λ i j a b. absurd (omega arith);
-  }
-
   pub chains_kept : {n : ℕ} {q' ms' : List ℕ} → SameAbove 65536 q q' → SameAbove 2 ms ms' → Chains key size fs q ms n → Chains key size fs q' ms' n
   chains_kept a b v = record { newest = λ k. rw (b k) (v.newest k); links = λ e h. rw (a e) (v.links e h); differ = v.differ }
 
@@ -51,9 +44,6 @@ module _ {size : ℕ} {fs q ms : List ℕ} {n f k x : ℕ} (v : Following size f
     link_of : Newest v.held.key fs (v.held.key (get_or fs (x - 1) 0)) (x - 1) (get_or q (x - 1) 0 / 65536)
     link_of = v.held.chains.links (x - 1) (omega (arith, v.within))
 
-    pub follow_lower : get_or q (x - 1) 0 / 65536 < x
-    follow_lower = omega (arith, link_of.within)
-
     pub follow_next : (get_or fs (x - 1) 0 ≡ f → ⊥) → Following size fs q ms n f k (get_or q (x - 1) 0 / 65536)
     follow_next other = record {
       held = v.held;
@@ -66,26 +56,6 @@ module _ {size : ℕ} {fs q ms : List ℕ} {n f k x : ℕ} (v : Following size f
         at j a b e (yes l) d = link_of.past j a l (ap v.held.key e ∙ v.held.of_flow ∙ sym (v.keyed some))
         at j a b e (no l) (yes s) = other (sym (ap (λ (i : ℕ). get_or fs i 0) s) ∙ e)
         at j a b e (no l) (no s) = v.past j (omega arith) b e
-
-    pub follow_found : get_or fs (x - 1) 0 ≡ f → Finds fs n f (x - 1)
-    follow_found e = record {
-      within = omega (arith, v.within);
-      before = λ j l s. v.held.chains.differ j (x - 1) l (omega (arith, v.within)) (s ∙ sym e);
-      found = λ l. e;
-    }
-
-  -- the chain has ended, and the slots that are in none are scanned
-  pub follow_end : x ≡ 0 → {r : ℕ} → FindsFrom size fs n f r → Finds fs n f r
-  follow_end z {r} s = record {
-    within = s.within;
-    before = λ j l e. at j l e (dec_lt r n) (dec_lt j size);
-    found = s.found;
-  }
-    where
-      at : (j : ℕ) → j < r → get_or fs j 0 ≡ f → Dec (r < n) → Dec (j < size) → ⊥
-      at j l e (yes u) d = v.held.chains.differ j r l u (e ∙ sym (s.found u))
-      at j l e (no u) (yes d) = v.past j (omega arith) (omega (arith, s.within)) e
-      at j l e (no u) (no d) = s.before j l (omega arith) e
 
 -- the newest of chain k, one slot later
 module _ (key : ℕ → ℕ) (fs : List ℕ) (k b : ℕ) where

@@ -1,40 +1,40 @@
--- A loop that stores zeros from index n on.
-use mathlib.Core.Path.{◌≡◌, refl, ◌∙◌}
-use mathlib.Core.List.{List}
-use Prim.Native.Nat.{ℕ, ◌+◌, ◌<◌, ◌≤◌}
-use native.Mathlib.Decide.{ℕ_discrete, dec_lt}
+-- What a fill with zeros leaves: of a whole slice, and of one from index n on.
+use mathlib.Core.Path.{◌≡◌, refl, ap, ◌∙◌}
+use mathlib.Core.List.{List, ◌++◌, append-nil}
+use Prim.Native.Nat.{ℕ, zero, suc, ◌+◌, ◌-◌, ◌≤◌}
 use native.Mathlib.Omega.{arith}
-use lib.ListN.{length, get_or, set, length-set, get_or-eq_default}
-use lib.Seq.{get_or-set_same, get_or-set_other}
+use lib.ListN.{length, get_or, take, replicate, length-append, length-replicate, get_or-append}
+use lib.Seq.{drop-length, length-take-le, get_or-take, get_or-append-add}
+use borrow.Rule.Slice.PartMut.{put_mid, mid_of, mid_len, Post-is}
 use Rattle.peel.specs.Ring.{Cleared}
 
--- zeros stand from n up to i
-pub record Clearing {A : Type 0} (z : A) (n : ℕ) (l : List A) (i : ℕ) (l' : List A) : Type 0 where
-  pub long : length l' ≡ length l
-  pub start : n ≤ i
-  pub kept : (k : ℕ) → k < n → get_or l' k z ≡ get_or l k z
-  pub zeros : (k : ℕ) → n ≤ k → k < i → get_or l' k z ≡ z
+module _ {A : Type 0} {z : A} where
+  zeros_at : (n k : ℕ) → get_or (replicate n z) k z ≡ z
+  zeros_at zero k = refl
+  zeros_at (suc n) zero = refl
+  zeros_at (suc n) (suc k) = zeros_at n k
 
-module _ {A : Type 0} {z : A} {n : ℕ} {l : List A} where
-  pub clearing_none : Clearing z n l n l
-  clearing_none = record { long = refl; start = omega arith; kept = λ k h. refl; zeros = λ k a b. absurd (omega arith) }
+  pub all_cleared : (l : List A) (n k : ℕ) → l ≡ replicate n z → get_or l k z ≡ z
+  all_cleared l n k e = rw e (zeros_at n k)
 
-  pub clearing_more : {i : ℕ} {l' : List A} → i < length l' → Clearing z n l i l' → Clearing z n l (i + 1) (set l' i z)
-  clearing_more {i} {l'} h c =
+  pub cleared_from : (n : ℕ) (l ys : List A) → n ≤ length l → ys ≡ replicate (length (mid_of n (length l - n) l)) z → Cleared z n l (put_mid n (length l - n) l ys)
+  cleared_from n l ys h e =
       record {
-        long = length-set l' i z ∙ c.long;
-        start = omega (arith, c.start);
-        kept = λ k a. get_or-set_other l' i k z z (λ e. omega (arith, c.start)) ∙ c.kept k a;
-        zeros = λ k a b. at k a b (ℕ_discrete k i);
+        long = ap length whole ∙ length-append (take n l) ys ∙ omega (arith, long, front);
+        kept = λ k a. ap (λ (x : List A). get_or x k z) whole ∙ get_or-append (take n l) ys z k (omega (arith, front)) ∙ get_or-take n l k z a;
+        zeros = λ k a. ap (λ (x : List A). get_or x k z) whole ∙ past k (k - n) (omega arith);
       }
     where
-      at : (k : ℕ) → n ≤ k → k < i + 1 → Dec (k ≡ i) → get_or (set l' i z) k z ≡ z
-      at k a b (yes e) = rw e (get_or-set_same l' i z z h)
-      at k a b (no d) = get_or-set_other l' i k z z d ∙ c.zeros k a (omega arith)
+      front : length (take n l) ≡ n
+      front = length-take-le n l h
 
-  pub clearing_all : {i : ℕ} {l' : List A} → length l' ≤ i → Clearing z n l i l' → Cleared z n l l'
-  clearing_all {i} {l'} h c = record { long = c.long; kept = c.kept; zeros = λ k a. at k a (dec_lt k (length l')) }
-    where
-      at : (k : ℕ) → n ≤ k → Dec (k < length l') → get_or l' k z ≡ z
-      at k a (yes b) = c.zeros k a (omega arith)
-      at k a (no b) = get_or-eq_default l' z {n = k} (omega arith)
+      long : length ys ≡ length l - n
+      long = ap length e ∙ length-replicate _ z ∙ mid_len n (length l) l (omega arith)
+
+      whole : put_mid n (length l - n) l ys ≡ take n l ++ ys
+      whole = ap (λ (x : List A). take n l ++ x) (ap (λ (x : List A). ys ++ x) (Post-is n (length l) l h ∙ drop-length l) ∙ append-nil ys)
+
+      past : (k j : ℕ) → k ≡ n + j → get_or (take n l ++ ys) k z ≡ z
+      past k j a =
+          let there : k ≡ length (take n l) + j = omega (arith, front) in
+          rw there (get_or-append-add (take n l) ys j z ∙ all_cleared ys _ j e)

@@ -9,7 +9,7 @@ use Rattle.field.specs.Residue.{residue}
 use Rattle.field.specs.Flow.{inverse_in, inverse, flow}
 use Rattle.params.specs.declared.params.Params.{Params}
 use Rattle.params.specs.Lists.{below, least, map_from, touched, from, padded}
-use Rattle.params.specs.Answers.{refuse_at, first, kept}
+use Rattle.params.specs.Answers.{refuse_at, first, kept, Given, number_in}
 use Rattle.params.specs.Params.{pair_at, twins, good_dimensions, good_params, lengths_answer, lent_answer}
 use Rattle.params.specs.Sketched.{sketched, told, is_sketched}
 use Rattle.params.specs.Positions.{stand, stands_in}
@@ -18,9 +18,9 @@ use Rattle.sketch.specs.Sketch.{Sketch}
 use Rattle.walk.specs.Walk.{all, any, nothing_remains, less, has, entry_of, credited, waits, requeue, in_range, has_room, taken, takes, follows, popped, before, after, run, first_queue, walk, close, summed}
 use Rattle.walk.specs.Purity.{test_in}
 use Rattle.walk.proofs.Examples.{K, K5, S0, S1, S3, SP, SP3, SP61, remainder3, S5, S6, SL, SC, SZ}
-use Rattle.peel.specs.declared.peeling.Peeled.{Peeled}
 use Rattle.peel.specs.Slices.{Slices, slices}
-use Rattle.peel.specs.Peel.{walk_lent_answer, peel_answer, flows_of, numbers_of, peeled_number, peeled_ending, peeled_pops, peeled_lost, peeled_extra, peeled_entries, peel_returns, peel_leaves}
+use Rattle.peel.specs.Peel.{walk_lent_answer, peel_answer, flows_of, numbers_of, peeled_ending, peeled_pops, peeled_lost, peeled_extra, peeled_entries, peel_returns, peel_leaves}
+use Rattle.peel.specs.declared.peeling.Figures.{Figures}
 
 -- a sketch peeled into a table of that many slots, with an allowance of pops, under K or, with fingerprints, under K5
 pub record Call : Type 0 where
@@ -44,10 +44,10 @@ abbrev lent : Call → Slices
 lent c =
     slices c.held.counts c.held.idsums (replicate c.slots 9) (replicate c.slots (pos 9)) (replicate 10 9) (replicate 10 9)
 
-abbrev reply_by : Peeled → Slices → Reply
+abbrev reply_by : Given Figures → Slices → Reply
 reply_by r L =
     record {
-      number = peeled_number r;
+      number = number_in r;
       ending = peeled_ending r;
       pops = peeled_pops r;
       lost = peeled_lost r;

@@ -1,42 +1,17 @@
--- Laws of the walk's definition: what each move is, how a walk ends or goes on, and the requeue by indexes that agree.
+-- Laws of the walk's definition: how a walk ends or goes on, and the requeue by indexes that agree.
 use mathlib.Core.Path.{◌≡◌, refl}
 use mathlib.Core.Bool.{true, false, cond}
 use mathlib.Core.List.{List, [], ◌∷◌}
 use Prim.Native.Nat.{ℕ, zero, suc, ◌+◌, ◌<◌}
 use native.Mathlib.Omega.{arith}
 use lib.IntN.{ℤ}
-use Rattle.sketch.specs.Sketch.{sketch, count_in, idsum_in}
+use Rattle.sketch.specs.Sketch.{sketch, count_in}
 use Rattle.walk.specs.declared.Ending.{Ending}
-use Rattle.walk.specs.declared.Ending.TheVariants.{Clean, Stuck, Spent, Range, Full}
-use Rattle.walk.specs.declared.Found.TheVariants.{Impure, Pure}
-use Rattle.walk.specs.Walk.{Rule, State, stops, goes, out, queued, join, nothing_remains, requeue, in_range, has_room, taken, takes, follows, popped, before, after, run}
+use Rattle.walk.specs.declared.Ending.TheVariants.{Clean, Stuck, Spent}
+use Rattle.walk.specs.Walk.{Rule, State, stops, goes, out, queued, join, nothing_remains, requeue, popped, before, after, run}
 use Rattle.buckets.specs.Buckets.{is_zero}
 
 module _ (R : Rule) (slots : ℕ) where
-  -- the moves
-  module _ (k : ℕ) (st : State) where
-    pub popped_impure : R.test k (count_in st.held k) (idsum_in st.held k) ≡ Impure → popped R slots k st ≡ goes st
-    unfolding popped follows
-    popped_impure e = rw e
-
-    pub popped_pure : (f : ℕ) → R.test k (count_in st.held k) (idsum_in st.held k) ≡ Pure f
-        → popped R slots k st ≡ takes R slots f (count_in st.held k) (idsum_in st.held k) st
-    unfolding popped follows
-    popped_pure f e = rw e
-
-  module _ (f : ℕ) (c : ℤ) (s : ℕ) (st : State) where
-    pub takes_range : in_range R f c st ≡ false → takes R slots f c s st ≡ stops Range
-    unfolding takes
-    takes_range e = rw e
-
-    pub takes_full : in_range R f c st ≡ true → has_room slots f st.table ≡ false → takes R slots f c s st ≡ stops Full
-    unfolding takes
-    takes_full e h = rw (e, h)
-
-    pub takes_goes : in_range R f c st ≡ true → has_room slots f st.table ≡ true → takes R slots f c s st ≡ goes (taken R f c s st)
-    unfolding takes
-    takes_goes e h = rw (e, h)
-
   -- the endings, and a walk that goes on
   pub run_clean : (a n : ℕ) (st : State) → nothing_remains st.held ≡ true → run R slots a n st ≡ out Clean n st
   unfolding run before

@@ -5,18 +5,16 @@ use native.Mathlib.Omega.{arith}
 use lib.ListN.{length, replicate, length-map}
 use Rattle.params.specs.declared.params.Params.{Params}
 use Rattle.params.specs.declared.answers.Refusal.{Refusal}
-use Rattle.params.specs.declared.answers.Answer.{Answer}
-use Rattle.params.specs.declared.answers.Answer.TheVariants.{Done, Refused}
-use Rattle.params.specs.Answers.{kept}
+use Rattle.params.specs.Answers.{kept, Answer, Done, Refused}
 use Rattle.walk.specs.Walk.{Outcome, closed_table}
 use Rattle.walk.specs.Shown.{tell, shown_table}
 use Rattle.peel.specs.declared.peeling.Figures.{Figures}
-use Rattle.peel.specs.declared.peeling.Peeled.TheVariants.{Ended, Refused as NotPeeled}
 use Rattle.peel.specs.Slices.{Slices, slices}
 use Rattle.peel.specs.Rep.{Leaves}
 use Rattle.peel.specs.Peel.{figures_of, peeled_of, closed_slices, judged, walked, Peels}
 use Rattle.peel.proofs.Padding.{all_zeros, entries_many, padded_flows, padded_numbers}
 use Rattle.peel.proofs.Judged.{judged_peelable}
+use Rattle.std.specs.Prelude.{Ok}
 
 figures_are : {P : Params} {o : Outcome} {r : Figures} {L : Slices} → Leaves P o r L → r ≡ figures_of o
 figures_are {P} {o} {r} {L} l =
@@ -24,7 +22,7 @@ figures_are {P} {o} {r} {L} l =
     λ i. record { ending = l.ending i; entries = many i; lost = l.lost i; extra = l.extra i; pops = l.pops i }
 
 module _ (P : Params) (allowance : ℕ) (L : Slices) where
-  pub not_peeled : (w : Refusal) (k : ℕ) → Refused w k ≡ judged P L → Peels P allowance L (NotPeeled w k) L
+  pub not_peeled : (w : Refusal) (k : ℕ) → Refused w k ≡ judged P L → Peels P allowance L (Refused w k) L
   unfolding kept
   not_peeled w k e =
       record {
@@ -44,10 +42,10 @@ module _ (P : Params) (allowance : ℕ) (L : Slices) where
         let marks = all_zeros 0 L'.marks l.marks ∙ ap (λ (n : ℕ). replicate n 0) (long_marks ∙ s.long_marks) in
         λ i. slices (l.remainder i).counts (l.remainder i).idsums (flows i) (numbers i) (queue i) (marks i)
 
-    pub peeled : Peels P allowance L (Ended r) L'
+    pub peeled : Peels P allowance L (Ok r) L'
     unfolding kept
     peeled =
         record {
-          answer = ap Ended (figures_are l) ∙ ap (λ (x : Answer). peeled_of x (walked P allowance L)) done;
+          answer = ap Ok (figures_are l) ∙ ap (λ (x : Answer). peeled_of x (walked P allowance L)) done;
           after = closed ∙ ap (λ (x : Answer). kept x L (closed_slices P (walked P allowance L) L)) done;
         }

@@ -12,9 +12,7 @@ use Rattle.field.specs.Parts.{up, down}
 use Rattle.field.specs.Flow.{flow}
 use Rattle.params.specs.declared.params.Params.{Params}
 use Rattle.params.specs.declared.answers.Refusal.TheVariants.{Damage}
-use Rattle.params.specs.declared.answers.Answer.{Answer}
-use Rattle.params.specs.declared.answers.Answer.TheVariants.{Done, Refused}
-use Rattle.params.specs.Answers.{number_in, index_in, kept}
+use Rattle.params.specs.Answers.{number_in, index_in, kept, Answer, Done, Given, given}
 use Rattle.params.specs.Params.{prime_of, size, is_flow, Dimensions}
 use Rattle.params.specs.Sketched.{is_sketched}
 use Rattle.params.specs.Positions.{sketched_stands}
@@ -36,44 +34,37 @@ use Rattle.walk.proofs.Bounds.{losses_sure, whole_limits}
 use Rattle.walk.proofs.Promises as walks
 use Rattle.sketch.proofs.Whole.{Whole}
 use Rattle.walk.proofs.Promises.{Nothing, scope_rule}
-use Rattle.params.proofs.Judging.{number_some, first_passed, refuse_none}
-use Rattle.peel.specs.declared.peeling.Peeled.{Peeled}
-use Rattle.peel.specs.declared.peeling.Peeled.TheVariants.{Ended, Refused as NotPeeled}
+use Rattle.params.proofs.Judging.{number_done, kept_new, first_passed, refuse_none}
 use Rattle.peel.specs.Slices.{Slices, lent_sketch}
 use Rattle.peel.specs.Table.{row, table_of}
-use Rattle.peel.specs.Peel.{walk_lent_answer, peel_answer, peeled_of, peeled_number, peeled_index, peeled_ending, peeled_pops, peeled_lost, peeled_extra, peeled_entries, flows_of, numbers_of, closed_slices, judged, walked, Peels}
+use Rattle.peel.specs.Peel.{walk_lent_answer, peel_answer, peeled_of, peeled_ending, peeled_pops, peeled_lost, peeled_extra, peeled_entries, flows_of, numbers_of, closed_slices, judged, walked, Peels}
 use Rattle.peel.specs.Sure.{PeelWorks}
 use Rattle.peel.proofs.Padding.{flows_many, numbers_many, table_padded}
 use Rattle.peel.proofs.Judged.{lent_passed, judged_whole, judged_peelable}
+use Rattle.std.specs.Prelude.{Ok, Err}
+use Rattle.peel.specs.declared.peeling.Figures.{Figures}
 
-answer_done : (x : Answer) → number_in x ≡ 0 → x ≡ Done
-answer_done Done e = refl
-answer_done (Refused w k) e = absurd (number_some w e)
+-- the number and the index of what is given are those of its answer
+given_number : {A : Type 0} (x : Answer) (y : A) → number_in (given x y) ≡ number_in x
+given_number Done y = refl
+given_number (Err r) y = refl
 
-peeled_number_lem : (x : Answer) (o : Outcome) → peeled_number (peeled_of x o) ≡ number_in x
-peeled_number_lem Done o = refl
-peeled_number_lem (Refused w k) o = refl
-
-peeled_index_lem : (x : Answer) (o : Outcome) → peeled_index (peeled_of x o) ≡ index_in x
-peeled_index_lem Done o = refl
-peeled_index_lem (Refused w k) o = refl
+given_index : {A : Type 0} (x : Answer) (y : A) → index_in (given x y) ≡ index_in x
+given_index Done y = refl
+given_index (Err r) y = refl
 
 refusal_keeps : {A : Type 0} (x : Answer) (old new : A) → (number_in x ≡ 0 → ⊥) → kept x old new ≡ old
 unfolding kept
 refusal_keeps Done old new n = absurd (n refl)
-refusal_keeps (Refused w k) old new n = refl
-
-done_alters : {A : Type 0} (x : Answer) (old new : A) → x ≡ Done → kept x old new ≡ new
-unfolding kept
-done_alters x old new e = rw e
+refusal_keeps (Err r) old new n = refl
 
 -- no answer of peeling has the ending 4
-pub never_four : (r : Peeled) → peeled_ending r ≡ 4 → ⊥
-never_four (Ended g) e = no_ending_four g.ending e
-never_four (NotPeeled w k) e = omega arith
+pub never_four : (r : Given Figures) → peeled_ending r ≡ 4 → ⊥
+never_four (Ok g) e = no_ending_four g.ending e
+never_four (Err r) e = omega arith
 
 -- h is what the contract of `peel` gives: L is what was lent, L' what it holds after
-module _ {P : Params} {a : ℕ} {L : Slices} {r : Peeled} {L' : Slices} (h : Peels P a L r L') where
+module _ {P : Params} {a : ℕ} {L : Slices} {r : Given Figures} {L' : Slices} (h : Peels P a L r L') where
   abbrev o : Outcome
   o = walked P a L
 
@@ -95,34 +86,34 @@ module _ {P : Params} {a : ℕ} {L : Slices} {r : Peeled} {L' : Slices} (h : Pee
   listed = table_of L'.flows L'.numbers (peeled_entries r)
 
   -- the answer's number and index are what was judged
-  pub number_is : peeled_number r ≡ number_in verdict
-  number_is = ap peeled_number h.answer ∙ peeled_number_lem verdict o
+  pub number_is : number_in r ≡ number_in verdict
+  number_is = ap number_in h.answer ∙ given_number verdict _
 
-  pub index_is : peeled_index r ≡ index_in verdict
-  index_is = ap peeled_index h.answer ∙ peeled_index_lem verdict o
+  pub index_is : index_in r ≡ index_in verdict
+  index_is = ap index_in h.answer ∙ given_index verdict _
 
   -- a refusal alters nothing
-  pub refused_keeps : (peeled_number r ≡ 0 → ⊥) → L' ≡ L
+  pub refused_keeps : (number_in r ≡ 0 → ⊥) → L' ≡ L
   refused_keeps refused = h.after ∙ refusal_keeps verdict _ _ (λ e. refused (number_is ∙ e))
 
   -- the sketch of a list that is sure is not refused where the parameters and all lengths are right: none of its buckets is damaged
   pub sure_ends : walk_lent_answer P (length L.counts) (length L.idsums) (length L.flows) (length L.numbers) (length L.queue) (length L.marks) ≡ Done
-      → (es : List Entry) → S ≡ sketch_of P es → Sure P es → peeled_number r ≡ 0
+      → (es : List Entry) → S ≡ sketch_of P es → Sure P es → number_in r ≡ 0
   unfolding peel_answer
   sure_ends lent es of-list sure =
       let sound : Whole P S = subst (Whole P) (sym of-list) (sure_whole P (lent_passed P _ _ _ _ _ _ lent).0 es sure) in
       number_is ∙ ap number_in (first_passed _ _ lent ∙ refuse_none (size P) (damaged_at S) Damage Done sound.undamaged)
 
   -- from here on peeling ended
-  module _ (ended : peeled_number r ≡ 0) where
+  module _ (ended : number_in r ≡ 0) where
     done : verdict ≡ Done
-    done = answer_done verdict (sym number_is ∙ ended)
+    done = number_done verdict (sym number_is ∙ ended)
 
     answer_is : r ≡ peeled_of Done o
     answer_is = h.answer ∙ ap (λ (x : Answer). peeled_of x o) done
 
     after_is : L' ≡ closed_slices P o L
-    after_is = h.after ∙ done_alters verdict _ _ done
+    after_is = h.after ∙ sym (kept_new verdict _ _ done)
 
     remainder_is : S' ≡ o.remainder
     remainder_is = ap lent_sketch after_is

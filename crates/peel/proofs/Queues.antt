@@ -3,7 +3,6 @@ use mathlib.Core.Path.{◌≡◌, refl, sym, ap, ◌∙◌}
 use mathlib.Core.Bool.{true, false, cond}
 use mathlib.Core.List.{List, [], ◌∷◌, ◌++◌, append_assoc, append-nil}
 use Prim.Native.Nat.{ℕ, suc, ◌+◌, ◌-◌, ◌<◌, ◌≤◌}
-use native.Mathlib.Nat.{sub-zero}
 use native.Mathlib.Numerals.{add-one}
 use native.Mathlib.Omega.{arith}
 use lib.IntN.{ℤ, pos}
@@ -18,9 +17,6 @@ use Rattle.peel.proofs.Occurrences.{bit_other, occ_nil, occ_snoc, join_new}
 -- the rest of the requeueing, from q on, gives the goal
 pub record Requeueing (at : ℕ → ℕ) (S : Sketch) (d i : ℕ) (q goal : List ℕ) : Type 0 where
   pub list : requeue at S i (d - i) q ≡ goal
-
-pub requeue_none : {at : ℕ → ℕ} {S : Sketch} {d : ℕ} {q : List ℕ} → Requeueing at S d 0 q (requeue at S 0 d q)
-requeue_none {at} {S} {d} {q} = record { list = ap (λ (n : ℕ). requeue at S 0 n q) (sub-zero d) }
 
 module _ {at : ℕ → ℕ} {S : Sketch} {d i : ℕ} {q goal : List ℕ} (v : Requeueing at S d i q goal) where
   requeue_step : i < d → Requeueing at S d (i + 1) (cond (is_zero (count_in S (at i))) q (join (at i) q)) goal

@@ -45,11 +45,7 @@ module _ (P : Params) (n : ℕ) (fs : List ℕ) where
       go (yes l) = untouched _ _ fs k 0 l (le-ltb k n u) ∙ e
       go (no l) = get_or-eq_default (told_slots P n fs) 0 {n = k} (omega (arith, told_long))
 
-  -- with fingerprints the last eight bits go, and without them nothing changes
-  pub told_fingerprinted : fingerprinted P ≡ true → touched (λ i. ltb i n) (λ i x. x / 256) fs ≡ told_slots P n fs
-  unfolding told
-  told_fingerprinted e = rw e
-
+  -- without fingerprints nothing changes
   pub told_plain : fingerprinted P ≡ false → fs ≡ told_slots P n fs
   unfolding told
   told_plain e =

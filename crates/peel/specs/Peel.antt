@@ -1,11 +1,9 @@
 -- What peeling answers, and what it leaves in every slice that it is lent.
-use Rattle.std.specs.Prelude.{not, ◌&&◌, ◌≡◌, List, [], ◌∷◌, ℕ, ℤ, pos, eqb, leb, length, replicate}
+use Rattle.std.specs.Prelude.{not, ◌&&◌, ◌≡◌, List, [], ◌∷◌, ℕ, ℤ, pos, eqb, leb, length, replicate, Ok, Err}
 use Rattle.params.specs.declared.params.Params.{Params}
 use Rattle.params.specs.declared.answers.Refusal.TheVariants.{Length, Damage}
-use Rattle.params.specs.declared.answers.Answer.{Answer}
-use Rattle.params.specs.declared.answers.Answer.TheVariants.{Done, Refused}
 use Rattle.params.specs.Lists.{padded}
-use Rattle.params.specs.Answers.{number_of, refuse_if, refuse_at, first, kept}
+use Rattle.params.specs.Answers.{refuse_if, refuse_at, first, kept, Answer, Done, Given, given}
 use Rattle.params.specs.Params.{size, lent_answer}
 use Rattle.sketch.specs.Sketch.{Sketch, Entry, damaged_at}
 use Rattle.walk.specs.Endings.{ending_number}
@@ -14,8 +12,6 @@ use Rattle.walk.specs.Purity.{rule_of}
 use Rattle.walk.specs.Shown.{shown_table}
 use Rattle.peel.specs.Slices.{Slices, slices, lent_sketch}
 use Rattle.peel.specs.declared.peeling.Figures.{Figures}
-use Rattle.peel.specs.declared.peeling.Peeled.{Peeled}
-use Rattle.peel.specs.declared.peeling.Peeled.TheVariants.{Ended, Refused as NotPeeled}
 
 -- the parameters and the lengths of all that a walk is lent: of the counts and idsums, of the table's two slices, of the queue and the marks
 unfoldable pub walk_lent_answer : Params → ℕ → ℕ → ℕ → ℕ → ℕ → ℕ → Answer
@@ -37,42 +33,33 @@ figures_of o =
     record { ending = o.ending; entries = length (closed_table o); lost = lost_of o; extra = extra_of o; pops = o.pops }
 
 -- a refusal, or else what peeling returns
-abbrev pub unless_refused : Answer → Peeled → Peeled
+abbrev pub unless_refused : Answer → Given Figures → Given Figures
 unless_refused Done x = x
-unless_refused (Refused w k) x = NotPeeled w k
+unless_refused (Err r) x = Err r
 
-abbrev pub peeled_of : Answer → Outcome → Peeled
-peeled_of r o = unless_refused r (Ended (figures_of o))
+abbrev pub peeled_of : Answer → Outcome → Given Figures
+peeled_of r o = given r (figures_of o)
 
--- the caller's number and values: 0 where peeling ended, else the refusal's number and index; the ending's number, the pops, the
--- packets lost and extra and the table's entries, all 0 where it is refused
-abbrev pub peeled_number : Peeled → ℕ
-peeled_number (Ended g) = 0
-peeled_number (NotPeeled w k) = number_of w
+-- the ending's number, the pops, the packets lost and extra and the table's entries, all 0 where it is refused
+abbrev pub peeled_ending : Given Figures → ℕ
+peeled_ending (Ok g) = ending_number g.ending
+peeled_ending (Err r) = 0
 
-abbrev pub peeled_index : Peeled → ℕ
-peeled_index (Ended g) = 0
-peeled_index (NotPeeled w k) = k
+abbrev pub peeled_pops : Given Figures → ℕ
+peeled_pops (Ok g) = g.pops
+peeled_pops (Err r) = 0
 
-abbrev pub peeled_ending : Peeled → ℕ
-peeled_ending (Ended g) = ending_number g.ending
-peeled_ending (NotPeeled w k) = 0
+abbrev pub peeled_lost : Given Figures → ℕ
+peeled_lost (Ok g) = g.lost
+peeled_lost (Err r) = 0
 
-abbrev pub peeled_pops : Peeled → ℕ
-peeled_pops (Ended g) = g.pops
-peeled_pops (NotPeeled w k) = 0
+abbrev pub peeled_extra : Given Figures → ℕ
+peeled_extra (Ok g) = g.extra
+peeled_extra (Err r) = 0
 
-abbrev pub peeled_lost : Peeled → ℕ
-peeled_lost (Ended g) = g.lost
-peeled_lost (NotPeeled w k) = 0
-
-abbrev pub peeled_extra : Peeled → ℕ
-peeled_extra (Ended g) = g.extra
-peeled_extra (NotPeeled w k) = 0
-
-abbrev pub peeled_entries : Peeled → ℕ
-peeled_entries (Ended g) = g.entries
-peeled_entries (NotPeeled w k) = 0
+abbrev pub peeled_entries : Given Figures → ℕ
+peeled_entries (Ok g) = g.entries
+peeled_entries (Err r) = 0
 
 -- a table's flows and its numbers
 unfoldable pub flows_of : List Entry → List ℕ
@@ -100,13 +87,13 @@ judged P L = peel_answer P (lent_sketch L) (length L.flows) (length L.numbers) (
 abbrev pub walked : Params → ℕ → Slices → Outcome
 walked P allowance L = walk (rule_of P) (length L.flows) allowance (lent_sketch L)
 
-abbrev pub peel_returns : Params → ℕ → Slices → Peeled
+abbrev pub peel_returns : Params → ℕ → Slices → Given Figures
 peel_returns P allowance L = peeled_of (judged P L) (walked P allowance L)
 
 abbrev pub peel_leaves : Params → ℕ → Slices → Slices
 peel_leaves P allowance L = kept (judged P L) L (closed_slices P (walked P allowance L) L)
 
 -- L is what is lent, L' what it holds after
-pub record Peels (P : Params) (allowance : ℕ) (L : Slices) (r : Peeled) (L' : Slices) : Type 0 where
+pub record Peels (P : Params) (allowance : ℕ) (L : Slices) (r : Given Figures) (L' : Slices) : Type 0 where
   pub answer : r ≡ peel_returns P allowance L
   pub after : L' ≡ peel_leaves P allowance L

@@ -4,14 +4,15 @@ use Rattle.params.specs.declared.params.Params.{Params}
 use Rattle.sketch.specs.Sketch.{Entry, zeros}
 use Rattle.walk.specs.Walk.{lost_by, extra_by}
 use Rattle.walk.specs.Sure.{in_rising}
-use Rattle.peel.specs.declared.peeling.Peeled.{Peeled}
 use Rattle.peel.specs.Slices.{Slices, lent_sketch}
 use Rattle.peel.specs.Table.{table_of}
-use Rattle.peel.specs.Peel.{peeled_number, peeled_ending, peeled_pops, peeled_lost, peeled_extra, peeled_entries}
+use Rattle.peel.specs.Peel.{peeled_ending, peeled_pops, peeled_lost, peeled_extra, peeled_entries}
+use Rattle.params.specs.Answers.{Given, number_in}
+use Rattle.peel.specs.declared.peeling.Figures.{Figures}
 
 -- not refused, and clean, after a pop for each flow of the list es; the table in the slices L' has the list in rising position in array 1, and nothing of the sketch remains
-pub record PeelWorks (P : Params) (es : List Entry) (r : Peeled) (L' : Slices) : Type 0 where
-  pub number : peeled_number r ≡ 0
+pub record PeelWorks (P : Params) (es : List Entry) (r : Given Figures) (L' : Slices) : Type 0 where
+  pub number : number_in r ≡ 0
   pub ending : peeled_ending r ≡ 1
   pub pops : peeled_pops r ≡ length es
   pub entries : peeled_entries r ≡ length es

@@ -9,4 +9,4 @@ pub mod take; // one take
 pub mod walking; // the walk
 pub mod peeling; // the refusals, the walk and the close
 
-pub use peeling::{Figures, Peeled};
+pub use peeling::Figures;

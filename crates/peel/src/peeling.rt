@@ -7,28 +7,21 @@ ghost use Rattle.peel.specs.Slices.{slices};
 ghost use Rattle.peel.specs.Rep.{Peelable, Leaves};
 ghost use Rattle.peel.specs.Peel.{walk_lent_answer, peel_answer, Peels};
 
-use crate::queue::clear;
 use crate::table::{close, tell};
 use crate::walking::walk_whole;
 use buckets::first_damaged;
-use params::{Answer, Params, Refusal};
+use params::{Params, Refusal, Refused};
 use walk::Ending;
 
 // What a walk found: its ending, the entries of its closed table, the packets lost by its account (the sum of the positive counts) and the
 // extra ones (the sum of the negative counts, without their sign), and the pops made.
-#[derive(Clone, Copy)]
+#[derive(Clone, Copy, Debug, PartialEq, Eq)]
 pub struct Figures {
     pub ending: Ending,
     pub entries: usize,
     pub lost: u64,
     pub extra: u64,
     pub pops: u32,
-}
-
-#[derive(Clone, Copy)]
-pub enum Peeled {
-    Ended(Figures),
-    Refused(Refusal, usize),
 }
 
 // The answer of the lengths that a walk is lent: those of a sketch's counts and idsums, of the table's two slices, of the queue
@@ -41,26 +34,14 @@ pub fn judge_walk_lent(
     numbers: usize,
     queue: usize,
     marks: usize,
-) -> Answer
+) -> Result<(), Refused>
     ensures { result ≡ walk_lent_answer p counts idsums flows numbers queue marks }
 {
-    let r = p.judge_lent(counts, idsums);
-    let Answer::Done = r else {
-        return r;
-    };
-    if queue != counts {
-        return Answer::Refused(Refusal::Length, 0);
+    p.judge_lent(counts, idsums)?;
+    if queue != counts || marks != counts || flows != numbers || 65536 < flows {
+        return Err(Refused(Refusal::Length, 0));
     }
-    if marks != counts {
-        return Answer::Refused(Refusal::Length, 0);
-    }
-    if flows != numbers {
-        return Answer::Refused(Refusal::Length, 0);
-    }
-    if 65536 < flows {
-        return Answer::Refused(Refusal::Length, 0);
-    }
-    Answer::Done
+    Ok(())
 }
 
 // The answer, which alters nothing.
@@ -72,18 +53,15 @@ fn judge(
     numbers: usize,
     queue: usize,
     marks: usize,
-) -> Answer
+) -> Result<(), Refused>
     ensures { result ≡ peel_answer p (sketch counts.now idsums.now) flows numbers queue marks }
 {
-    let r = judge_walk_lent(p, counts.len(), idsums.len(), flows, numbers, queue, marks);
-    let Answer::Done = r else {
-        return r;
-    };
+    judge_walk_lent(p, counts.len(), idsums.len(), flows, numbers, queue, marks)?;
     let x = first_damaged(counts, idsums);
     if x < counts.len() {
-        return Answer::Refused(Refusal::Damage, x);
+        return Err(Refused(Refusal::Damage, x));
     }
-    Answer::Done
+    Ok(())
 }
 
 // The walk and the close, where nothing is refused; then the flows are told.
@@ -101,19 +79,16 @@ fn unravel(
     ensures { Leaves p («walk_of» (rule_of p) (length flows.old) allowance (sketch counts.old idsums.old)) result (slices counts.new idsums.new flows.new numbers.new queue.new marks.new) }
 {
     let walked = walk_whole(p, counts, idsums, flows, numbers, queue, marks, allowance);
-    let ending = walked.ending;
-    let pops = walked.pops;
-    let reached = walked.entries;
-    let listed = close(flows, numbers, reached);
+    let listed = close(flows, numbers, walked.entries);
     tell(p, flows, listed.entries);
-    clear(queue, 0);
-    clear(marks, 0);
+    queue.fill(0);
+    marks.fill(0);
     Figures {
-        ending,
+        ending: walked.ending,
         entries: listed.entries,
         lost: listed.lost,
         extra: listed.extra,
-        pops,
+        pops: walked.pops,
     }
 }
 
@@ -128,10 +103,10 @@ pub fn peel(
     queue: &mut [u32],
     marks: &mut [u32],
     allowance: u32,
-) -> Peeled
+) -> Result<Figures, Refused>
     ensures { Peels p allowance (slices counts.old idsums.old table_flows.old table_counts.old queue.old marks.old) result (slices counts.new idsums.new table_flows.new table_counts.new queue.new marks.new) }
 {
-    let judged = judge(
+    judge(
         p,
         counts,
         idsums,
@@ -139,18 +114,15 @@ pub fn peel(
         table_counts.len(),
         queue.len(),
         marks.len(),
-    );
-    match judged {
-        Answer::Refused(refusal, index) => Peeled::Refused(refusal, index),
-        Answer::Done => Peeled::Ended(unravel(
-            p,
-            counts,
-            idsums,
-            table_flows,
-            table_counts,
-            queue,
-            marks,
-            allowance,
-        )),
-    }
+    )?;
+    Ok(unravel(
+        p,
+        counts,
+        idsums,
+        table_flows,
+        table_counts,
+        queue,
+        marks,
+        allowance,
+    ))
 }

@@ -2,7 +2,7 @@
 // where bucket k waits. What stands above these belongs to the table's chains, and stays.
 ghost use Rattle.std.specs.Prelude.{◌≡◌, ◌+◌, ◌*◌, ◌<◌, ◌≤◌, length};
 ghost use Rattle.params.specs.Positions.{WithinArrays};
-ghost use Rattle.peel.specs.Ring.{ring_place, Ring, Popped, Joined, Requeued, Started, Cleared};
+ghost use Rattle.peel.specs.Ring.{ring_place, Ring, Popped, Joined, Requeued, Started};
 
 // The place i steps after head in a ring of n.
 pub(crate) fn ring_place(head: usize, i: usize, n: usize) -> usize
@@ -51,26 +51,13 @@ pub(crate) fn requeue(
     ensures { Requeued d m ks.now counts.now queue.old marks.old head first queue.new marks.new result }
 {
     let mut waiting = first;
-    let mut i = 0;
-    while i < d {
+    for i in 0..d {
         let j = i * m + ks[i];
         if counts[j] != 0 {
             waiting = push(queue, marks, head, waiting, j);
         }
-        i += 1;
     }
     waiting
-}
-
-// Zeros from index n on.
-pub(crate) fn clear(s: &mut [u32], n: usize)
-    ensures { Cleared 0 n s.old s.new }
-{
-    let mut i = n;
-    while i < s.len() {
-        s[i] = 0;
-        i += 1;
-    }
 }
 
 // Every bucket with a count goes to an empty queue, in rising index: how many there are.
@@ -78,15 +65,13 @@ pub(crate) fn start(counts: &[i32], queue: &mut [u32], marks: &mut [u32]) -> usi
     requires { (length counts.now ≡ length queue.old) × (length marks.old ≡ length queue.old) × (0 < length queue.old) × (length queue.old ≤ 65536) }
     ensures { Started counts.now (length queue.old) queue.new marks.new result }
 {
-    clear(queue, 0);
-    clear(marks, 0);
+    queue.fill(0);
+    marks.fill(0);
     let mut waiting = 0;
-    let mut i = 0;
-    while i < counts.len() {
-        if counts[i] != 0 {
+    for (i, c) in counts.iter().enumerate() {
+        if *c != 0 {
             waiting = push(queue, marks, 0, waiting, i);
         }
-        i += 1;
     }
     waiting
 }

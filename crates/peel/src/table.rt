@@ -8,13 +8,11 @@ ghost use Rattle.std.specs.Prelude.{◌≡◌, true, ◌/◌, ◌<◌, ◌≤◌
 ghost use Rattle.field.specs.Parts.{up, down};
 ghost use Rattle.buckets.specs.Buckets.{in_limits};
 ghost use Rattle.walk.specs.Walk.{entry_of};
-ghost use Rattle.peel.specs.Ring.{Cleared};
 ghost use Rattle.params.specs.Params.{Dimensions};
 ghost use Rattle.params.specs.Lists.{touched};
 ghost use Rattle.peel.specs.Chains.{chain_by, chain_key, Chained, Linked, Relinked};
 ghost use Rattle.peel.specs.Table.{table_of, told_slots, Finds, FindsFrom, Credited, Lists};
 
-use crate::queue::clear;
 use params::{PRIME, Params};
 
 // How many entries a closed table has, the sum of their positive numbers, and that of the negative ones without their sign.
@@ -51,14 +49,7 @@ fn scan(flows: &[u32], first: usize, n: usize, f: u32) -> usize
     requires { n ≤ length flows.now }
     ensures { FindsFrom first flows.now n f result }
 {
-    let mut i = first;
-    while i < n {
-        if flows[i] == f {
-            return i;
-        }
-        i += 1;
-    }
-    n
+    (first..n).find(|i| flows[*i] == f).unwrap_or(n)
 }
 
 // The slot of f, which belongs to chain k, among the first n, or n.
@@ -114,35 +105,18 @@ pub(crate) fn credit(
     n + 1
 }
 
-// Zeros from slot n on.
-fn clear_numbers(s: &mut [i32], n: usize)
-    ensures { Cleared (pos 0) n s.old s.new }
-{
-    let mut i = n;
-    while i < s.len() {
-        s[i] = 0;
-        i += 1;
-    }
-}
-
 // A number's part above 0.
 fn up(z: i32) -> u64
     ensures { result ≡ up z }
 {
-    if z < 0 {
-        return 0;
-    }
-    z as u64
+    u64::from(z.max(0).unsigned_abs())
 }
 
 // Its part below 0, without the sign.
 fn down(z: i32) -> u64
     ensures { result ≡ down z }
 {
-    if z < 0 {
-        return (-(z as i64)) as u64;
-    }
-    0
+    u64::from(z.min(0).unsigned_abs())
 }
 
 // The close: entries with number 0 are dropped, the others keep their order, and all slots past them are 0. It is one pass: an entry that
@@ -154,8 +128,7 @@ pub(crate) fn close(flows: &mut [u32], numbers: &mut [i32], n: usize) -> Listed
     let mut entries = 0;
     let mut lost: u64 = 0;
     let mut extra: u64 = 0;
-    let mut i = 0;
-    while i < n {
+    for i in 0..n {
         let c = numbers[i];
         if c != 0 {
             if entries < i {
@@ -166,10 +139,9 @@ pub(crate) fn close(flows: &mut [u32], numbers: &mut [i32], n: usize) -> Listed
             lost += up(c);
             extra += down(c);
         }
-        i += 1;
     }
-    clear(flows, entries);
-    clear_numbers(numbers, entries);
+    flows[entries..].fill(0);
+    numbers[entries..].fill(0);
     Listed {
         entries,
         lost,
@@ -182,10 +154,8 @@ fn tell_each(flows: &mut [u32], n: usize)
     requires { n ≤ length flows.old }
     ensures { flows.new ≡ touched (λ i. ltb i n) (λ i x. x / 256) flows.old }
 {
-    let mut i = 0;
-    while i < n {
-        flows[i] = flows[i] / 256;
-        i += 1;
+    for x in &mut flows[..n] {
+        *x /= 256;
     }
 }
 

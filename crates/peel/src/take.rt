@@ -31,12 +31,7 @@ pub(crate) fn fits(minus: bool, x: i32, c: i32) -> bool
 fn one_if_nonzero(c: i32, s: u32) -> usize
     ensures { result ≡ one_if_nonzero c s }
 {
-    if c == 0 {
-        if s == 0 {
-            return 0;
-        }
-    }
-    1
+    usize::from(c != 0 || s != 0)
 }
 
 // How many buckets are not all zero.
@@ -45,10 +40,8 @@ pub(crate) fn count_nonzero(counts: &[i32], idsums: &[u32]) -> usize
     ensures { result ≡ nonzero_buckets counts.now idsums.now }
 {
     let mut nonzero = 0;
-    let mut i = 0;
-    while i < counts.len() {
-        nonzero += one_if_nonzero(counts[i], idsums[i]);
-        i += 1;
+    for (c, s) in counts.iter().zip(idsums) {
+        nonzero += one_if_nonzero(*c, *s);
     }
     nonzero
 }
@@ -91,11 +84,9 @@ pub(crate) fn apply(
     ensures { Applied d m ks.now c s counts.old idsums.old counts.new idsums.new result }
 {
     let mut nonzero = first;
-    let mut i = 0;
-    while i < d {
+    for i in 0..d {
         let j = i * m + ks[i];
         nonzero = take_one(counts, idsums, j, c, s, nonzero);
-        i += 1;
     }
     nonzero
 }

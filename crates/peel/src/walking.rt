@@ -8,9 +8,9 @@ ghost use Rattle.peel.specs.Rep.{Holds, Peelable, state_of, Walks};
 
 use crate::queue::{pop, ring_place, start};
 use crate::table::{chain_of, find};
-use crate::take::{count_nonzero, fits, take_flow};
+use crate::take::{Taken, count_nonzero, fits, take_flow};
 use params::Params;
-use walk::{Ending, Found};
+use walk::Ending;
 
 // How a walk ended, after how many pops, and how many entries its table has.
 #[derive(Clone, Copy)]
@@ -62,36 +62,31 @@ fn walk(
         waiting -= 1;
         let c = counts[k];
         let s = idsums[k];
-        let found = walk::test(p, k, c, s);
-        match found {
-            Found::Impure => {}
-            Found::Pure(f) => {
-                p.positions(f, &mut ks);
-                let mut i = 0;
-                while i < d {
-                    let j = i * m + ks[i];
-                    if !fits(true, counts[j], c) {
-                        break 'walk Ending::Range;
-                    }
-                    i += 1;
+        if let Some(f) = walk::test(p, k, c, s) {
+            p.positions(f, &mut ks);
+            for i in 0..d {
+                let j = i * m + ks[i];
+                if !fits(true, counts[j], c) {
+                    break 'walk Ending::Range;
                 }
-                let chain = chain_of(p, f);
-                let at = find(flows, queue, marks, entries, f, chain);
-                if at < entries {
-                    if !fits(false, numbers[at], c) {
-                        break 'walk Ending::Range;
-                    }
-                } else if at == slots {
-                    break 'walk Ending::Full;
-                }
-                let taken = take_flow(
-                    p, &ks, counts, idsums, flows, numbers, queue, marks, head, waiting, nonzero,
-                    entries, chain, at, f, c, s,
-                );
-                waiting = taken.waiting;
-                nonzero = taken.nonzero;
-                entries = taken.entries;
             }
+            let chain = chain_of(p, f);
+            let at = find(flows, queue, marks, entries, f, chain);
+            if at < entries {
+                if !fits(false, numbers[at], c) {
+                    break 'walk Ending::Range;
+                }
+            } else if at == slots {
+                break 'walk Ending::Full;
+            }
+            Taken {
+                waiting,
+                nonzero,
+                entries,
+            } = take_flow(
+                p, &ks, counts, idsums, flows, numbers, queue, marks, head, waiting, nonzero,
+                entries, chain, at, f, c, s,
+            );
         }
     };
     Walked {

@@ -12,38 +12,23 @@ use std::io::{ErrorKind, Read};
 // A proved loop has to end, and nothing says that the input does. No run makes so many turns: each is a read.
 const TURNS: u64 = u64::MAX;
 
-// What a read gave: so many bytes, none since the input has ended, or none since it failed.
-#[derive(Clone, Copy)]
-pub(crate) enum Got {
-    Bytes(usize),
-    End,
-    Failed,
-}
-
-// What the records of the whole input lead to; or a read failed.
-#[derive(Clone, Copy)]
-pub(crate) enum Taken {
-    All(State),
-    Failed,
-}
+// A read failed.
+#[derive(Clone, Copy, Debug)]
+pub(crate) struct ReadFailed;
 
 // Reads until the bytes at hand settle the first head or the input ends, and returns how many they are.
-pub(crate) fn read_head<R: Read>(input: &mut R, buf: &mut [u8]) -> Got {
+pub(crate) fn read_head<R: Read>(input: &mut R, buf: &mut [u8]) -> Result<usize, ReadFailed> {
     let mut held = 0;
-    let mut turns = TURNS;
-    while turns > 0 {
+    for _ in 0..TURNS {
         if head_settled(&buf[0..held]) {
             break;
         }
-        let got = read_on(input, buf, held);
-        match got {
-            Got::Bytes(n) => held += n,
-            Got::End => break,
-            Got::Failed => return Got::Failed,
-        }
-        turns -= 1;
+        let Some(n) = read_on(input, buf, held)? else {
+            break;
+        };
+        held += n;
     }
-    Got::Bytes(held)
+    Ok(held)
 }
 
 // Takes the records of both streams. The first head, which is judged already, stands first in buf with more bytes of the input
@@ -57,11 +42,10 @@ pub(crate) fn take<R: Read>(
     down_idsums: &mut [u32],
     buf: &mut [u8],
     got: usize,
-) -> Taken {
+) -> Result<State, ReadFailed> {
     let mut s = start(p);
     let mut held = to_front(buf, s.at, got);
-    let mut turns = TURNS;
-    while turns > 0 {
+    for _ in 0..TURNS {
         let turned = turn(
             p,
             s,
@@ -72,55 +56,40 @@ pub(crate) fn take<R: Read>(
             buf,
             held,
         );
-        let state = turned.state;
-        s = state;
-        if is_refused(s) {
+        s = turned.state;
+        held = turned.held;
+        // nothing more is read of an input that is refused
+        if matches!(s.stage, Stage::Refused(_)) {
             break;
         }
-        let left = turned.held;
-        let more = read_on(input, buf, left);
-        match more {
-            Got::Bytes(n) => held = left + n,
-            Got::End => break,
-            Got::Failed => return Taken::Failed,
-        }
-        turns -= 1;
+        let Some(n) = read_on(input, buf, held)? else {
+            break;
+        };
+        held += n;
     }
-    Taken::All(s)
-}
-
-// Whether the input is refused, so that nothing more of it is read.
-fn is_refused(s: State) -> bool {
-    let stage = s.stage;
-    if let Stage::Refused(_) = stage {
-        return true;
-    }
-    false
+    Ok(s)
 }
 
 // One read, behind the bytes that are held, which stay as they are. There is always room for it, save where 64 bits do not hold the offsets any
 // more and nothing is taken; then nothing more is read.
-fn read_on<R: Read>(input: &mut R, buf: &mut [u8], held: usize) -> Got
+fn read_on<R: Read>(input: &mut R, buf: &mut [u8], held: usize) -> Result<Option<usize>, ReadFailed>
     ensures { ReadOn buf.old held result buf.new }
 {
     if buf.len() <= held {
-        return Got::Failed;
+        return Err(ReadFailed);
     }
     read_into(input, &mut buf[held..])
 }
 
-// One read. One that a signal interrupted gives no bytes, and is neither a failure nor the end.
-fn read_into<R: Read>(input: &mut R, part: &mut [u8]) -> Got
+// One read: how many bytes it gave, or none where the input has ended. One that a signal interrupted gives 0 bytes, and is neither a failure nor the
+// end.
+fn read_into<R: Read>(input: &mut R, part: &mut [u8]) -> Result<Option<usize>, ReadFailed>
     ensures { came result ≤ length part.new }
 {
     match input.read(part) {
-        Ok(0) => Got::End,
-        Ok(n) => Got::Bytes(n),
-        Err(e) => {
-            if e.kind() == ErrorKind::Interrupted {
-                return Got::Bytes(0);
-            }
-            Got::Failed
-        }
+        Ok(0) => Ok(None),
+        Ok(n) => Ok(Some(n)),
+        Err(e) if e.kind() == ErrorKind::Interrupted => Ok(Some(0)),
+        Err(_) => Err(ReadFailed),
     }
 }

@@ -8,11 +8,9 @@
 mod input; // one read at a time; records as they come, into two sketches
 mod output; // the lines, all at once
 
-use crate::input::{Got, Taken};
 use desk::heads::begin;
 use desk::states::finish;
-use params::{Answer, Params};
-use peel::peeling::Peeled;
+use params::{Params, Refused};
 use settle::settling::settle;
 
 // As many buckets as a report takes; a head with more is refused.
@@ -29,20 +27,16 @@ fn main(rt: HostRuntime) {
 // Reads the first head and judges it.
 fn open(rt: &HostRuntime, buf: &mut [u8]) {
     let mut input = rt.stdin();
-    let first = input::read_head(&mut input, buf);
-    let Got::Bytes(got) = first else {
+    let Ok(got) = input::read_head(&mut input, buf) else {
         output::cannot_read(rt);
         return;
     };
     if buf.len() < got {
         return;
     }
-    let headed = begin(&buf[0..got]);
-    let answer = headed.answer;
-    let p = headed.params;
-    match answer {
-        Answer::Refused(refusal, at) => output::refusal(rt, refusal, at),
-        Answer::Done => two_sketches(rt, p, buf, got),
+    match begin(&buf[0..got]) {
+        Err(Refused(refusal, at)) => output::refusal(rt, refusal, at),
+        Ok(p) => two_sketches(rt, p, buf, got),
     }
 }
 
@@ -90,14 +84,13 @@ fn compare(
         buf,
         got,
     );
-    let Taken::All(s) = taken else {
+    let Ok(s) = taken else {
         output::cannot_read(rt);
         return;
     };
-    let answer = finish(s);
-    match answer {
-        Answer::Refused(refusal, at) => output::refusal(rt, refusal, at),
-        Answer::Done => a_table(rt, p, up_counts, up_idsums, down_counts, down_idsums),
+    match finish(s) {
+        Err(Refused(refusal, at)) => output::refusal(rt, refusal, at),
+        Ok(()) => a_table(rt, p, up_counts, up_idsums, down_counts, down_idsums),
     }
 }
 
@@ -158,7 +151,7 @@ fn print(
     );
     match settled {
         // no input leads here: the sketches hold no damage, and their difference does not leave the range
-        Peeled::Refused(refusal, _) => output::refusal(rt, refusal, 0),
-        Peeled::Ended(figures) => output::report(rt, flows, numbers, up_counts, up_idsums, figures),
+        Err(Refused(refusal, _)) => output::refusal(rt, refusal, 0),
+        Ok(figures) => output::report(rt, flows, numbers, up_counts, up_idsums, figures),
     }
 }

@@ -11,9 +11,8 @@ use lib.ListN.{length}
 use Rattle.field.specs.Parts.{up, down}
 use Rattle.field.proofs.Parts.{int, up_down_add, up_neg, down_neg, abs_parts, one_part}
 use Rattle.params.specs.declared.params.Params.{Params}
-use Rattle.params.specs.declared.answers.Answer.TheVariants.{Done}
 use Rattle.params.specs.declared.answers.Refusal.TheVariants.{Damage, Range}
-use Rattle.params.specs.Answers.{first}
+use Rattle.params.specs.Answers.{first, Done}
 use Rattle.params.specs.Params.{size, good_params, lengths_answer}
 use Rattle.params.proofs.SameParams.{same_itself}
 use Rattle.params.proofs.Judging.{first_passed, refuse_none}

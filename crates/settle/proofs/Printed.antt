@@ -13,8 +13,6 @@ use lib.Seq.{take_at}
 use Rattle.params.specs.declared.params.Params.{Params}
 use Rattle.params.specs.declared.answers.Refusal.{Refusal}
 use Rattle.params.specs.declared.answers.Refusal.TheVariants.{Param}
-use Rattle.params.specs.declared.answers.Answer.{Answer}
-use Rattle.params.specs.declared.answers.Answer.TheVariants.{Done, Refused}
 use Rattle.params.specs.Params.{size}
 use Rattle.params.proofs.Judging.{kept_new}
 use Rattle.params.proofs.Rules.{good_dimensions_lem, dimensions_small}
@@ -22,7 +20,6 @@ use Rattle.sketch.specs.Sketch.{Sketch, zeros}
 use Rattle.sums.specs.Sums.{combined}
 use Rattle.walk.specs.Walk.{Outcome, walk}
 use Rattle.walk.specs.Purity.{rule_of}
-use Rattle.peel.specs.declared.peeling.Peeled.TheVariants.{Ended}
 use Rattle.peel.specs.Slices.{Slices, slices}
 use Rattle.peel.specs.Peel.{figures_of, unless_refused, peeled_of, closed_slices, judged, walked, peel_returns}
 use Rattle.files.specs.Bytes.{overwritten}
@@ -41,6 +38,8 @@ use Rattle.settle.specs.Settling.{settle_judged, less_downstream, Settles}
 use Rattle.settle.proofs.Settled.{settled_ends}
 use Rattle.settle.proofs.TwoStreams.{streams_settle}
 use Rattle.settle.proofs.Reported.{Reported, report_of_walk, report_fits_lem}
+use Rattle.params.specs.Answers.{Answer, Done, Refused}
+use Rattle.std.specs.Prelude.{Ok}
 
 -- a text that is written where there is room for it is the front of the output
 front : {fits : Bool} {text out out' : List ℕ} {n : ℕ} → fits ≡ true → Lined fits text out n out' → (n ≡ length text) × (take n out' ≡ text)
@@ -102,7 +101,7 @@ module _ {a b : List ℕ} {S T : Sketch} (one : StreamRead (params_in a) a (zero
   abbrev outcome : Outcome
   outcome = walked P (8 * size P) peeled
 
-  settles : Settles P T lent (Ended (figures_of outcome)) (closed_slices P outcome peeled)
+  settles : Settles P T lent (Ok (figures_of outcome)) (closed_slices P outcome peeled)
   settles =
       let ends = settled_ends P T lent not_refused in
       record {
@@ -141,16 +140,16 @@ module _ {a b : List ℕ} {S T : Sketch} (one : StreamRead (params_in a) a (zero
 -- a refusal as the program comes to it: the first head is refused; or it is accepted, what follows it is fed to two fresh sketches, and the end of the
 -- input is refused
 pub data TurnedAway (input : List ℕ) (w : Refusal) (k : ℕ) : Type 0 where
-  by_head : (begin_of input).answer ≡ Refused w k → TurnedAway input w k
-  by_records : (P : Params) (r : Fed) (up down : Sketch) → begin_of input ≡ record { answer = Done; params = P } → offsets_fit (drop (head_length_of P) input) (started P) ≡ true
+  by_head : begin_of input ≡ Refused w k → TurnedAway input w k
+  by_records : (P : Params) (r : Fed) (up down : Sketch) → begin_of input ≡ Ok P → offsets_fit (drop (head_length_of P) input) (started P) ≡ true
       → Feeds P (drop (head_length_of P) input) (zeros P) (zeros P) (started P) r up down → finish_answer r.state.stage r.state.at ≡ Refused w k → TurnedAway input w k
 
 -- why: any reader of a stream refuses the head so; its buckets are too many; the upstream stream's reader refuses it so; or the downstream's does
 pub data Reason (input : List ℕ) (w : Refusal) (k : ℕ) : Type 0 where
   no_right_head : ((P : Params) (S : Sketch) → stream_answer P input S ≡ Refused w k) → Reason input w k
   too_many_buckets : head_answer input ≡ Done → few_enough (params_in input) ≡ false → w ≡ Param → k ≡ 0 → Reason input w k
-  upstream_at_fault : (P : Params) → begin_of input ≡ record { answer = Done; params = P } → stream_answer P input (zeros P) ≡ Refused w k → Reason input w k
-  downstream_at_fault : (P : Params) → begin_of input ≡ record { answer = Done; params = P } → DownstreamRefused P input w k → Reason input w k
+  upstream_at_fault : (P : Params) → begin_of input ≡ Ok P → stream_answer P input (zeros P) ≡ Refused w k → Reason input w k
+  downstream_at_fault : (P : Params) → begin_of input ≡ Ok P → DownstreamRefused P input w k → Reason input w k
 
 pub reason : {input : List ℕ} {w : Refusal} {k : ℕ} → TurnedAway input w k → Reason input w k
 reason {input} {w} {k} (by_head e) = ⊎_elim no_right_head (λ h. too_many_buckets h.0 h.1 h.2 h.3) (begin_refused input w k e)

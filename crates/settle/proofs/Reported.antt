@@ -9,7 +9,6 @@ use lib.IntN.{ℤ, pos, ◌-ℤ◌}
 use lib.ListN.{length, drop, length-map}
 use Rattle.params.specs.Lists.{padded}
 use Rattle.params.specs.declared.params.Params.{Params}
-use Rattle.params.specs.declared.answers.Answer.TheVariants.{Done}
 use Rattle.params.specs.Params.{size}
 use Rattle.sketch.specs.Sketch.{Sketch, Entry, zeros}
 use Rattle.sums.specs.Sums.{combined}
@@ -20,8 +19,6 @@ use Rattle.walk.specs.Shown.{tell, shown_table}
 use Rattle.walk.specs.Endings.{ending_number}
 use Rattle.walk.proofs.Figures.{all_counts, counts_less}
 use Rattle.peel.specs.declared.peeling.Figures.{Figures}
-use Rattle.peel.specs.declared.peeling.Peeled.{Peeled}
-use Rattle.peel.specs.declared.peeling.Peeled.TheVariants.{Ended, Refused as NotPeeled}
 use Rattle.peel.specs.Slices.{Slices, lent_sketch}
 use Rattle.peel.specs.Peel.{figures_of, peeled_of, flows_of, numbers_of, closed_slices, judged, walked, Peels}
 use Rattle.peel.proofs.Padding.{flows_many, numbers_many}
@@ -42,6 +39,8 @@ use Rattle.settle.specs.Settling.{settle_judged, less_downstream, Settles}
 use Rattle.settle.proofs.Settled.{settled_is_peeled, settled_ends}
 use Rattle.settle.proofs.TwoStreams.{streams_settle, packets_of, net_between, difference_packets, by_net_counts}
 use Rattle.files.specs.Heads.{head_length_of}
+use Rattle.params.specs.Answers.{Done}
+use Rattle.std.specs.Prelude.{Ok}
 
 -- slices that begin with a table have its lines
 table_lines : (es : List Entry) (fs : List ℕ) (ns : List ℤ) → loss_lines (flows_of es ++ fs) (numbers_of es ++ ns) (length es) ≡ entry_lines es
@@ -58,10 +57,6 @@ walk_text_lem P o n m =
     ap (λ ys. ys ++ (left_lines o.remainder.counts o.remainder.idsums (length o.remainder.counts) ++ end_line o.ending o.pops (lost_of o) (extra_of o)))
     (ap (loss_lines _ _) (sym (length-map (closed_table o) (tell P))) ∙ table_lines (shown_table P o) _ _)
 
-abbrev figures_or : Peeled → Figures → Figures
-figures_or (Ended g) h = g
-figures_or (NotPeeled w k) h = h
-
 -- a report as the desk makes it: the first head is judged, the records behind it are fed to two fresh sketches, of which `lent` has the first,
 -- and at the end of the input nothing more is due; the difference is settled with slices of the sketch's size, and the text written of what
 -- that leaves
@@ -69,13 +64,13 @@ pub record Reported (P : Params) (input text : List ℕ) : Type 0 where
   pub lent : Slices
   pub down : Sketch
   pub fed : Fed
-  pub head : begin_of input ≡ record { answer = Done; params = P }
+  pub head : begin_of input ≡ Ok P
   pub feeding : Feeds P (drop (head_length_of P) input) (zeros P) (zeros P) (started P) fed (lent_sketch lent) down
   pub finished : finish_answer fed.state.stage fed.state.at ≡ Done
   pub long : (length lent.flows ≡ size P) × (length lent.numbers ≡ size P) × (length lent.queue ≡ size P) × (length lent.marks ≡ size P)
   pub figures : Figures
   pub after : Slices
-  pub settled : Settles P down lent (Ended figures) after
+  pub settled : Settles P down lent (Ok figures) after
   pub written : text ≡ report_text after.flows after.numbers figures.entries after.counts after.idsums figures.ending figures.pops figures.lost figures.extra
 
 module _ {P : Params} {input text : List ℕ} (r : Reported P input text) where
@@ -100,7 +95,7 @@ module _ {P : Params} {input text : List ℕ} (r : Reported P input text) where
   abbrev outcome : Outcome
   outcome = walked P (8 * size P) peeled
 
-  peels : Peels P (8 * size P) peeled (Ended r.figures) r.after
+  peels : Peels P (8 * size P) peeled (Ok r.figures) r.after
   peels = settled_is_peeled P r.down r.lent not_refused r.settled
 
   ends : judged P peeled ≡ Done
@@ -110,7 +105,7 @@ module _ {P : Params} {input text : List ℕ} (r : Reported P input text) where
   after_is = peels.after ∙ sym (kept_new (judged P peeled) _ _ ends)
 
   figures_are : r.figures ≡ figures_of outcome
-  figures_are = ap (λ x. figures_or x r.figures) (peels.answer ∙ ap (λ x. peeled_of x outcome) ends)
+  figures_are = let e : Ok r.figures ≡ Ok (figures_of outcome) = peels.answer ∙ ap (λ x. peeled_of x outcome) ends in cc
 
   -- the text is that of the walk over their difference, with 8 * d * m pops and d * m slots
   pub report_of_walk : text ≡ walk_text P (walk (rule_of P) (size P) (8 * size P) difference)

@@ -1,27 +1,23 @@
--- Laws of settling: the stages of its answer, and the record `Settles` put together where it is refused and where it is done.
-use mathlib.Core.Path.{◌≡◌, sym, ap, ap₂, subst, ◌∙◌}
+-- Laws of settling: the stages of its answer, and what is settled where nothing is refused.
+use mathlib.Core.Path.{◌≡◌, sym, ap, ap₂, ◌∙◌}
 use mathlib.Core.Bool.{true}
 use Prim.Native.Nat.{ℕ, ◌*◌, ◌≤◌}
 use native.Mathlib.Omega.{arith}
 use lib.ListN.{length}
 use Rattle.params.specs.declared.params.Params.{Params}
-use Rattle.params.specs.declared.answers.Refusal.{Refusal}
 use Rattle.params.specs.declared.answers.Refusal.TheVariants.{Damage}
-use Rattle.params.specs.declared.answers.Answer.{Answer}
-use Rattle.params.specs.declared.answers.Answer.TheVariants.{Done, Refused}
-use Rattle.params.specs.Answers.{kept}
+use Rattle.params.specs.Answers.{Answer, Done, Given}
 use Rattle.params.specs.Params.{size}
-use Rattle.params.proofs.Judging.{Refuses, first_refused, first_passed, first_done, kept_new, refuse_none}
+use Rattle.params.proofs.Judging.{first_passed, first_done, kept_new, refuse_none}
 use Rattle.params.proofs.Rules.{dimensions_small}
 use Rattle.sketch.specs.Sketch.{Sketch, damaged_at}
 use Rattle.sums.proofs.TwoSketches.{combined_long, combined_undamaged}
 use Rattle.sums.specs.Sums.{combine_answer, combined}
-use Rattle.peel.specs.declared.peeling.Peeled.{Peeled}
-use Rattle.peel.specs.declared.peeling.Peeled.TheVariants.{Refused as NotPeeled}
-use Rattle.peel.specs.Slices.{Slices, lent_sketch, with_sketch}
+use Rattle.peel.specs.Slices.{Slices, lent_sketch}
 use Rattle.peel.specs.Peel.{walk_lent_answer, peel_answer, unless_refused, judged, peel_returns, Peels}
 use Rattle.peel.proofs.Judged.{lent_passed}
 use Rattle.settle.specs.Settling.{settle_answer, settle_judged, less_downstream, Settles}
+use Rattle.peel.specs.declared.peeling.Figures.{Figures}
 
 module _ (P : Params) (S T : Sketch) (flows numbers queue marks : ℕ) where
   abbrev lengths : Answer
@@ -31,10 +27,6 @@ module _ (P : Params) (S T : Sketch) (flows numbers queue marks : ℕ) where
   settling = settle_answer P S T flows numbers queue marks
 
   -- the stages of settling: the lengths, then the difference
-  pub not_lent : (r : Answer) → r ≡ lengths → Refuses r → r ≡ settling
-  unfolding settle_answer
-  not_lent r e h = first_refused r _ _ e h
-
   pub lent_first : (r : Answer) → lengths ≡ Done → r ≡ combine_answer true P P S T → r ≡ settling
   unfolding settle_answer
   lent_first r e h = h ∙ sym (first_passed _ _ e)
@@ -55,39 +47,12 @@ module _ (P : Params) (S T : Sketch) (flows numbers queue marks : ℕ) where
         first_passed _ _ (ap₂ (λ (c s : ℕ). walk_lent_answer P c s flows numbers queue marks) (combined_long true S T).0 (combined_long true S T).1 ∙ both.0)
         ∙ refuse_none (size P) (damaged_at (combined true S T)) Damage Done (λ k l. combined_undamaged true S T P P both.1 k (omega (arith, long.0)))
 
--- what a refusal keeps
-kept_refused : {A : Type 0} {w : Refusal} {k : ℕ} (r : Answer) (old new : A) → Refused w k ≡ r → old ≡ kept r old new
-unfolding kept
-kept_refused r old new e = rw (← e)
-
 module _ (P : Params) (T : Sketch) (L : Slices) where
   abbrev verdict : Answer
   verdict = settle_judged P T L
 
-  abbrev S : Sketch
-  S = lent_sketch L
-
-  -- r is the answer of the difference, and D what it left of S
-  module _ (r : Answer) (D : Sketch) (e : r ≡ verdict) (l : D ≡ kept r S (combined true S T)) where
-    pub not_settled : (w : Refusal) (k : ℕ) → r ≡ Refused w k → Settles P T L (NotPeeled w k) (with_sketch D L)
-    not_settled w k h =
-        let refused : Refused w k ≡ verdict = sym h ∙ e in
-        record {
-          answer = ap (λ (x : Answer). unless_refused x (peel_returns P (8 * size P) (less_downstream P T L))) refused;
-          after = ap (λ (D : Sketch). with_sketch D L) (l ∙ sym (kept_refused r S (combined true S T) (sym h))) ∙ kept_refused verdict L _ refused;
-        }
-
-    pub settled : (x : Peeled) (L' : Slices) → r ≡ Done → Peels P (8 * size P) (with_sketch D L) x L' → Settles P T L x L'
-    settled x L' h peels =
-        let done : verdict ≡ Done = sym e ∙ h in
-        let p = subst (λ (D : Sketch). Peels P (8 * size P) (with_sketch D L) x L') (l ∙ sym (kept_new r S (combined true S T) h)) peels in
-        record {
-          answer = p.answer ∙ ap (λ (x : Answer). unless_refused x (peel_returns P (8 * size P) (less_downstream P T L))) (sym done);
-          after = p.after ∙ kept_new verdict L _ done;
-        }
-
-  -- the other way: where nothing is refused, what is settled is the difference peeled, and all that is promised of peeling holds of it
-  pub settled_is_peeled : {x : Peeled} {L' : Slices} → verdict ≡ Done → Settles P T L x L' → Peels P (8 * size P) (less_downstream P T L) x L'
+  -- where nothing is refused, what is settled is the difference peeled, and all that is promised of peeling holds of it
+  pub settled_is_peeled : {x : Given Figures} {L' : Slices} → verdict ≡ Done → Settles P T L x L' → Peels P (8 * size P) (less_downstream P T L) x L'
   settled_is_peeled done s =
       record {
         answer = s.answer ∙ ap (λ (x : Answer). unless_refused x (peel_returns P (8 * size P) (less_downstream P T L))) done;
@@ -96,4 +61,4 @@ module _ (P : Params) (T : Sketch) (L : Slices) where
 
   -- and peeling it refuses nothing
   pub settled_ends : verdict ≡ Done → judged P (less_downstream P T L) ≡ Done
-  settled_ends done = settled_peels P S T (length L.flows) (length L.numbers) (length L.queue) (length L.marks) done
+  settled_ends done = settled_peels P (lent_sketch L) T (length L.flows) (length L.numbers) (length L.queue) (length L.marks) done

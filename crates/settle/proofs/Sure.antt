@@ -14,8 +14,7 @@ use Rattle.field.specs.Parts.{up, down}
 use Rattle.field.proofs.Parts.{int, up_down_add, up_neg, down_neg, abs_parts, one_part}
 use Rattle.params.specs.declared.params.Params.{Params}
 use Rattle.params.specs.declared.answers.Refusal.TheVariants.{Length}
-use Rattle.params.specs.declared.answers.Answer.TheVariants.{Done}
-use Rattle.params.specs.Answers.{number_in}
+use Rattle.params.specs.Answers.{number_in, Done, Given}
 use Rattle.params.specs.Params.{size, is_flow, good_params, Dimensions, lent_answer}
 use Rattle.params.proofs.BucketNumbers.{stretch_within}
 use Rattle.params.proofs.Judging.{first_done, refuse_done}
@@ -45,9 +44,8 @@ use Rattle.walk.proofs.Promises.{Nothing, clean_only}
 use Rattle.walk.proofs.Rising.{own_once}
 use Rattle.walk.proofs.Bounds.{part_is, within_all}
 use Rattle.walk.proofs.Sure.{few_flows, sure_whole, surely}
-use Rattle.peel.specs.declared.peeling.Peeled.{Peeled}
 use Rattle.peel.specs.Slices.{Slices, lent_sketch}
-use Rattle.peel.specs.Peel.{walk_lent_answer, peeled_number}
+use Rattle.peel.specs.Peel.{walk_lent_answer}
 use Rattle.peel.specs.Sure.{PeelWorks}
 use Rattle.peel.proofs.Promised.{dimensions_are, works, losses_are_sure}
 use Rattle.lines.specs.Lines.{end_line}
@@ -61,15 +59,16 @@ use Rattle.settle.proofs.Settled.{lent_first}
 use Rattle.settle.proofs.AtTheCall.{number_is, ended_is_peeled}
 use Rattle.settle.proofs.TwoStreams.{packets_of, net_between, fresh_history, difference_nets}
 use Rattle.settle.proofs.Reported.{Reported, report_of_walk, difference_is}
+use Rattle.peel.specs.declared.peeling.Figures.{Figures}
 
 -- a list that is sure has no more flows than the sketch has buckets, so that d * m slots and 8 * d * m pops are enough
 enough : (P : Params) → Dimensions P → (es : List Entry) → Sure P es → length es ≤ size P
 enough P h es sure = omega (arith, few_flows P h es sure, stretch_within P.d P.m 0 (omega (arith, h.d_low)))
 
 -- h is what the contract of `settle` gives: two whole sketches, whose difference is the sketch of a list that is sure, are not refused where the parameters and all lengths are right
-pub settle_sure_ends : {P : Params} {T : Sketch} {L : Slices} {r : Peeled} {L' : Slices} → Settles P T L r L'
+pub settle_sure_ends : {P : Params} {T : Sketch} {L : Slices} {r : Given Figures} {L' : Slices} → Settles P T L r L'
     → walk_lent_answer P (length L.counts) (length L.idsums) (length L.flows) (length L.numbers) (length L.queue) (length L.marks) ≡ Done
-    → Whole P (lent_sketch L) → Whole P T → (es : List Entry) → combined true (lent_sketch L) T ≡ sketch_of P es → Sure P es → peeled_number r ≡ 0
+    → Whole P (lent_sketch L) → Whole P T → (es : List Entry) → combined true (lent_sketch L) T ≡ sketch_of P es → Sure P es → number_in r ≡ 0
 unfolding walk_lent_answer
 settle_sure_ends {P} {T} {L} h lent one two es of-list sure =
     let S = lent_sketch L in
@@ -83,7 +82,7 @@ settle_sure_ends {P} {T} {L} h lent one two es of-list sure =
     number_is h ∙ ap number_in (sym (lent_first P S T (length L.flows) (length L.numbers) (length L.queue) (length L.marks) Done lent (sym none)))
 
 -- from here on it was not refused
-module _ {P : Params} {T : Sketch} {L : Slices} {r : Peeled} {L' : Slices} (h : Settles P T L r L') (ended : peeled_number r ≡ 0) where
+module _ {P : Params} {T : Sketch} {L : Slices} {r : Given Figures} {L' : Slices} (h : Settles P T L r L') (ended : number_in r ≡ 0) where
   -- where the difference is the sketch of a list that is sure, a slot for each flow is enough
   module _ (es : List Entry) (of-list : combined true (lent_sketch L) T ≡ sketch_of P es) (room : length es ≤ length L.flows) where
     pub settle_works : Sure P es → PeelWorks P es r L'
@@ -150,12 +149,12 @@ packets_above (g ∷ fs) (n ∷ ns) f = go (eqb g f) (packets_above fs ns f)
 -- packets that were accepted are of flows
 packets_flows : (P : Params) (fs ns : List ℕ) (S : Sketch) → packets_answer P fs ns S ≡ Done → (f : ℕ) → (net_count (entries_of fs ns) f ≡ pos 0 → ⊥) → is_flow P f ≡ true
 unfolding packets_answer entries_of net_count
-packets_flows P [] ns S done f some = absurd (some refl)
-packets_flows P (g ∷ fs) [] S done f some = absurd (some refl)
-packets_flows P (g ∷ fs) (n ∷ ns) S done f some = go (eqb g f) refl some (packets_flows P fs ns (changed P false g n S) both.1 f)
+packets_flows P [] ns S all f some = absurd (some refl)
+packets_flows P (g ∷ fs) [] S all f some = absurd (some refl)
+packets_flows P (g ∷ fs) (n ∷ ns) S all f some = go (eqb g f) refl some (packets_flows P fs ns (changed P false g n S) both.1 f)
   where
     both : (step_answer P false g n S ≡ Done) × (packets_answer P fs ns (changed P false g n S) ≡ Done)
-    both = first_done _ _ done
+    both = first_done _ _ all
 
     go : (b : Bool) → eqb g f ≡ b → (cond b (pos n) (pos 0) +ℤ net_count (entries_of fs ns) f ≡ pos 0 → ⊥) → ((net_count (entries_of fs ns) f ≡ pos 0 → ⊥) → is_flow P f ≡ true) → is_flow P f ≡ true
     go true q some ih = subst (λ (f : ℕ). is_flow P f ≡ true) (eqb-true g f q) (step_done P false g n S both.0).let_in.flow

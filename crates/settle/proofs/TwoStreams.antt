@@ -6,9 +6,8 @@ use Prim.Native.Nat.{ℕ, ◌≤◌}
 use lib.IntN.{ℤ, pos, ◌-ℤ◌}
 use lib.ListN.{length, length-replicate}
 use Rattle.params.specs.declared.params.Params.{Params}
-use Rattle.params.specs.declared.answers.Answer.TheVariants.{Done}
 use Rattle.params.specs.Params.{size}
-use Rattle.params.specs.Answers.{kept}
+use Rattle.params.specs.Answers.{kept, Done}
 use Rattle.params.proofs.Rules.{lent_back}
 use Rattle.sketch.specs.Sketch.{Sketch, Entry, sketch_of, zeros, Freshened}
 use Rattle.sketch.specs.Packets.{entries_of}

@@ -6,8 +6,8 @@ ghost use Rattle.sums.specs.Sums.{combined};
 ghost use Rattle.peel.specs.Slices.{slices};
 ghost use Rattle.settle.specs.Settling.{settle_answer, Settles};
 
-use params::{Answer, Params};
-use peel::peeling::{Peeled, judge_walk_lent, peel};
+use params::{Params, Refused};
+use peel::peeling::{Figures, judge_walk_lent, peel};
 use sums::subtract;
 
 // Takes the downstream's sketch from the upstream's. The lengths that the walk needs are judged before, so that a refusal of them
@@ -22,10 +22,10 @@ fn difference(
     numbers: usize,
     queue: usize,
     marks: usize,
-) -> Answer
+) -> Result<(), Refused>
     ensures { (result ≡ settle_answer p (sketch up_counts.old up_idsums.old) (sketch down_counts.now down_idsums.now) flows numbers queue marks) × (sketch up_counts.new up_idsums.new ≡ kept result (sketch up_counts.old up_idsums.old) (combined true (sketch up_counts.old up_idsums.old) (sketch down_counts.now down_idsums.now))) }
 {
-    let r = judge_walk_lent(
+    judge_walk_lent(
         p,
         up_counts.len(),
         up_idsums.len(),
@@ -33,10 +33,7 @@ fn difference(
         numbers,
         queue,
         marks,
-    );
-    let Answer::Done = r else {
-        return r;
-    };
+    )?;
     subtract(p, p, up_counts, up_idsums, down_counts, down_idsums)
 }
 
@@ -52,10 +49,10 @@ pub fn settle(
     table_counts: &mut [i32],
     queue: &mut [u32],
     marks: &mut [u32],
-) -> Peeled
+) -> Result<Figures, Refused>
     ensures { Settles p (sketch down_counts.now down_idsums.now) (slices up_counts.old up_idsums.old table_flows.old table_counts.old queue.old marks.old) result (slices up_counts.new up_idsums.new table_flows.new table_counts.new queue.new marks.new) }
 {
-    let judged = difference(
+    difference(
         p,
         up_counts,
         up_idsums,
@@ -65,18 +62,15 @@ pub fn settle(
         table_counts.len(),
         queue.len(),
         marks.len(),
-    );
-    match judged {
-        Answer::Refused(refusal, index) => Peeled::Refused(refusal, index),
-        Answer::Done => peel(
-            p,
-            up_counts,
-            up_idsums,
-            table_flows,
-            table_counts,
-            queue,
-            marks,
-            (8 * (p.d * p.m)) as u32,
-        ),
-    }
+    )?;
+    peel(
+        p,
+        up_counts,
+        up_idsums,
+        table_flows,
+        table_counts,
+        queue,
+        marks,
+        (8 * (p.d * p.m)) as u32,
+    )
 }

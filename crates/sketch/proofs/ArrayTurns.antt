@@ -8,9 +8,9 @@ use lib.ListN.{length, get_or, set, take, drop}
 use borrow.Rule.Slice.PartMut.{put_mid}
 use Rattle.params.specs.Lists.{touched}
 use Rattle.params.specs.Positions.{stands_in}
-use Rattle.params.proofs.Changes.{length_touched, touched_none}
+use Rattle.params.proofs.Changes.{touched_none}
 use Rattle.params.proofs.Standing.{standing_past}
-use Rattle.sketch.proofs.LentParts.{part_long, part_old, part_next}
+use Rattle.sketch.proofs.LentParts.{part_old, part_next}
 use Rattle.sketch.proofs.Standing.{standing_none, standing_next}
 
 pub turns_start : {A : Type 0} (d : A) (m : ℕ) (g : ℕ → ℕ) (h : ℕ → A → A) (xs : List A) → xs ≡ touched (stands_in 0 m g) h xs
@@ -24,11 +24,6 @@ module _ {A : Type 0} (d : A) (m : ℕ) (g : ℕ → ℕ) (i : ℕ) (h : ℕ →
 
   new : stands_in i m g (i * m + g i) ≡ false
   new = standing_past i m g (i * m + g i) low (omega arith)
-
-  pub turn_long : g i < length lent
-  turn_long =
-      let e : length ys ≡ length xs = ap length before ∙ length_touched _ _ _ in
-      part_long ys (i * m) (i * m + m - i * m) (g i) (omega arith) (omega arith)
 
   pub turn_old : get_or lent (g i) d ≡ get_or xs (i * m + g i) d
   turn_old =

@@ -7,8 +7,7 @@ use lib.IntN.{pos}
 use lib.ListN.{length}
 use Rattle.field.specs.Residue.{residue}
 use Rattle.params.specs.declared.params.Params.{Params}
-use Rattle.params.specs.declared.answers.Answer.TheVariants.{Done}
-use Rattle.params.specs.Answers.{kept}
+use Rattle.params.specs.Answers.{kept, Done}
 use Rattle.params.specs.Params.{prime_of, size}
 use Rattle.params.specs.Sketched.{sketched}
 use Rattle.params.specs.Positions.{index, stands}

@@ -11,9 +11,7 @@ use lib.ListN.{length, get_or, take}
 use Rattle.params.specs.declared.params.Params.{Params}
 use Rattle.params.specs.declared.answers.Refusal.TheVariants.{Param, Length, Damage, Range}
 use Rattle.params.specs.declared.answers.Refusal.{Refusal}
-use Rattle.params.specs.declared.answers.Answer.{Answer}
-use Rattle.params.specs.declared.answers.Answer.TheVariants.{Done, Refused}
-use Rattle.params.specs.Answers.{number_of, number_in, refuse_if, first}
+use Rattle.params.specs.Answers.{number_of, number_in, refuse_if, first, Answer, Done, Refused}
 use Rattle.params.specs.Params.{size, good_params, lengths_answer, lent_answer}
 use Rattle.params.specs.Positions.{stands}
 use Rattle.params.specs.Faults.{order, first_of, lent_fault}
@@ -26,6 +24,7 @@ use Rattle.params.proofs.InOrder.{GoesBy, goes_by, IndexZero, refuse_number, fir
 use Rattle.sketch.proofs.InOrder.{move_number, move_index, move_lowest}
 use Rattle.sketch.proofs.Steps.{move_good}
 use Rattle.sketch.proofs.Lowest.{LowestOf, move_lowest_damage, move_lowest_range}
+use Rattle.std.specs.Prelude.{Err}
 
 pub fresh_goes_by : {P : Params} {S S' : Sketch} {r : Answer} → Freshened P S r S' → GoesBy (lent_fault P (length S.counts) (length S.idsums)) r
 fresh_goes_by h = goes_by h.answer (lent_number _ _ _) (lent_index _ _ _)
@@ -65,11 +64,11 @@ packets_first P (f ∷ fs) (n ∷ ns) S g e = go (step_answer P false f n S) ref
   where
     next : step_answer P false f n S ≡ Done → (r : Answer) → FirstRefused P fs ns (changed P false f n S) r → FirstRefused P (f ∷ fs) (n ∷ ns) S r
     next d Done (none_refused a) = none_refused (accepted_next P f n fs ns S (length fs) d a)
-    next d (Refused w j) (refused_at_lem k l a q) = refused_at_lem (suc k) (omega arith) (accepted_next P f n fs ns S k d a) q
+    next d (Err r) (refused_at_lem k l a q) = refused_at_lem (suc k) (omega arith) (accepted_next P f n fs ns S k d a) q
 
     go : (r : Answer) → step_answer P false f n S ≡ r → FirstRefused P fs ns (changed P false f n S) (packets_answer P fs ns (changed P false f n S)) → FirstRefused P (f ∷ fs) (n ∷ ns) S (first r (packets_answer P fs ns (changed P false f n S)))
     go Done d ih = next d _ ih
-    go (Refused w j) d ih = refused_at_lem 0 (omega arith) (λ i l. absurd (omega arith)) (sym (move_good P false f n S g ∙ d))
+    go (Err r) d ih = refused_at_lem 0 (omega arith) (λ i l. absurd (omega arith)) (sym (move_good P false f n S g ∙ d))
 
 -- the parameters and the lengths are judged before the first packet
 pub record AllGoesBy (P : Params) (fs ns : List ℕ) (S : Sketch) (r : Answer) : Type 0 where
@@ -97,7 +96,7 @@ module _ (P : Params) (fs ns : List ℕ) (S : Sketch) where
     where
       go : (r : Answer) → first r (refuse_if unequal Length 0 (packets_answer P fs ns S)) ≡ first (first r (refuse_if unequal Length 0 Done)) (packets_answer P fs ns S)
       go Done = sym (first_refuse unequal Length 0 Done (packets_answer P fs ns S))
-      go (Refused w k) = refl
+      go (Err r) = refl
 
   ahead_done : ahead ≡ Done → (good_params P ≡ true) × (length fs ≡ length ns)
   unfolding ahead unequal lent_answer
@@ -116,8 +115,8 @@ module _ (P : Params) (fs ns : List ℕ) (S : Sketch) where
             before = λ q. absurd (q (sym ahead_number ∙ ap number_in e));
             packets = λ z. subst⁻¹ (FirstRefused P fs ns S) (h.answer ∙ ahead_first ∙ first_passed ahead _ e) (packets_first P fs ns S g.0 g.1);
           }
-      go (Refused w k) e =
+      go (Err r) e =
           record {
             before = λ q. goes_by (h.answer ∙ ahead_first ∙ ap (λ (a : Answer). first a (packets_answer P fs ns S)) e ∙ sym e) ahead_number ahead_index;
-            packets = λ z. absurd (number_some w (sym (ap number_in e) ∙ ahead_number ∙ z));
+            packets = λ z. absurd (number_some r.0 (sym (ap number_in e) ∙ ahead_number ∙ z));
           }

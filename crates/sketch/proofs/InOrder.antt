@@ -8,8 +8,7 @@ use lib.ListN.{length}
 use Rattle.params.specs.declared.params.Params.{Params}
 use Rattle.params.specs.declared.answers.Refusal.{Refusal}
 use Rattle.params.specs.declared.answers.Refusal.TheVariants.{Param, Length, Flow, Count}
-use Rattle.params.specs.declared.answers.Answer.TheVariants.{Done}
-use Rattle.params.specs.Answers.{number_of, number_in, first}
+use Rattle.params.specs.Answers.{number_of, number_in, first, Done}
 use Rattle.params.specs.Params.{is_flow, size, good_dimensions, good_params, lengths_answer, dimensions_answer}
 use Rattle.buckets.specs.Buckets.{is_number}
 use Rattle.sketch.specs.Arrays.{array_answer}

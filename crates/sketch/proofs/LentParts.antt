@@ -16,7 +16,7 @@ module _ {A : Type 0} where
   pub get_d_part : (xs : List A) (a m j : ℕ) (d : A) → j < m → get_or (take m (drop a xs)) j d ≡ get_or xs (a + j) d
   get_d_part xs a m j d h = get_or-take m (drop a xs) j d h ∙ get_or-drop a xs j d
 
-  pub part_long : (xs : List A) (a k j : ℕ) → a + k ≤ length xs → j < k → j < length (take k (drop a xs))
+  part_long : (xs : List A) (a k j : ℕ) → a + k ≤ length xs → j < k → j < length (take k (drop a xs))
   part_long xs a k j h l = simp (length-take, length-drop) (omega arith)
 
   -- what stands in a part of a list that was touched elsewhere

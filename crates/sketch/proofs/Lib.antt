@@ -1,6 +1,5 @@
 -- The laws of sketches, which the proofs of this crate and of those above it cite.
 pub mod LentParts
-pub mod Fills
 pub mod Standing
 pub mod ArrayTurns
 pub mod Steps

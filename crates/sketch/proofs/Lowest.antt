@@ -10,9 +10,7 @@ use lib.ListN.{length}
 use Rattle.params.specs.declared.params.Params.{Params}
 use Rattle.params.specs.declared.answers.Refusal.{Refusal}
 use Rattle.params.specs.declared.answers.Refusal.TheVariants.{Param, Length, Flow, Count, Damage, Range, Mismatch, Form, Fold}
-use Rattle.params.specs.declared.answers.Answer.{Answer}
-use Rattle.params.specs.declared.answers.Answer.TheVariants.{Done, Refused}
-use Rattle.params.specs.Answers.{refuse_if, refuse_at, first}
+use Rattle.params.specs.Answers.{refuse_if, refuse_at, first, Answer, Done, Refused}
 use Rattle.params.specs.Params.{is_flow, size, good_dimensions, good_params, lengths_answer, dimensions_answer, lent_answer}
 use Rattle.params.specs.Positions.{stands}
 use Rattle.buckets.specs.Buckets.{in_limits, is_number, damaged, plus_minus}
@@ -20,6 +18,7 @@ use Rattle.sketch.specs.Sketch.{Sketch, count_in, idsum_in, damaged_in, leaves_i
 use Rattle.sketch.specs.Packets.{packet_answer, entry_answer, step_answer, move_answer}
 use Rattle.params.proofs.Searches.{and_true, and_rest}
 use Rattle.params.proofs.Lowest.{Lowest, refuse_at_lem}
+use Rattle.std.specs.Prelude.{Err}
 
 -- buckets that are damaged are judged first, then those that would leave their limits
 pub damage_lowest : (n m : ℕ) (t u : ℕ → Bool) (k : ℕ) → refuse_at n t Damage (refuse_at m u Range Done) ≡ Refused Damage k → Lowest n t k
@@ -50,7 +49,7 @@ of_bucket Fold = false
 
 abbrev pub refuses_bucket : Answer → Bool
 refuses_bucket Done = false
-refuses_bucket (Refused w k) = of_bucket w
+refuses_bucket (Err r) = of_bucket r.0
 
 pub refuse_early : (b : Bool) (w : Refusal) (k : ℕ) (next : Answer) → of_bucket w ≡ false → refuses_bucket next ≡ false → refuses_bucket (refuse_if b w k next) ≡ false
 refuse_early true w k next e q = e
@@ -59,7 +58,7 @@ refuse_early false w k next e q = q
 pub first_early : (r next : Answer) → refuses_bucket r ≡ false → refuses_bucket next ≡ false → refuses_bucket (first r next) ≡ false
 unfolding first
 first_early Done next e q = q
-first_early (Refused w k) next e q = e
+first_early (Err r) next e q = e
 
 -- so a refusal for either comes from the buckets
 pub refuse_late : (b : Bool) (w v : Refusal) (j k : ℕ) (next : Answer) → of_bucket w ≡ false → of_bucket v ≡ true → refuse_if b w j next ≡ Refused v k → (b ≡ false) × (next ≡ Refused v k)
@@ -69,7 +68,7 @@ refuse_late false w v j k next e q h = (refl, h)
 pub first_late : (r next : Answer) (v : Refusal) (k : ℕ) → refuses_bucket r ≡ false → of_bucket v ≡ true → first r next ≡ Refused v k → (r ≡ Done) × (next ≡ Refused v k)
 unfolding first
 first_late Done next v k e q h = (refl, h)
-first_late (Refused w j) next v k e q h = let same : of_bucket w ≡ of_bucket v = ap refuses_bucket h in (cc, cc)
+first_late (Err r) next v k e q h = let same : of_bucket r.0 ≡ of_bucket v = ap refuses_bucket h in (cc, cc)
 
 pub lengths_early : (P : Params) (c s : ℕ) → refuses_bucket (lengths_answer P c s) ≡ false
 unfolding lengths_answer

@@ -1,25 +1,22 @@
 -- Laws of packets that go in one after the other, and of taking the first of them out again.
 use mathlib.Core.Path.{◌≡◌, refl, sym, ap, ◌∙◌}
-use mathlib.Core.Bool.{Bool, true, false, not}
+use mathlib.Core.Bool.{Bool, true, false}
 use mathlib.Core.List.{List, [], ◌∷◌}
 use Prim.Native.Nat.{ℕ, zero, suc, ◌+◌, ◌-◌, ◌≤◌, ◌<◌}
 use native.Mathlib.Numerals.{add-one}
 use native.Mathlib.Omega.{arith}
-use borrow.Author.Tests.{eq-eqb, ne_eqb}
-use lib.Dec.{eqb}
+use borrow.Author.Tests.{eq-eqb}
 use lib.ListN.{length, get_or, take, drop, drop_of_length-le}
 use lib.Seq.{drop-cons, take_all}
 use Rattle.params.specs.declared.params.Params.{Params}
-use Rattle.params.specs.declared.answers.Refusal.TheVariants.{Length}
-use Rattle.params.specs.declared.answers.Answer.{Answer}
-use Rattle.params.specs.declared.answers.Answer.TheVariants.{Done, Refused}
-use Rattle.params.specs.Answers.{refuse_if, first, kept}
+use Rattle.params.specs.Answers.{first, kept, Answer, Done}
 use Rattle.params.specs.Params.{lent_answer}
 use Rattle.sketch.specs.Sketch.{Sketch, changed_in}
 use Rattle.sketch.specs.Packets.{step_answer, changed, Stepped, after, packets_answer, PacketsInserted, all_answer, AllInserted, Accepted}
 use Rattle.params.proofs.Changes.{length_touched}
-use Rattle.params.proofs.Judging.{Refuses, first_refused, first_passed, kept_old, kept_new}
+use Rattle.params.proofs.Judging.{Refuses, first_refused, first_passed, kept_new}
 use Rattle.sketch.proofs.TakenBack.{step_back}
+use Rattle.std.specs.Prelude.{Err}
 
 -- a step keeps the lengths
 pub record Long (S S' : Sketch) : Type 0 where
@@ -29,7 +26,7 @@ pub record Long (S S' : Sketch) : Type 0 where
 kept_long : (r : Answer) (P : Params) (minus : Bool) (f n : ℕ) (S : Sketch) → Long S (kept r S (changed P minus f n S))
 unfolding kept changed changed_in
 kept_long Done P minus f n S = record { counts = length_touched _ _ _; idsums = length_touched _ _ _ }
-kept_long (Refused w k) P minus f n S = record { counts = refl; idsums = refl }
+kept_long (Err r) P minus f n S = record { counts = refl; idsums = refl }
 
 pub stepped_long : {minus : Bool} {P : Params} {f n : ℕ} {S S' : Sketch} {r : Answer} → Stepped minus P f n S r S' → Long S S'
 stepped_long {minus} {P} {f} {n} {S} {S'} {r} s = rw s.after (kept_long r P minus f n S)
@@ -90,24 +87,9 @@ unwind P fs ns S i r T T' low h l a e s =
     let before : i ≡ suc (i - 1) = omega arith in
     unwind_last P fs ns S (i - 1) r T T' (omega arith) (omega arith) (λ j m. a j (omega arith)) (rw before at e) s
 
--- the stages of many packets at once: wrong parameters or lengths, lists of different lengths, and the packets in turn
-module _ (P : Params) (fs ns : List ℕ) (S : Sketch) where
-  -- what is judged after these
-  abbrev in_turn : Answer
-  in_turn = refuse_if (not (eqb (length fs) (length ns))) Length 0 (packets_answer P fs ns S)
-
-  pub all_misshaped : (r : Answer) → r ≡ lent_answer P (length S.counts) (length S.idsums) → Refuses r → AllInserted P fs ns S r S
-  unfolding all_answer
-  all_misshaped r e h =
-      record {
-        answer = first_refused r _ in_turn e h;
-        after_all = kept_old r S (after P fs ns S) h;
-      }
-
-  pub all_unequal : lent_answer P (length S.counts) (length S.idsums) ≡ Done → (length fs ≡ length ns → ⊥) → AllInserted P fs ns S (Refused Length 0) S
-  unfolding all_answer kept
-  all_unequal d h = record { answer = rw (ne_eqb (length fs) (length ns) h) (sym (first_passed _ _ d)); after_all = refl }
-
-  pub all_in_turn : (r : Answer) (S' : Sketch) → lent_answer P (length S.counts) (length S.idsums) ≡ Done → length fs ≡ length ns → PacketsInserted P fs ns S r S' → AllInserted P fs ns S r S'
-  unfolding all_answer
-  all_in_turn r S' d e p = record { answer = p.answer ∙ rw (eq-eqb (length fs) (length ns) e) (sym (first_passed _ _ d)); after_all = p.after_all }
+-- many packets at once, after the parameters and the lengths
+pub all_in_turn : (P : Params) (fs ns : List ℕ) (S : Sketch) (r : Answer) (S' : Sketch) → lent_answer P (length S.counts) (length S.idsums) ≡ Done → length fs ≡ length ns
+    → PacketsInserted P fs ns S r S' → AllInserted P fs ns S r S'
+unfolding all_answer
+all_in_turn P fs ns S r S' d e p =
+    record { answer = p.answer ∙ rw (eq-eqb (length fs) (length ns) e) (sym (first_passed _ _ d)); after_all = p.after_all }

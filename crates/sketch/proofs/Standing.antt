@@ -2,7 +2,7 @@
 use mathlib.Core.Path.{◌≡◌, refl, sym, ap, ◌∙◌, fun_ext}
 use mathlib.Core.Bool.{Bool, true, false, cond, ◌&&◌}
 use mathlib.Core.List.{List}
-use Prim.Native.Nat.{ℕ, suc, ◌+◌, ◌-◌, ◌*◌, ◌/◌, ◌%◌, ◌≤◌, ◌<◌}
+use Prim.Native.Nat.{ℕ, ◌+◌, ◌*◌, ◌/◌, ◌%◌, ◌≤◌, ◌<◌}
 use native.Mathlib.Nat.{div-lt_iff_lt-mul, mod-add-div', suc-mul}
 use native.Mathlib.Numerals.{add-one}
 use native.Mathlib.Decide.{ℕ_discrete, dec_lt}
@@ -10,9 +10,10 @@ use native.Mathlib.Omega.{arith}
 use borrow.Author.Tests.{eq-eqb, ne_eqb, lt-ltb, le-ltb}
 use lib.Dec.{eqb, ltb}
 use lib.ListN.{get_or}
-use Rattle.params.specs.Lists.{least}
+use Rattle.params.specs.Lists.{found}
 use Rattle.params.specs.Positions.{stands_in, WithinArrays}
-use Rattle.params.proofs.Searches.{and_false, least_here, least_skip}
+use Rattle.params.proofs.Searches.{and_false, found_first, found_nothing}
+use Rattle.std.specs.Prelude.{Some, None}
 use Rattle.params.proofs.BucketNumbers.{stretch_within, small}
 use Rattle.params.proofs.Standing.{standing_in, standing_past}
 
@@ -49,17 +50,18 @@ standing_same d m g h e = fun_ext (λ k. at k (dec_lt (k / m) d))
     at k (yes l) = rw (e (k / m) l)
     at k (no l) = rw (le-ltb (k / m) d (omega arith))
 
--- what fails at the position in each array fails at every bucket that stands there
-pub none_standing : (d m : ℕ) (g : ℕ → ℕ) (q : ℕ → Bool) → ((i : ℕ) → i < d → q (i * m + g i) ≡ false) → (k : ℕ) → (stands_in d m g k && q k) ≡ false
+-- what fails at the bucket in each array fails at every bucket that stands there
+standing_fails : (d m : ℕ) (g : ℕ → ℕ) (q : ℕ → Bool) (k : ℕ) → ((i : ℕ) → i < d → k ≡ i * m + g i → q k ≡ false) → (stands_in d m g k && q k) ≡ false
 unfolding stands_in
-none_standing d m g q h k = at (dec_lt (k / m) d) (ℕ_discrete (g (k / m)) (k % m))
+standing_fails d m g q k h = at (dec_lt (k / m) d) (ℕ_discrete (g (k / m)) (k % m))
   where
     at : Dec (k / m < d) → Dec (g (k / m) ≡ k % m) → (stands_in d m g k && q k) ≡ false
-    at (yes l) (yes e) =
-        let here : k ≡ k / m * m + g (k / m) = omega (arith, mod-add-div' k m) in
-        and_false (stands_in d m g k) (q k) (ap q here ∙ h (k / m) l)
+    at (yes l) (yes e) = and_false (stands_in d m g k) (q k) (h (k / m) l (omega (arith, mod-add-div' k m)))
     at (yes l) (no e) = rw (lt-ltb (k / m) d l, ne_eqb (g (k / m)) (k % m) e)
     at (no l) e = rw (le-ltb (k / m) d (omega arith))
+
+pub none_standing : (d m : ℕ) (g : ℕ → ℕ) (q : ℕ → Bool) → ((i : ℕ) → i < d → q (i * m + g i) ≡ false) → (k : ℕ) → (stands_in d m g k && q k) ≡ false
+none_standing d m g q h k = standing_fails d m g q k (λ i l e. ap q e ∙ h i l)
 
 -- where the code reaches: each of the d positions is a bucket, and no index is large
 pub record Within (d m i k : ℕ) : Type 0 where
@@ -81,46 +83,21 @@ reach {d} {m} i r h =
       size = reach_small r;
     }
 
--- A scan array by array: what is looked for is the lowest bucket that stands there and passes q.
-module _ (d m : ℕ) (g : ℕ → ℕ) (q : ℕ → Bool) where
-  abbrev pub sought : ℕ → Bool
-  sought k = stands_in d m g k && q k
-
-  -- what the search from array i on gives
-  abbrev pub least_from : ℕ → ℕ
-  least_from i = least (i * m) (d * m - i * m) sought
-
-  pub arrays_start : least 0 (d * m) sought ≡ least_from 0
-  arrays_start = ap (λ (n : ℕ). least 0 n sought) (omega arith) ∙ ap (λ (k : ℕ). least k (d * m - 0 * m) sought) (omega arith)
-
-  module _ (i r : ℕ) (low : i < d) (small : g i < m) (before : r ≡ least_from i) where
-    -- within array i no other bucket stands
-    other : (k : ℕ) → i * m ≤ k → k < i * m + m → (k ≡ i * m + g i → ⊥) → sought k ≡ false
-    other k h l ne = rw (standing_in d m g i k low h l, ne_eqb k (i * m + g i) ne)
-
-    pub array_found : q (i * m + g i) ≡ true → i * m + g i ≡ r
-    array_found e =
-        let end = stretch_within d m i low in
-        sym (before
-        ∙ ap (λ (n : ℕ). least (i * m) n sought) (omega (arith, end))
-        ∙ least_skip (g i) (i * m) (suc (d * m - (i * m + g i + 1))) sought (λ x h l. other x h (omega arith) (omega arith))
-        ∙ least_here (i * m + g i) (d * m - (i * m + g i + 1)) sought
-        (rw (standing_in d m g i (i * m + g i) low (omega arith) (omega arith), eq-eqb (i * m + g i) (i * m + g i) refl) e))
-
-    pub array_passed : q (i * m + g i) ≡ false → r ≡ least_from (i + 1)
-    array_passed e =
-        let end = stretch_within d m i low in
-        before
-        ∙ ap (λ (n : ℕ). least (i * m) n sought) (omega (arith, end, suc-mul i m, add-one i))
-        ∙ least_skip m (i * m) (d * m - (i + 1) * m) sought (λ x h l. at x h l (ℕ_discrete x (i * m + g i)))
-        ∙ ap (λ (k : ℕ). least k (d * m - (i + 1) * m) sought) (omega (arith, suc-mul i m, add-one i))
+-- A scan array by array: the lowest bucket that stands there and passes q is that of the first array whose bucket passes.
+pub array_found : (d m : ℕ) (g : ℕ → ℕ) (q : ℕ → Bool) (i : ℕ) → i < d → g i < m → q (i * m + g i) ≡ true → ((j : ℕ) → j < i → q (j * m + g j) ≡ false)
+    → found (d * m) (λ k. stands_in d m g k && q k) ≡ Some (i * m + g i)
+array_found d m g q i low small e none =
+    found_first (d * m) (i * m + g i) _ (omega (arith, stretch_within d m i low))
+    (rw (standing_in d m g i (i * m + g i) low (omega arith) (omega arith), eq-eqb (i * m + g i) (i * m + g i) refl) e)
+    (λ k l. standing_fails d m g q k (λ j h p. ap q p ∙ none j (before j k l p (dec_lt i j))))
+  where
+    before : (j k : ℕ) → k < i * m + g i → k ≡ j * m + g j → Dec (i < j) → j < i
+    before j k l p (yes h) = absurd (omega (arith, stretch_within j m i h))
+    before j k l p (no h) = before_same j k l p (ℕ_discrete j i) (omega arith)
       where
-        at : (x : ℕ) → i * m ≤ x → x < i * m + m → Dec (x ≡ i * m + g i) → sought x ≡ false
-        at x h l (yes p) = and_false (stands_in d m g x) (q x) (rw p e)
-        at x h l (no ne) = other x h l ne
+        before_same : (j k : ℕ) → k < i * m + g i → k ≡ j * m + g j → Dec (j ≡ i) → j ≤ i → j < i
+        before_same j k l p (yes e) h = absurd (omega (arith, rw e at p))
+        before_same j k l p (no e) h = omega arith
 
-  pub arrays_end : (i r : ℕ) → i ≡ d → r ≡ least_from i → d * m ≡ r
-  unfolding least
-  arrays_end i r e before =
-      let none : d * m - d * m ≡ 0 = omega arith in
-      sym (before ∙ rw (e, none))
+pub none_found : (d m : ℕ) (g : ℕ → ℕ) (q : ℕ → Bool) → ((i : ℕ) → i < d → q (i * m + g i) ≡ false) → found (d * m) (λ k. stands_in d m g k && q k) ≡ None
+none_found d m g q h = found_nothing (d * m) _ (λ k l. none_standing d m g q h k)

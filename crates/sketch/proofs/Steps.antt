@@ -1,5 +1,5 @@
 -- Laws of a step: what holds where nothing is refused, and the stages of its answer.
-use mathlib.Core.Path.{◌≡◌, refl, sym, ap, ◌∙◌}
+use mathlib.Core.Path.{◌≡◌, refl, ap, ◌∙◌}
 use mathlib.Core.Bool.{Bool, true, false, not}
 use mathlib.Core.List.{List}
 use Prim.Native.Nat.{ℕ, ◌+◌, ◌*◌, ◌≤◌, ◌<◌}
@@ -9,17 +9,15 @@ use lib.IntN.{ℤ, pos, nat_abs}
 use lib.ListN.{length, get_or}
 use Rattle.params.specs.declared.params.Params.{Params}
 use Rattle.params.specs.declared.answers.Refusal.TheVariants.{Param, Flow, Count, Damage, Range}
-use Rattle.params.specs.declared.answers.Answer.{Answer}
-use Rattle.params.specs.declared.answers.Answer.TheVariants.{Done, Refused}
-use Rattle.params.specs.Answers.{kept}
+use Rattle.params.specs.Answers.{Answer, Done}
 use Rattle.params.specs.Lists.{below}
 use Rattle.params.specs.Params.{prime, is_flow, size, Dimensions, good_params, dimensions_answer}
 use Rattle.params.specs.Sketched.{sketched}
 use Rattle.params.specs.Positions.{stand, stands_in, sketched_stands, stands, Positioned, WithinArrays}
-use Rattle.buckets.specs.Buckets.{in_limits, is_number, damaged, plus_minus, weight}
+use Rattle.buckets.specs.Buckets.{in_limits, is_number, damaged, plus_minus}
 use Rattle.sketch.specs.Sketch.{Sketch, count_in, idsum_in, damaged_at, leaves_at, small_at, damaged_in, leaves_in, flow_buckets_answer, changed_in}
-use Rattle.sketch.specs.Packets.{packet_answer, entry_answer, step_answer, changed, Stepped, move_answer, Moved}
-use Rattle.params.proofs.Judging.{Refuses, first_refused, first_passed, first_done, kept_old, kept_new, refuse_done, refuse_none, refuse_at_done}
+use Rattle.sketch.specs.Packets.{packet_answer, entry_answer, step_answer, move_answer}
+use Rattle.params.proofs.Judging.{first_done, refuse_done, refuse_none, refuse_at_done}
 use Rattle.params.proofs.Rules.{dimensions_done}
 use Rattle.params.proofs.Searches.{and_rest, below_at}
 use Rattle.params.proofs.Indexes.{stand_below}
@@ -135,35 +133,3 @@ move_done P minus f n S e = let q = refuse_done (not (good_params P)) Param 0 _ 
 pub move_good : (P : Params) (minus : Bool) (f n : ℕ) (S : Sketch) → good_params P ≡ true → move_answer P minus f n S ≡ step_answer P minus f n S
 unfolding move_answer
 move_good P minus f n S e = rw e
-
--- the stages: refused before a bucket is looked at, refused for a bucket, and done
-module _ (minus : Bool) (P : Params) (f n : ℕ) (S : Sketch) (r : Answer) where
-  pub not_let : r ≡ entry_answer P (length S.counts) (length S.idsums) f n → Refuses r → Stepped minus P f n S r S
-  unfolding step_answer
-  not_let e h =
-      record {
-        answer = first_refused r _ _ e h;
-        after = kept_old r S (changed P minus f n S) h;
-      }
-
-  judged : entry_answer P (length S.counts) (length S.idsums) f n ≡ Done → r ≡ flow_buckets_answer (size P) (stands P f) minus (pos n) S → r ≡ step_answer P minus f n S
-  unfolding step_answer
-  judged d e = e ∙ sym (first_passed _ _ d)
-
-  pub not_stepped : entry_answer P (length S.counts) (length S.idsums) f n ≡ Done → r ≡ flow_buckets_answer (size P) (stands P f) minus (pos n) S → Refuses r → Stepped minus P f n S r S
-  not_stepped d e h = record { answer = judged d e; after = kept_old r S (changed P minus f n S) h }
-
-  pub stepped : (S' : Sketch) → entry_answer P (length S.counts) (length S.idsums) f n ≡ Done → r ≡ flow_buckets_answer (size P) (stands P f) minus (pos n) S → r ≡ Done
-      → S' ≡ changed_in (stands P f) minus (pos n) (weight (sketched P f) n) S → Stepped minus P f n S r S'
-  unfolding changed
-  stepped S' d e done a = record { answer = judged d e; after = a ∙ kept_new r S (changed P minus f n S) done }
-
--- the same with all of the parameters' rules
-module _ (minus : Bool) (P : Params) (f n : ℕ) (S : Sketch) where
-  pub not_moved : good_params P ≡ false → Moved minus P f n S (Refused Param 0) S
-  unfolding move_answer kept
-  not_moved e = record { answer = rw e; after = refl }
-
-  pub moved : (r : Answer) (S' : Sketch) → good_params P ≡ true → Stepped minus P f n S r S' → Moved minus P f n S r S'
-  unfolding move_answer
-  moved r S' e s = record { answer = rw e s.answer; after = s.after }

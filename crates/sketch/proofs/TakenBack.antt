@@ -8,9 +8,7 @@ use lib.ListN.{length}
 use Rattle.field.specs.Residue.{residue}
 use Rattle.field.proofs.Residues.{residue_below}
 use Rattle.params.specs.declared.params.Params.{Params}
-use Rattle.params.specs.declared.answers.Answer.{Answer}
-use Rattle.params.specs.declared.answers.Answer.TheVariants.{Done}
-use Rattle.params.specs.Answers.{kept}
+use Rattle.params.specs.Answers.{kept, Answer, Done}
 use Rattle.params.specs.Params.{prime, size}
 use Rattle.params.specs.Sketched.{sketched}
 use Rattle.params.specs.Positions.{stands}

@@ -11,8 +11,7 @@ use lib.ListN.{length}
 use Rattle.field.proofs.Residues.{residue_below}
 use Rattle.params.specs.declared.params.Params.{Params}
 use Rattle.params.specs.declared.answers.Refusal.TheVariants.{Length, Damage}
-use Rattle.params.specs.declared.answers.Answer.TheVariants.{Done, Refused}
-use Rattle.params.specs.Answers.{kept}
+use Rattle.params.specs.Answers.{kept, Done, Refused}
 use Rattle.params.specs.Params.{prime, size}
 use Rattle.params.specs.Positions.{stands}
 use Rattle.params.proofs.Changes.{untouched}

@@ -2,9 +2,7 @@
 use Rattle.std.specs.Prelude.{Bool, true, false, not, ◌≡◌, List, [], ◌∷◌, ℕ, ◌<◌, pos, eqb, length, get_or, take}
 use Rattle.params.specs.declared.params.Params.{Params}
 use Rattle.params.specs.declared.answers.Refusal.TheVariants.{Param, Length, Flow, Count}
-use Rattle.params.specs.declared.answers.Answer.{Answer}
-use Rattle.params.specs.declared.answers.Answer.TheVariants.{Done}
-use Rattle.params.specs.Answers.{refuse_if, first, kept}
+use Rattle.params.specs.Answers.{refuse_if, first, kept, Answer, Done}
 use Rattle.params.specs.Params.{is_flow, size, good_params, dimensions_answer, lent_answer}
 use Rattle.params.specs.Sketched.{sketched}
 use Rattle.params.specs.Positions.{stands}

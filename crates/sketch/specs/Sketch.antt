@@ -3,10 +3,8 @@ use Rattle.std.specs.Prelude.{Bool, not, cond, ◌&&◌, ◌≡◌, List, [], �
 use Rattle.field.specs.Residue.{residue}
 use Rattle.params.specs.declared.params.Params.{Params}
 use Rattle.params.specs.declared.answers.Refusal.TheVariants.{Damage, Range}
-use Rattle.params.specs.declared.answers.Answer.{Answer}
-use Rattle.params.specs.declared.answers.Answer.TheVariants.{Done}
 use Rattle.params.specs.Lists.{touched, from}
-use Rattle.params.specs.Answers.{refuse_at, kept}
+use Rattle.params.specs.Answers.{refuse_at, kept, Answer, Done}
 use Rattle.params.specs.Params.{prime, prime_of, size, lent_answer}
 use Rattle.params.specs.Sketched.{sketched}
 use Rattle.params.specs.Positions.{stands}

@@ -1,7 +1,7 @@
 // Fresh sketches, and packets put in and taken out.
 ghost use Rattle.std.specs.Prelude.{◌≡◌, true, false, ℕ, ◌+◌, ◌*◌, ◌<◌, ◌≤◌, pos, length, get_or, set, replicate};
 ghost use Rattle.field.specs.Residue.{residue};
-ghost use Rattle.params.specs.Lists.{below, least};
+ghost use Rattle.params.specs.Lists.{below, found};
 ghost use Rattle.params.specs.Params.{prime};
 ghost use Rattle.params.specs.Positions.{stands_in, WithinArrays};
 ghost use Rattle.buckets.specs.Buckets.{in_limits, plus_minus};
@@ -9,54 +9,44 @@ ghost use Rattle.sketch.specs.Sketch.{sketch, small_at, damaged_in, leaves_in, f
 ghost use Rattle.sketch.specs.Packets.{packet_answer, entry_answer, Stepped, Inserted, Withdrawn, Unwound, PacketsInserted, AllInserted};
 
 use buckets::{idsum_plus_minus, is_number, is_small, plus_minus, undamaged, weight, within};
-use params::{Answer, Params, Refusal};
+use params::{Params, Refusal, Refused};
 
 fn clear(counts: &mut [i32], idsums: &mut [u32])
     requires { length counts.old ≡ length idsums.old }
     ensures counts_after { counts.new ≡ replicate (length counts.old) (pos 0) }
     ensures idsums_after { idsums.new ≡ replicate (length idsums.old) 0 }
 {
-    let mut i = 0;
-    while i < counts.len() {
-        counts[i] = 0;
-        idsums[i] = 0;
-        i += 1;
-    }
+    counts.fill(0);
+    idsums.fill(0);
 }
 
 // Zeros everywhere, whatever was there.
-pub fn fresh(p: Params, counts: &mut [i32], idsums: &mut [u32]) -> Answer
+pub fn fresh(p: Params, counts: &mut [i32], idsums: &mut [u32]) -> Result<(), Refused>
     ensures { Freshened p (sketch counts.old idsums.old) result (sketch counts.new idsums.new) }
 {
-    let r = p.judge_lent(counts.len(), idsums.len());
-    let Answer::Done = r else {
-        return r;
-    };
+    p.judge_lent(counts.len(), idsums.len())?;
     clear(counts, idsums);
-    r
+    Ok(())
 }
 
 // A packet's flow and number are right.
-fn packet(p: Params, f: u32, n: u32) -> Answer
+fn packet(p: Params, f: u32, n: u32) -> Result<(), Refused>
     ensures { result ≡ packet_answer p f n }
 {
     if !p.is_flow(f) {
-        return Answer::Refused(Refusal::Flow, 0);
+        return Err(Refused(Refusal::Flow, 0));
     }
     if !is_number(n) {
-        return Answer::Refused(Refusal::Count, 0);
+        return Err(Refused(Refusal::Count, 0));
     }
-    Answer::Done
+    Ok(())
 }
 
 // What is judged before any bucket is looked at.
-fn entry(p: Params, counts: usize, idsums: usize, f: u32, n: u32) -> Answer
+fn entry(p: Params, counts: usize, idsums: usize, f: u32, n: u32) -> Result<(), Refused>
     ensures { result ≡ entry_answer p counts idsums f n }
 {
-    let r = p.judge_dimensions(counts, idsums);
-    let Answer::Done = r else {
-        return r;
-    };
+    p.judge_dimensions(counts, idsums)?;
     packet(p, f, n)
 }
 
@@ -65,47 +55,54 @@ fn all_small(d: usize, m: usize, ks: &[usize; 4], counts: &[i32], idsums: &[u32]
     requires { WithinArrays d m ks.now (length counts.now) (length idsums.now) }
     ensures { result ≡ below d (λ i. small_at (sketch counts.now idsums.now) (i * m + get_or ks.now i 0)) }
 {
-    let mut i = 0;
-    while i < d {
+    for i in 0..d {
         let k = i * m + ks[i];
         if !is_small(counts[k], idsums[k]) {
             return false;
         }
-        i += 1;
     }
     true
 }
 
-// The index of the first of a flow's buckets that is outside its limits, or the sketch's size.
-fn first_damaged(d: usize, m: usize, ks: &[usize; 4], counts: &[i32], idsums: &[u32]) -> usize
+// The index of the first of a flow's buckets that is outside its limits.
+fn first_damaged(
+    d: usize,
+    m: usize,
+    ks: &[usize; 4],
+    counts: &[i32],
+    idsums: &[u32],
+) -> Option<usize>
     requires { WithinArrays d m ks.now (length counts.now) (length idsums.now) }
-    ensures { result ≡ least 0 (d * m) (damaged_in (stands_in d m (λ i. get_or ks.now i 0)) (sketch counts.now idsums.now)) }
+    ensures { result ≡ found (d * m) (damaged_in (stands_in d m (λ i. get_or ks.now i 0)) (sketch counts.now idsums.now)) }
 {
-    let mut i = 0;
-    while i < d {
+    for i in 0..d {
         let k = i * m + ks[i];
         if !undamaged(counts[k], idsums[k]) {
-            return k;
+            return Some(k);
         }
-        i += 1;
     }
-    d * m
+    None
 }
 
-// The index of the first of a flow's buckets whose count would leave its limits, or the sketch's size.
-fn first_leaving(minus: bool, d: usize, m: usize, ks: &[usize; 4], counts: &[i32], n: i32) -> usize
+// The index of the first of a flow's buckets whose count would leave its limits.
+fn first_leaving(
+    minus: bool,
+    d: usize,
+    m: usize,
+    ks: &[usize; 4],
+    counts: &[i32],
+    n: i32,
+) -> Option<usize>
     requires { WithinArrays d m ks.now (length counts.now) (length counts.now) }
-    ensures { result ≡ least 0 (d * m) (leaves_in (stands_in d m (λ i. get_or ks.now i 0)) minus n counts.now) }
+    ensures { result ≡ found (d * m) (leaves_in (stands_in d m (λ i. get_or ks.now i 0)) minus n counts.now) }
 {
-    let mut i = 0;
-    while i < d {
+    for i in 0..d {
         let k = i * m + ks[i];
         if !within(plus_minus(minus, counts[k], n)) {
-            return k;
+            return Some(k);
         }
-        i += 1;
     }
-    d * m
+    None
 }
 
 // A flow's buckets are whole and stay within their limits. Where they are small, and n as small, no more is to be looked at.
@@ -117,24 +114,20 @@ fn judge(
     counts: &[i32],
     idsums: &[u32],
     n: i32,
-) -> Answer
+) -> Result<(), Refused>
     requires { WithinArrays d m ks.now (length counts.now) (length idsums.now) }
     ensures { result ≡ flow_buckets_answer (d * m) (stands_in d m (λ i. get_or ks.now i 0)) minus n (sketch counts.now idsums.now) }
 {
-    if is_small(n, 0) {
-        if all_small(d, m, ks, counts, idsums) {
-            return Answer::Done;
-        }
+    if is_small(n, 0) && all_small(d, m, ks, counts, idsums) {
+        return Ok(());
     }
-    let x = first_damaged(d, m, ks, counts, idsums);
-    if x < counts.len() {
-        return Answer::Refused(Refusal::Damage, x);
+    if let Some(x) = first_damaged(d, m, ks, counts, idsums) {
+        return Err(Refused(Refusal::Damage, x));
     }
-    let y = first_leaving(minus, d, m, ks, counts, n);
-    if y < counts.len() {
-        return Answer::Refused(Refusal::Range, y);
+    if let Some(y) = first_leaving(minus, d, m, ks, counts, n) {
+        return Err(Refused(Refusal::Range, y));
     }
-    Answer::Done
+    Ok(())
 }
 
 // One array's update: n and the weight w go to position j, or come out of it.
@@ -165,18 +158,24 @@ fn put_all(
     requires by_index_2 { ((i : ℕ) → i < d → get_or idsums.old (i * m + get_or ks.now i 0) 0 < prime) × (w < prime) }
     ensures { sketch counts.new idsums.new ≡ changed_in (stands_in d m (λ i. get_or ks.now i 0)) minus n w (sketch counts.old idsums.old) }
 {
-    let mut i = 0;
-    while i < d {
-        let j = ks[i];
+    for i in 0..d {
         let at = i * m;
         let end = at + m;
-        put(minus, &mut counts[at..end], &mut idsums[at..end], j, n, w);
-        i += 1;
+        put(
+            minus,
+            &mut counts[at..end],
+            &mut idsums[at..end],
+            ks[i],
+            n,
+            w,
+        );
     }
 }
 
 // n packets of flow f go in, or come out where `minus` is set. Of the parameters only the dimensions are judged, which is cheap:
-// who inserts many packets checks the rest once.
+// who inserts many packets checks the rest once. It goes into each caller, where the choice is made once and, in a loop over packets, so is the judging of
+// the dimensions.
+#[inline(always)]
 pub fn step(
     minus: bool,
     p: Params,
@@ -184,107 +183,48 @@ pub fn step(
     idsums: &mut [u32],
     f: u32,
     n: u32,
-) -> Answer
+) -> Result<(), Refused>
     ensures { Stepped minus p f n (sketch counts.old idsums.old) result (sketch counts.new idsums.new) }
 {
-    let e = entry(p, counts.len(), idsums.len(), f, n);
-    let Answer::Done = e else {
-        return e;
-    };
+    entry(p, counts.len(), idsums.len(), f, n)?;
     let x = p.sketched(f);
     let mut ks: [usize; 4] = [0; 4];
     p.positions(x, &mut ks);
     let d = p.d;
     let m = p.m;
-    let r = judge(minus, d, m, &ks, counts, idsums, n as i32);
-    let Answer::Done = r else {
-        return r;
-    };
+    judge(minus, d, m, &ks, counts, idsums, n as i32)?;
     put_all(minus, d, m, &ks, counts, idsums, n as i32, weight(x, n));
-    r
-}
-
-// n packets of flow f go in: `step` without its choice, by the same contract. It stands here a second time for the one loop that puts in the
-// packets of a stream: the compiler takes a function with one caller into its loop, and lifts the judging of the dimensions out of it. With one
-// body for this loop and that over a list, reading a stream takes 1.37 times as many instructions and inserting a list 1.54 times.
-pub fn put_in(p: Params, counts: &mut [i32], idsums: &mut [u32], f: u32, n: u32) -> Answer
-    ensures { Stepped false p f n (sketch counts.old idsums.old) result (sketch counts.new idsums.new) }
-{
-    let e = entry(p, counts.len(), idsums.len(), f, n);
-    let Answer::Done = e else {
-        return e;
-    };
-    let x = p.sketched(f);
-    let mut ks: [usize; 4] = [0; 4];
-    p.positions(x, &mut ks);
-    let d = p.d;
-    let m = p.m;
-    let r = judge(false, d, m, &ks, counts, idsums, n as i32);
-    let Answer::Done = r else {
-        return r;
-    };
-    put_all(false, d, m, &ks, counts, idsums, n as i32, weight(x, n));
-    r
-}
-
-// The same a third time, for the loop over a list of packets.
-fn put_listed(p: Params, counts: &mut [i32], idsums: &mut [u32], f: u32, n: u32) -> Answer
-    ensures { Stepped false p f n (sketch counts.old idsums.old) result (sketch counts.new idsums.new) }
-{
-    let e = entry(p, counts.len(), idsums.len(), f, n);
-    let Answer::Done = e else {
-        return e;
-    };
-    let x = p.sketched(f);
-    let mut ks: [usize; 4] = [0; 4];
-    p.positions(x, &mut ks);
-    let d = p.d;
-    let m = p.m;
-    let r = judge(false, d, m, &ks, counts, idsums, n as i32);
-    let Answer::Done = r else {
-        return r;
-    };
-    put_all(false, d, m, &ks, counts, idsums, n as i32, weight(x, n));
-    r
-}
-
-// And a fourth time, for one packet by itself: with `step` in its place a call takes a tenth more time.
-fn put_alone(p: Params, counts: &mut [i32], idsums: &mut [u32], f: u32, n: u32) -> Answer
-    ensures { Stepped false p f n (sketch counts.old idsums.old) result (sketch counts.new idsums.new) }
-{
-    let e = entry(p, counts.len(), idsums.len(), f, n);
-    let Answer::Done = e else {
-        return e;
-    };
-    let x = p.sketched(f);
-    let mut ks: [usize; 4] = [0; 4];
-    p.positions(x, &mut ks);
-    let d = p.d;
-    let m = p.m;
-    let r = judge(false, d, m, &ks, counts, idsums, n as i32);
-    let Answer::Done = r else {
-        return r;
-    };
-    put_all(false, d, m, &ks, counts, idsums, n as i32, weight(x, n));
-    r
+    Ok(())
 }
 
 // Puts n packets of flow f in.
-pub fn insert(p: Params, counts: &mut [i32], idsums: &mut [u32], f: u32, n: u32) -> Answer
+pub fn insert(
+    p: Params,
+    counts: &mut [i32],
+    idsums: &mut [u32],
+    f: u32,
+    n: u32,
+) -> Result<(), Refused>
     ensures { Inserted p f n (sketch counts.old idsums.old) result (sketch counts.new idsums.new) }
 {
     if !p.check() {
-        return Answer::Refused(Refusal::Param, 0);
+        return Err(Refused(Refusal::Param, 0));
     }
-    put_alone(p, counts, idsums, f, n)
+    step(false, p, counts, idsums, f, n)
 }
 
 // Takes n packets of flow f out again.
-pub fn withdraw(p: Params, counts: &mut [i32], idsums: &mut [u32], f: u32, n: u32) -> Answer
+pub fn withdraw(
+    p: Params,
+    counts: &mut [i32],
+    idsums: &mut [u32],
+    f: u32,
+    n: u32,
+) -> Result<(), Refused>
     ensures { Withdrawn p f n (sketch counts.old idsums.old) result (sketch counts.new idsums.new) }
 {
     if !p.check() {
-        return Answer::Refused(Refusal::Param, 0);
+        return Err(Refused(Refusal::Param, 0));
     }
     step(true, p, counts, idsums, f, n)
 }
@@ -301,10 +241,8 @@ fn withdraw_first(
     requires { (n ≤ length flows.now) × (n ≤ length numbers.now) }
     ensures { Unwound p flows.now numbers.now n (sketch counts.old idsums.old) (sketch counts.new idsums.new) }
 {
-    let mut i = n;
-    while 0 < i {
-        i -= 1;
-        step(true, p, counts, idsums, flows[i], numbers[i]);
+    for i in (0..n).rev() {
+        let _ = step(true, p, counts, idsums, flows[i], numbers[i]);
     }
 }
 
@@ -315,20 +253,17 @@ fn insert_packets(
     idsums: &mut [u32],
     flows: &[u32],
     numbers: &[u32],
-) -> Answer
+) -> Result<(), Refused>
     requires { length flows.now ≡ length numbers.now }
     ensures { PacketsInserted p flows.now numbers.now (sketch counts.old idsums.old) result (sketch counts.new idsums.new) }
 {
-    let mut i = 0;
-    while i < flows.len() {
-        let r = put_listed(p, counts, idsums, flows[i], numbers[i]);
-        let Answer::Done = r else {
+    for i in 0..flows.len() {
+        if let Err(refused) = step(false, p, counts, idsums, flows[i], numbers[i]) {
             withdraw_first(p, counts, idsums, flows, numbers, i);
-            return r;
-        };
-        i += 1;
+            return Err(refused);
+        }
     }
-    Answer::Done
+    Ok(())
 }
 
 // Puts many packets in: of the flows, each by its number. Where one is refused, the sketch is as it was before the call.
@@ -338,15 +273,12 @@ pub fn insert_all(
     idsums: &mut [u32],
     flows: &[u32],
     numbers: &[u32],
-) -> Answer
+) -> Result<(), Refused>
     ensures { AllInserted p flows.now numbers.now (sketch counts.old idsums.old) result (sketch counts.new idsums.new) }
 {
-    let r = p.judge_lent(counts.len(), idsums.len());
-    let Answer::Done = r else {
-        return r;
-    };
+    p.judge_lent(counts.len(), idsums.len())?;
     if flows.len() != numbers.len() {
-        return Answer::Refused(Refusal::Length, 0);
+        return Err(Refused(Refusal::Length, 0));
     }
     insert_packets(p, counts, idsums, flows, numbers)
 }

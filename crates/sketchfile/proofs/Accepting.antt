@@ -10,7 +10,6 @@ use lib.ListN.{length, get_or, take, length-append}
 use lib.Seq.{get_or_at}
 use Rattle.params.specs.declared.params.Params.{Params}
 use Rattle.params.specs.declared.answers.Refusal.TheVariants.{Damage}
-use Rattle.params.specs.declared.answers.Answer.TheVariants.{Done}
 use Rattle.params.specs.Params.{size, lengths_answer, lent_answer}
 use Rattle.sketch.specs.Sketch.{Sketch, sketch, damaged_at, zeros}
 use Rattle.params.proofs.Judging.{first_done, first_passed, refuse_none}
@@ -31,6 +30,7 @@ use Rattle.sketchfile.proofs.BucketRecords.{sketch_opening}
 use Rattle.sketchfile.proofs.Written.{left_few, buckets_long, Writable}
 use Rattle.sketchfile.proofs.Filling.{filled_all, counts_long, idsums_long, Agrees, agrees_none, agrees_all}
 use Rattle.sketchfile.proofs.Rewriting.{rewritten_all, same_bytes}
+use Rattle.params.specs.Answers.{Done}
 
 lengths_good : (P : Params) (c s : ℕ) → c ≡ size P → s ≡ size P → lengths_answer P c s ≡ Done
 unfolding lengths_answer

@@ -8,16 +8,12 @@ use lib.ListN.{length}
 use Rattle.params.specs.declared.params.Params.{Params}
 use Rattle.params.specs.declared.answers.Refusal.{Refusal}
 use Rattle.params.specs.declared.answers.Refusal.TheVariants.{Damage}
-use Rattle.params.specs.declared.answers.Answer.{Answer}
-use Rattle.params.specs.declared.answers.Answer.TheVariants.{Done, Refused}
-use Rattle.params.specs.Answers.{number_of, number_in, index_in}
+use Rattle.params.specs.Answers.{number_of, number_in, index_in, Answer, Done, Refused, Given}
 use Rattle.params.specs.Params.{size}
 use Rattle.params.specs.Faults.{order, first_of}
 use Rattle.params.proofs.Judging.{first_done, number_some}
 use Rattle.params.proofs.Lowest.{Lowest}
 use Rattle.sketch.specs.Sketch.{Sketch, damaged_at}
-use Rattle.files.specs.declared.writing.Written.{Written}
-use Rattle.files.specs.declared.writing.Written.TheVariants.{Bytes, Refused as NotWritten}
 use Rattle.files.specs.Turns.{in_turn, bucket_offset, end_answer}
 use Rattle.files.specs.Faults.{opening_order, opening_fault}
 use Rattle.files.proofs.HeadStages.{opening_answer}
@@ -29,6 +25,7 @@ use Rattle.sketchfile.specs.Writing.{sketch_bytes, SketchWritten}
 use Rattle.sketchfile.specs.Faults.{bucket_fault, write_fault}
 use Rattle.sketchfile.proofs.BucketRecords.{sketch_opening}
 use Rattle.sketchfile.proofs.InOrder.{bucket_number, BucketFault, SketchFault, in_opening, in_bucket, in_end, sketch_fault, write_sketch_number, write_sketch_index, write_sketch_lowest, write_sketch_length}
+use Rattle.std.specs.Prelude.{Ok, Err}
 
 -- what holds of an accepted file: of its opening, of every bucket, and of its end; c and s are the lengths of the lent slices
 pub record SketchDone (P : Params) (bs : List ℕ) (c s : ℕ) : Type 0 where
@@ -56,7 +53,7 @@ module _ {P : Params} {bs : List ℕ} {S S' : Sketch} where
     where
       go : (r : Answer) → sketch_answer P bs (length S.counts) (length S.idsums) ≡ r → SketchReturned P bs (length S.counts) (length S.idsums) r
       go Done e = none_refused (sketch_done P bs (length S.counts) (length S.idsums) e)
-      go (Refused w k) e = refused_for (sketch_fault P bs (length S.counts) (length S.idsums) w k e)
+      go (Err r) e = refused_for (sketch_fault P bs (length S.counts) (length S.idsums) r.0 r.1 e)
 
   -- a fault of the head, of the parameters or of the lengths decides before all others, and 0 goes with it
   pub read_sketch_opening : {r : Answer} → SketchRead P bs S r S' → let fault = opening_fault P bs (length S.counts) (length S.idsums) in
@@ -80,19 +77,19 @@ module _ {P : Params} {bs : List ℕ} {S S' : Sketch} where
 
       go : (r : Answer) → SketchReturned P bs (length S.counts) (length S.idsums) r → (number_in r ≡ first_of order (bucket_fault (size P) bs k)) × (index_in r ≡ bucket_offset bs k)
       go Done (none_refused x) = absurd (n (faultless k (x.accepted k l)))
-      go (Refused w at) (refused_for (in_opening e z)) = absurd (number_some w (e ∙ right))
-      go (Refused w at) (refused_for (in_bucket o f)) = here w at f (dec_lt f.which k) (dec_lt k f.which)
-      go (Refused w at) (refused_for (in_end o a e f)) = absurd (n (faultless k (a k l)))
+      go (Err r) (refused_for (in_opening e z)) = absurd (number_some r.0 (e ∙ right))
+      go (Err r) (refused_for (in_bucket o f)) = here r.0 r.1 f (dec_lt f.which k) (dec_lt k f.which)
+      go (Err r) (refused_for (in_end o a e f)) = absurd (n (faultless k (a k l)))
 
 -- what a writer returns
 module _ {P : Params} {S : Sketch} {out out' : List ℕ} where
-  pub write_sketch_goes_by : {r : Written} → SketchWritten P S out r out' → WriterGoesBy (write_fault P S (length out)) r
+  pub write_sketch_goes_by : {r : Given ℕ} → SketchWritten P S out r out' → WriterGoesBy (write_fault P S (length out)) r
   write_sketch_goes_by h = record { number = write_sketch_number h; index = write_sketch_index h }
 
   -- the index is that of the lowest damaged bucket
-  pub write_sketch_damage : {k : ℕ} → SketchWritten P S out (NotWritten Damage k) out' → Lowest (size P) (damaged_at S) k
+  pub write_sketch_damage : {k : ℕ} → SketchWritten P S out (Refused Damage k) out' → Lowest (size P) (damaged_at S) k
   write_sketch_damage h = write_sketch_lowest h refl
 
   -- where it returns a length nothing is at fault, and that is the file's
-  pub write_sketch_bytes : {n : ℕ} → SketchWritten P S out (Bytes n) out' → (first_of order (write_fault P S (length out)) ≡ 0) × (n ≡ length (sketch_bytes P S))
+  pub write_sketch_bytes : {n : ℕ} → SketchWritten P S out (Ok n) out' → (first_of order (write_fault P S (length out)) ≡ 0) × (n ≡ length (sketch_bytes P S))
   write_sketch_bytes h = (sym (write_sketch_number h), write_sketch_length h refl)

@@ -1,60 +1,31 @@
 -- Laws of the buckets in a sketch file: what is refused of one, what a reader finds in turn, and what holds where nothing is refused.
-use mathlib.Core.Path.{◌≡◌, refl, sym, ◌∙◌}
-use mathlib.Core.Bool.{Bool, true, false, cond, ◌&&◌}
+use mathlib.Core.Path.{◌≡◌, refl, sym, ap, ◌∙◌}
+use mathlib.Core.Bool.{Bool, true, false, cond}
 use mathlib.Core.List.{List}
 use Prim.Native.Nat.{ℕ, ◌+◌, ◌≤◌, ◌<◌}
 use native.Mathlib.Numerals.{add-one}
 use native.Mathlib.Omega.{arith}
 use borrow.Author.Tests.{lt-leb, leb-false, le-ltb, ltb-false}
-use lib.Dec.{ltb}
 use lib.IntN.{ℤ}
 use lib.ListN.{length, set}
 use Rattle.params.specs.declared.params.Params.{Params}
 use Rattle.params.specs.declared.answers.Refusal.TheVariants.{Damage, Form}
-use Rattle.params.specs.declared.answers.Answer.{Answer}
-use Rattle.params.specs.declared.answers.Answer.TheVariants.{Done, Refused}
-use Rattle.params.specs.Answers.{first, kept}
-use Rattle.params.specs.Params.{prime, size, lent_answer}
-use Rattle.buckets.specs.Buckets.{all_zero, in_limits, damaged}
-use Rattle.sketch.specs.Sketch.{Sketch, sketch, Freshened}
+use Rattle.params.specs.Answers.{first, Answer, Done}
+use Rattle.params.specs.Params.{size}
+use Rattle.buckets.specs.Buckets.{all_zero, damaged}
+use Rattle.sketch.specs.Sketch.{Sketch, sketch}
 use Rattle.params.proofs.Judging.{Refuses, first_refused, first_passed, refuse_done}
-use Rattle.files.specs.declared.fields.Bucket.{Bucket}
-use Rattle.files.specs.declared.fields.Bucket.TheVariants.{Of as BucketOf, No as NoBucket}
 use Rattle.files.specs.Bytes.{word, count_of}
 use Rattle.files.specs.Records.{record_at, is_kind, bucket_kind, head_length_in, bucket_length}
-use Rattle.files.specs.Heads.{parameters_answer}
 use Rattle.files.specs.Layout.{bucket_at}
 use Rattle.files.specs.Turns.{bucket_offset, end_answer}
 use Rattle.files.specs.Fields.{index_field, count_field, idsum_field}
 use Rattle.files.proofs.HeadStages.{opening_answer, opening_first}
-use Rattle.files.proofs.HeadTrips.{opening_lent}
 use Rattle.files.proofs.Standing.{kind_ends}
 use Rattle.files.proofs.Bodies.{bucket_fields}
 use Rattle.files.proofs.Turning.{Come, come_start, come_next, come_end, come_within, in_turn_refused, in_turn_done}
-use Rattle.sketchfile.specs.Reading.{buckets_in, bucket_index, bucket_count, bucket_idsum, lowest, too_large, not_rising, bucket_answer, bucket_judged, buckets_judged, sketch_answer, stored, sketch_in}
-
--- what is refused of one bucket, by its stages
-module _ (N low at x : ℕ) (c : ℤ) (s : ℕ) where
-  pub bucket_damaged : (in_limits c && ltb s prime) ≡ false → Refused Damage at ≡ bucket_answer N low at x c s
-  unfolding bucket_answer
-  bucket_damaged e = rw e
-
-  module _ (sound : (in_limits c && ltb s prime) ≡ true) where
-    pub bucket_large : too_large N x ≡ true → Refused Form at ≡ bucket_answer N low at x c s
-    unfolding bucket_answer
-    bucket_large h = rw (sound, h)
-
-    pub bucket_low : too_large N x ≡ false → not_rising low x ≡ true → Refused Form at ≡ bucket_answer N low at x c s
-    unfolding bucket_answer
-    bucket_low h l = rw (sound, h, l)
-
-    pub bucket_zero : too_large N x ≡ false → not_rising low x ≡ false → all_zero c s ≡ true → Refused Form at ≡ bucket_answer N low at x c s
-    unfolding bucket_answer
-    bucket_zero h l e = rw (sound, h, l, e)
-
-    pub bucket_passed : too_large N x ≡ false → not_rising low x ≡ false → all_zero c s ≡ false → Done ≡ bucket_answer N low at x c s
-    unfolding bucket_answer
-    bucket_passed h l e = rw (sound, h, l, e)
+use Rattle.sketchfile.specs.Reading.{buckets_in, bucket_index, bucket_count, bucket_idsum, lowest, too_large, not_rising, bucket_answer, bucket_judged, buckets_judged, sketch_answer, stored}
+use Rattle.std.specs.Prelude.{None, Option, Some}
 
 -- a bucket record that is not refused
 pub record SoundBucket (N low x : ℕ) (c : ℤ) (s : ℕ) : Type 0 where
@@ -99,41 +70,42 @@ pub record Found (bs : List ℕ) (n at k : ℕ) (c : ℤ) (s : ℕ) : Type 0 whe
   pub next : Reader bs (n + 1) (at + bucket_length)
 
 -- what stands at an offset: a whole bucket by its fields, or no bucket
-fields : (bs : List ℕ) (at k : ℕ) (c : ℤ) (s : ℕ) → BucketOf k c s ≡ bucket_at bs at
-    → (is_kind bucket_kind (record_at bs at) ≡ true) × (k ≡ word bs (at + index_field)) × (c ≡ count_of (word bs (at + count_field))) × (s ≡ word bs (at + idsum_field))
-fields bs at k c s e = go (is_kind bucket_kind (record_at bs at)) (e ∙ bucket_fields bs at)
-  where
-    go : (b : Bool) → BucketOf k c s ≡ cond b (BucketOf (word bs (at + index_field)) (count_of (word bs (at + count_field))) (word bs (at + idsum_field))) NoBucket
-        → (b ≡ true) × (k ≡ word bs (at + index_field)) × (c ≡ count_of (word bs (at + count_field))) × (s ≡ word bs (at + idsum_field))
-    go true q = (refl, cc, cc, cc)
-    go false q = absurd (let w : ◌≡◌ {A = ℕ} 0 1 = cc in omega arith)
+abbrev said : List ℕ → ℕ → ℕ × ℤ × ℕ
+said bs at = (word bs (at + index_field), count_of (word bs (at + count_field)), word bs (at + idsum_field))
 
-no_bucket : (bs : List ℕ) (at : ℕ) → NoBucket ≡ bucket_at bs at → is_kind bucket_kind (record_at bs at) ≡ false
+fields : (bs : List ℕ) (at : ℕ) (x : ℕ × ℤ × ℕ) → Some x ≡ bucket_at bs at → (is_kind bucket_kind (record_at bs at) ≡ true) × (x ≡ said bs at)
+fields bs at x e = go (is_kind bucket_kind (record_at bs at)) (e ∙ bucket_fields bs at)
+  where
+    go : (b : Bool) → Some x ≡ cond b (Some (said bs at)) None → (b ≡ true) × (x ≡ said bs at)
+    go true q = (refl, cc)
+    go false q = (cc, cc)
+
+no_bucket : (bs : List ℕ) (at : ℕ) → None ≡ bucket_at bs at → is_kind bucket_kind (record_at bs at) ≡ false
 no_bucket bs at e = go (is_kind bucket_kind (record_at bs at)) (e ∙ bucket_fields bs at)
   where
-    go : (b : Bool) → NoBucket ≡ cond b (BucketOf (word bs (at + index_field)) (count_of (word bs (at + count_field))) (word bs (at + idsum_field))) NoBucket → b ≡ false
-    go true q = absurd (let w : ◌≡◌ {A = ℕ} 0 1 = cc in omega arith)
+    go : (b : Bool) → None ≡ cond b (Some (said bs at)) None → b ≡ false
+    go true q = cc
     go false q = refl
 
 bucket_ends : (bs : List ℕ) (at : ℕ) → is_kind bucket_kind (record_at bs at) ≡ true → at + bucket_length ≤ length bs
 bucket_ends bs at e = omega (arith, kind_ends bucket_kind bs at e)
 
-module _ {bs : List ℕ} {n at : ℕ} {found : Bucket} (r : Reader bs n at) (e : found ≡ bucket_at bs at) where
-  pub found_bucket : {k : ℕ} {c : ℤ} {s : ℕ} → found ≡ BucketOf k c s → Found bs n at k c s
+module _ {bs : List ℕ} {n at : ℕ} {found : (Option (ℕ × ℤ × ℕ))} (r : Reader bs n at) (e : found ≡ bucket_at bs at) where
+  pub found_bucket : {k : ℕ} {c : ℤ} {s : ℕ} → found ≡ Some (k, c, s) → Found bs n at k c s
   found_bucket {k} {c} {s} q =
-      let f = rw r.place at (fields bs at k c s (sym q ∙ e)) in
+      let f = rw r.place at (fields bs at (k, c, s) (sym q ∙ e)) in
       let short = bucket_ends bs (bucket_offset bs n) f.0 in
       let come-on = come_next bucket_kind (bucket_offset bs) bs n (omega arith) f.0 r.come in
       record {
-        index = f.1;
-        count = f.2;
-        idsum = f.3;
+        index = ap (λ (x : ℕ × ℤ × ℕ). x.0) f.1;
+        count = ap (λ (x : ℕ × ℤ × ℕ). x.1) f.1;
+        idsum = ap (λ (x : ℕ × ℤ × ℕ). x.2) f.1;
         before_end = omega arith;
         counted = omega (arith, come_within bucket_kind (bucket_offset bs) bs (n + 1) come-on);
         next = record { place = omega arith; come = come-on };
       }
 
-  pub none_left : found ≡ NoBucket → n ≡ buckets_in bs
+  pub none_left : found ≡ None → n ≡ buckets_in bs
   none_left q = come_end bucket_kind (bucket_offset bs) bs n (rw r.place at (no_bucket bs at (sym q ∙ e))) r.come
 
 -- the answers for the buckets in turn
@@ -168,24 +140,7 @@ pub record Storing (bs : List ℕ) (S : Sketch) (at : ℕ) (T : Sketch) : Type 0
   pub reader : Reader bs passed at
   pub so_far : T ≡ stored bs passed S
 
-pub all_stored : {P : Params} (bs : List ℕ) {S T U : Sketch} {a r : Answer} → Freshened P S a T → lent_answer P (length S.counts) (length S.idsums) ≡ Done
-    → U ≡ stored bs (buckets_in bs) T → r ≡ Done → U ≡ kept r S (sketch_in P bs)
-unfolding kept sketch_in
-all_stored bs f lent_right filled done = rw (done, filled, f.after, f.answer, lent_right)
-
 -- the parameters and the lengths, then the records
 pub sketch_opening : (P : Params) (bs : List ℕ) (c s : ℕ) → sketch_answer P bs c s ≡ first (opening_answer P bs c s) (buckets_judged (size P) bs)
 unfolding sketch_answer
 sketch_opening P bs c s = opening_first P bs c s _
-
-module _ (P : Params) (bs : List ℕ) (c s : ℕ) where
-  pub bad_parameters : (r : Answer) → r ≡ parameters_answer P bs → Refuses r → r ≡ sketch_answer P bs c s
-  unfolding sketch_answer
-  bad_parameters r e h = first_refused r _ _ e h
-
-  module _ (right : parameters_answer P bs ≡ Done) where
-    pub bad_lengths : (r : Answer) → r ≡ lent_answer P c s → Refuses r → r ≡ sketch_answer P bs c s
-    bad_lengths r e h = first_refused r _ _ (e ∙ opening_lent P bs c s right) h ∙ sym (sketch_opening P bs c s)
-
-    pub records_decide : lent_answer P c s ≡ Done → buckets_judged (size P) bs ≡ sketch_answer P bs c s
-    records_decide e = sym (sketch_opening P bs c s ∙ first_passed _ _ (sym (opening_lent P bs c s right) ∙ e))

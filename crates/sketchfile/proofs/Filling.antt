@@ -10,7 +10,6 @@ use lib.IntN.{pos}
 use lib.ListN.{length, get_or, set, replicate, length-append, length-set, length-replicate, get_or-replicate, get_or-eq_default}
 use lib.Seq.{ext_get_or, get_or-set_same, get_or-set_other}
 use Rattle.params.specs.declared.params.Params.{Params}
-use Rattle.params.specs.declared.answers.Answer.TheVariants.{Done}
 use Rattle.params.specs.Params.{size}
 use Rattle.sketch.specs.Sketch.{Sketch, count_in, idsum_in, damaged_at, zeros}
 use Rattle.buckets.proofs.Limits.{whole, limits_fit}
@@ -22,6 +21,7 @@ use Rattle.sketchfile.specs.Reading.{bucket_index, bucket_count, bucket_idsum, l
 use Rattle.sketchfile.specs.Writing.{zero_at, buckets_bytes, nonzero_from}
 use Rattle.sketchfile.proofs.BucketRecords.{SoundBucket, sound_done}
 use Rattle.sketchfile.proofs.BucketTrips.{Bucketed, bucket_written, all_zero_lem}
+use Rattle.params.specs.Answers.{Done}
 
 -- ys is xs below k, and blank from there on
 pub record Filled {A : Type 0} (blank : A) (xs ys : List A) (k : ℕ) : Type 0 where

@@ -7,13 +7,11 @@ use native.Mathlib.Omega.{arith}
 use lib.ListN.{length, take}
 use lib.Seq.{ext_get_or}
 use Rattle.params.specs.declared.params.Params.{Params}
-use Rattle.params.specs.declared.answers.Answer.TheVariants.{Done}
 use Rattle.params.specs.Params.{size, same_params}
 use Rattle.params.proofs.Judging.{kept_new}
 use Rattle.params.proofs.SameParams.{dimensions_same, fifth_same, size_same, pair_same}
 use Rattle.sketch.specs.Sketch.{Sketch, Entry, zeros}
 use Rattle.sums.specs.History.{History}
-use Rattle.files.specs.declared.writing.Written.TheVariants.{Bytes}
 use Rattle.files.proofs.HeadTrips.{same_written}
 use Rattle.files.proofs.Overwriting.{written_front}
 use Rattle.sketchfile.specs.Reading.{sketch_answer, sketch_in, SketchRead}
@@ -21,13 +19,15 @@ use Rattle.sketchfile.specs.Writing.{sketch_bytes, sketch_write_answer, SketchWr
 use Rattle.sketchfile.proofs.Written.{writing_done}
 use Rattle.sketchfile.proofs.Accepting.{file_content}
 use Rattle.sketchfile.proofs.AtTheCall.{sketch_done}
+use Rattle.params.specs.Answers.{Done}
+use Rattle.std.specs.Prelude.{Ok}
 
 -- a file's sketch depends on the size that its parameters ask for alone
 sized : (P Q : Params) (bs : List ℕ) → size Q ≡ size P → sketch_in Q bs ≡ sketch_in P bs
 unfolding sketch_in zeros
 sized P Q bs e = rw e
 
-module _ {P Q : Params} {S T T' : Sketch} {out out' : List ℕ} {n : ℕ} (w : SketchWritten P S out (Bytes n) out') (q : SketchRead Q (take n out') T Done T') where
+module _ {P Q : Params} {S T T' : Sketch} {out out' : List ℕ} {n : ℕ} (w : SketchWritten P S out (Ok n) out') (q : SketchRead Q (take n out') T Done T') where
   -- whoever reads it without a refusal has the same parameters, and gets the sketch that was written
   pub read_back : (same_params Q P ≡ true) × (T' ≡ S)
   unfolding sketch_bytes
@@ -57,5 +57,5 @@ equal_params P Q f g e =
 
 -- so the history goes on under the reader's own parameters
 pub history_by_equal : {P Q : Params} {S T T' : Sketch} {out out' : List ℕ} {n : ℕ} {es : List Entry} → FourPairs P → FourPairs Q
-    → History P es S → SketchWritten P S out (Bytes n) out' → SketchRead Q (take n out') T Done T' → History Q es T'
+    → History P es S → SketchWritten P S out (Ok n) out' → SketchRead Q (take n out') T Done T' → History Q es T'
 history_by_equal {P} {Q} f g h w q = rw (equal_params Q P g f (read_back w q).0) (history_through_file w q h)

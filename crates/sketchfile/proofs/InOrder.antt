@@ -11,10 +11,8 @@ use lib.ListN.{length}
 use Rattle.params.specs.declared.params.Params.{Params}
 use Rattle.params.specs.declared.answers.Refusal.{Refusal}
 use Rattle.params.specs.declared.answers.Refusal.TheVariants.{Param, Length, Damage, Form}
-use Rattle.params.specs.declared.answers.Answer.{Answer}
-use Rattle.params.specs.declared.answers.Answer.TheVariants.{Done, Refused}
 use Rattle.params.specs.Lists.{least}
-use Rattle.params.specs.Answers.{number_of, number_in, index_in, refuse_if, refuse_at, first}
+use Rattle.params.specs.Answers.{number_of, number_in, index_in, refuse_if, refuse_at, first, Answer, Done, Refused, Given, value_in}
 use Rattle.params.specs.Params.{size, good_params, lengths_answer, lent_answer}
 use Rattle.buckets.specs.Buckets.{all_zero, damaged}
 use Rattle.sketch.specs.Sketch.{Sketch, damaged_at}
@@ -24,11 +22,8 @@ use Rattle.params.specs.Faults.{order, first_of}
 use Rattle.sketch.specs.Faults.{wrong_length}
 use Rattle.sketchfile.specs.Faults.{bucket_fault, write_fault}
 use Rattle.params.proofs.InOrder.{lowest_first, refuse_number, refuse_at_number, first_refuse, cond_either}
-use Rattle.files.specs.declared.writing.Written.{Written}
-use Rattle.files.specs.declared.writing.Written.TheVariants.{Refused as NotWritten}
 use Rattle.files.proofs.HeadStages.{opening_answer}
 use Rattle.files.specs.Turns.{in_turn, bucket_offset, end_answer}
-use Rattle.files.specs.Writing.{written_number, written_index, written_length}
 use Rattle.files.proofs.HeadTrips.{Opened, opening_done}
 use Rattle.files.proofs.Turning.{Earliest, in_turn_earliest, done_in_turn}
 use Rattle.files.specs.Faults.{opening_order, opening_fault}
@@ -47,11 +42,11 @@ module _ (N : ℕ) (bs : List ℕ) (j : ℕ) where
   bucket_place w k = go (damaged (bucket_count bs j) (bucket_idsum bs j)) (too_large N (bucket_index bs j)) (not_rising (lowest bs j) (bucket_index bs j)) (all_zero (bucket_count bs j) (bucket_idsum bs j))
     where
       go : (x y z v : Bool) → refuse_if x Damage (bucket_offset bs j) (refuse_if y Form (bucket_offset bs j) (refuse_if z Form (bucket_offset bs j) (refuse_if v Form (bucket_offset bs j) Done))) ≡ Refused w k → k ≡ bucket_offset bs j
-      go true y z v e = cc
-      go false true z v e = cc
-      go false false true v e = cc
-      go false false false true e = cc
-      go false false false false e = absurd (let z : ◌≡◌ {A = ℕ} 0 1 = cc in omega arith)
+      go true y z v e = sym (ap index_in e)
+      go false true z v e = sym (ap index_in e)
+      go false false true v e = sym (ap index_in e)
+      go false false false true e = sym (ap index_in e)
+      go false false false false e = cc
 
 module _ (P : Params) (bs : List ℕ) (c s : ℕ) (w : Refusal) (k : ℕ) where
   -- the earliest bucket at fault: those before it were accepted, the first of its faults decides the number, and its offset goes with it
@@ -121,7 +116,7 @@ module _ (P : Params) (S : Sketch) (o : ℕ) where
       go false false false false e = ((λ q. absurd (omega arith)), λ q. refl)
 
 -- h is what the contract of `write_sketch` gives
-module _ {P : Params} {S : Sketch} {out : List ℕ} {r : Written} {out' : List ℕ} (h : SketchWritten P S out r out') where
+module _ {P : Params} {S : Sketch} {out : List ℕ} {r : Given ℕ} {out' : List ℕ} (h : SketchWritten P S out r out') where
   abbrev judged : Answer
   judged = sketch_write_answer P S (length out)
 
@@ -129,27 +124,27 @@ module _ {P : Params} {S : Sketch} {out : List ℕ} {r : Written} {out' : List �
   long = length (sketch_bytes P S)
 
   -- the first fault that applies decides the number, 0 where none does
-  pub write_sketch_number : written_number r ≡ first_of order (write_fault P S (length out))
+  pub write_sketch_number : number_in r ≡ first_of order (write_fault P S (length out))
   write_sketch_number = written_number_lem judged long h.answer ∙ writing_number P S (length out)
 
   -- so no fault that applies has a lower number
-  pub write_sketch_least_number : (w : Refusal) → write_fault P S (length out) w ≡ true → written_number r ≤ number_of w
+  pub write_sketch_least_number : (w : Refusal) → write_fault P S (length out) w ≡ true → number_in r ≤ number_of w
   write_sketch_least_number w e = rw write_sketch_number (lowest_first (write_fault P S (length out)) refl refl w e)
 
   -- with the number of Damage the index is that of the lowest damaged bucket
-  pub write_sketch_lowest : written_number r ≡ 5 → Lowest (size P) (damaged_at S) (written_index r)
+  pub write_sketch_lowest : number_in r ≡ 5 → Lowest (size P) (damaged_at S) (index_in r)
   write_sketch_lowest e =
       rw (written_index_lem judged long h.answer) ((writing_index P S (length out)).0 (sym (written_number_lem judged long h.answer) ∙ e))
 
   -- with any other it is 0
-  pub write_sketch_index : (written_number r ≡ 5 → ⊥) → written_index r ≡ 0
+  pub write_sketch_index : (number_in r ≡ 5 → ⊥) → index_in r ≡ 0
   write_sketch_index n =
       written_index_lem judged long h.answer ∙ (writing_index P S (length out)).1 (λ e. n (written_number_lem judged long h.answer ∙ e))
 
   -- where nothing is at fault the file's length is returned
-  pub write_sketch_length : written_number r ≡ 0 → written_length r ≡ length (sketch_bytes P S)
+  pub write_sketch_length : number_in r ≡ 0 → value_in r ≡ length (sketch_bytes P S)
   write_sketch_length e = written_length_lem judged long h.answer e
 
   -- a refused writer writes nothing
-  pub write_sketch_refused : {w : Refusal} {k : ℕ} → r ≡ NotWritten w k → out' ≡ out
+  pub write_sketch_refused : {w : Refusal} {k : ℕ} → r ≡ Refused w k → out' ≡ out
   write_sketch_refused e = h.bytes ∙ refused_as_it_was judged long h.answer out _ e

@@ -5,24 +5,20 @@ use Prim.Native.Nat.{ℕ, ◌≤◌, ◌<◌}
 use native.Mathlib.Omega.{arith}
 use lib.ListN.{length, get_or, take}
 use Rattle.params.specs.declared.params.Params.{Params}
-use Rattle.params.specs.declared.answers.Answer.{Answer}
-use Rattle.params.specs.declared.answers.Answer.TheVariants.{Done, Refused}
 use Rattle.params.specs.Params.{size}
 use Rattle.sketch.specs.Sketch.{Sketch}
 use Rattle.params.specs.declared.answers.Refusal.{Refusal}
-use Rattle.params.specs.Answers.{kept}
+use Rattle.params.specs.Answers.{kept, Answer, Done, Refused, Given, given}
 use Rattle.params.proofs.Judging.{kept_new}
-use Rattle.files.specs.declared.writing.Written.{Written}
-use Rattle.files.specs.declared.writing.Written.TheVariants.{Bytes}
-use Rattle.files.specs.Writing.{written_of}
 use Rattle.files.proofs.Overwriting.{written_front}
 use Rattle.sketchfile.specs.Reading.{sketch_answer, sketch_in, SketchRead}
 use Rattle.sketchfile.specs.Writing.{sketch_bytes, sketch_write_answer, SketchWritten}
 use Rattle.sketchfile.proofs.Written.{Writable, writing_done}
 use Rattle.sketchfile.proofs.Accepting.{writable_done, file_accepted, file_content, accepted}
+use Rattle.std.specs.Prelude.{Ok}
 
 -- reading the written file gives the sketch back
-pub read_written : {P : Params} {S T T' : Sketch} {out out' : List ℕ} {n : ℕ} {r : Answer} → SketchWritten P S out (Bytes n) out' → SketchRead P (take n out') T r T'
+pub read_written : {P : Params} {S T T' : Sketch} {out out' : List ℕ} {n : ℕ} {r : Answer} → SketchWritten P S out (Ok n) out' → SketchRead P (take n out') T r T'
     → length T.counts ≡ size P → length T.idsums ≡ size P → (r ≡ Done) × (T' ≡ S)
 read_written {P} {S} {T} {T'} {out} {out'} {n} {r} w q c s =
     let wrote = written_front (sketch_write_answer P S (length out)) out (sketch_bytes P S) w.answer w.bytes in
@@ -42,14 +38,14 @@ pub same_file : {P : Params} {bs : List ℕ} {T T' : Sketch} → ((k : ℕ) → 
 same_file small q = (file_of small q).1
 
 -- writing an accepted file's sketch gives the same bytes
-pub written_read : {P : Params} {bs : List ℕ} {T T' : Sketch} {out out' : List ℕ} {r : Written} → ((k : ℕ) → get_or bs k 0 < 256) → SketchRead P bs T Done T'
-    → SketchWritten P T' out r out' → length bs ≤ length out → (r ≡ Bytes (length bs)) × (take (length bs) out' ≡ bs)
+pub written_read : {P : Params} {bs : List ℕ} {T T' : Sketch} {out out' : List ℕ} {r : Given ℕ} → ((k : ℕ) → get_or bs k 0 < 256) → SketchRead P bs T Done T'
+    → SketchWritten P T' out r out' → length bs ≤ length out → (r ≡ Ok (length bs)) × (take (length bs) out' ≡ bs)
 written_read {P} {bs} {T} {T'} {out} {out'} {r} small q w l =
     let f = file_of small q in
     let same : sketch_bytes P T' ≡ bs = f.1 in
     let long : length (sketch_bytes P T') ≡ length bs = ap length same in
     let done = writable_done P T' (length out) f.0 (omega arith) in
-    let returned : r ≡ Bytes (length bs) = w.answer ∙ ap₂ written_of done long in
+    let returned : r ≡ Ok (length bs) = w.answer ∙ ap₂ given done long in
     (returned, (written_front (sketch_write_answer P T' (length out)) out (sketch_bytes P T') (sym returned ∙ w.answer) w.bytes).1 ∙ same)
 
 -- so two accepted files that read as the same sketch are the same

@@ -10,7 +10,6 @@ use lib.IntN.{ℤ, pos}
 use lib.ListN.{length, get_or, set, take, replicate, take-append-drop}
 use lib.Seq.{get_or-set_same, get_or-set_other, take-add, length-take-le}
 use Rattle.params.specs.declared.params.Params.{Params}
-use Rattle.params.specs.declared.answers.Answer.TheVariants.{Done}
 use Rattle.params.specs.Params.{size}
 use Rattle.buckets.specs.Buckets.{all_zero, in_limits, damaged}
 use Rattle.sketch.specs.Sketch.{Sketch, sketch, count_in, idsum_in, damaged_at, zeros}
@@ -26,6 +25,7 @@ use Rattle.sketchfile.proofs.BucketRecords.{done_sound}
 use Rattle.sketchfile.proofs.BucketTrips.{bucket_read, no_records, buckets_split, buckets_same}
 use Rattle.sketchfile.proofs.Written.{buckets_long}
 use Rattle.sketchfile.proofs.Filling.{Filled, filled_none, counts_long, idsums_long}
+use Rattle.params.specs.Answers.{Done}
 
 -- buckets that are zero from k on have no records there
 rest_silent : (S : Sketch) (k x : ℕ) → k ≤ x → ((y : ℕ) → k ≤ y → zero_at S y ≡ true) → buckets_bytes 0 x S ≡ buckets_bytes 0 k S

@@ -1,20 +1,19 @@
 -- Sketch files written: the bucket records in turn, how many and how long they are, how long a file is, what is answered, and what holds where nothing is refused.
-use mathlib.Core.Path.{◌≡◌, refl, sym, ap, ◌∙◌}
+use mathlib.Core.Path.{◌≡◌, refl, ap}
 use mathlib.Core.Bool.{Bool, true, false, not, cond}
 use mathlib.Core.List.{[], ◌++◌}
 use Prim.Native.Nat.{ℕ, zero, suc, ◌+◌, ◌*◌, ◌-◌, ◌≤◌, ◌<◌}
 use native.Mathlib.Numerals.{add-one}
 use native.Mathlib.Omega.{arith}
-use borrow.Author.Tests.{lt-ltb, le-ltb, ltb-false, not-false}
+use borrow.Author.Tests.{ltb-false, not-false}
 use lib.Dec.{ltb}
 use lib.ListN.{length}
 use Rattle.params.specs.declared.params.Params.{Params}
 use Rattle.params.specs.declared.answers.Refusal.TheVariants.{Param, Length, Damage}
-use Rattle.params.specs.declared.answers.Answer.TheVariants.{Done, Refused}
-use Rattle.params.specs.Answers.{refuse_at}
+use Rattle.params.specs.Answers.{Done}
 use Rattle.params.specs.Params.{size, good_params, lent_answer}
 use Rattle.sketch.specs.Sketch.{Sketch, count_in, idsum_in, damaged_at}
-use Rattle.params.proofs.Judging.{first_done, first_passed, refuse_done, refuse_at_done}
+use Rattle.params.proofs.Judging.{first_done, refuse_done, refuse_at_done}
 use Rattle.params.proofs.Rules.{good_dimensions_lem, dimensions_small, lent_done}
 use Rattle.files.specs.Bytes.{word_bytes}
 use Rattle.files.specs.Layout.{bucket_bytes}
@@ -64,24 +63,17 @@ module _ (S : Sketch) where
         → buckets_bytes k (n - k) S ≡ bucket_bytes k (count_in S k) (idsum_in S k) ++ buckets_bytes (k + 1) (n - (k + 1)) S
     nonzero_next k h e = rw e at (next_left k h)
 
+    -- and how many those records are
+    pub none_counted : (k : ℕ) → n ≤ k → nonzero_from k (n - k) S ≡ 0
+    none_counted k h = omega (arith, left_few k (n - k))
+
+    pub next_counted : (k : ℕ) → k < n → nonzero_from k (n - k) S ≡ cond (zero_at S k) 0 1 + nonzero_from (k + 1) (n - (k + 1)) S
+    unfolding nonzero_from
+    next_counted k h = let some : n - k ≡ suc (n - (k + 1)) = omega arith in rw (some, add-one k)
+
 pub sketch_long : (P : Params) (S : Sketch) → length (sketch_bytes P S) ≡ head_length_of P + bucket_length * nonzero_from 0 (size P) S + end_length
 unfolding sketch_bytes
 sketch_long P S = omega (arith, length_file P (buckets_bytes 0 (size P) S) (nonzero_from 0 (size P) S), buckets_long S 0 (size P))
-
--- where the parameters and the lengths of the slices are right
-module _ (P : Params) (S : Sketch) (o : ℕ) (lent_right : lent_answer P (length S.counts) (length S.idsums) ≡ Done) where
-  long : length (sketch_bytes P S) ≡ head_length_of P + bucket_length * nonzero_from 0 (length S.counts) S + end_length
-  long = rw (lent_done P _ _ lent_right).1 (sketch_long P S)
-
-  pub sketch_short : o < head_length_of P + bucket_length * nonzero_from 0 (length S.counts) S + end_length → Refused Length 0 ≡ sketch_write_answer P S o
-  unfolding sketch_write_answer
-  sketch_short h = rw (lt-ltb o (length (sketch_bytes P S)) (omega (arith, long))) (sym (first_passed _ _ lent_right))
-
-  pub sketch_passed : head_length_of P + bucket_length * nonzero_from 0 (length S.counts) S + end_length ≤ o → refuse_at (length S.counts) (damaged_at S) Damage Done ≡ sketch_write_answer P S o
-  unfolding sketch_write_answer
-  sketch_passed h =
-      let passed : refuse_at (size P) (damaged_at S) Damage Done ≡ sketch_write_answer P S o = rw (le-ltb o (length (sketch_bytes P S)) (omega (arith, long))) (sym (first_passed _ _ lent_right)) in
-      ap (λ (n : ℕ). refuse_at n (damaged_at S) Damage Done) (lent_done P _ _ lent_right).1 ∙ passed
 
 -- a sketch whose writing is not refused
 pub record Writable (P : Params) (S : Sketch) : Type 0 where
@@ -107,5 +99,5 @@ writing_done P S o e =
         idsums = lengths.2;
         undamaged = (refuse_at_done (size P) (damaged_at S) Damage Done k.1).0;
       },
-      omega (arith, ltb-false o (length (sketch_bytes P S)) k.0, long P S o h.0),
+      rw lengths.1 (omega (arith, ltb-false o (length (sketch_bytes P S)) k.0, sketch_long P S)),
     )

@@ -2,9 +2,7 @@
 use Rattle.std.specs.Prelude.{◌≡◌, Bool, List, ℕ, zero, suc, ◌+◌, ℤ, leb, ltb, length, set}
 use Rattle.params.specs.declared.params.Params.{Params}
 use Rattle.params.specs.declared.answers.Refusal.TheVariants.{Damage, Form}
-use Rattle.params.specs.declared.answers.Answer.{Answer}
-use Rattle.params.specs.declared.answers.Answer.TheVariants.{Done}
-use Rattle.params.specs.Answers.{refuse_if, first, kept}
+use Rattle.params.specs.Answers.{refuse_if, first, kept, Answer, Done}
 use Rattle.params.specs.Params.{size, lengths_answer}
 use Rattle.buckets.specs.Buckets.{all_zero, damaged}
 use Rattle.sketch.specs.Sketch.{Sketch, sketch, zeros}

@@ -2,15 +2,11 @@
 use Rattle.std.specs.Prelude.{◌≡◌, Bool, cond, List, [], ◌++◌, ℕ, zero, suc, ◌+◌, ltb, length}
 use Rattle.params.specs.declared.params.Params.{Params}
 use Rattle.params.specs.declared.answers.Refusal.TheVariants.{Length, Damage}
-use Rattle.params.specs.declared.answers.Answer.{Answer}
-use Rattle.params.specs.declared.answers.Answer.TheVariants.{Done}
-use Rattle.params.specs.Answers.{refuse_if, refuse_at, first, kept}
+use Rattle.params.specs.Answers.{refuse_if, refuse_at, first, kept, Answer, Done, Given, given}
 use Rattle.params.specs.Params.{size, lent_answer}
 use Rattle.sketch.specs.Sketch.{Sketch, count_in, idsum_in, damaged_at}
-use Rattle.files.specs.declared.writing.Written.{Written}
 use Rattle.files.specs.Bytes.{overwritten}
 use Rattle.files.specs.Layout.{head_bytes, bucket_bytes, end_bytes}
-use Rattle.files.specs.Writing.{written_of}
 use Rattle.buckets.specs.Buckets.{all_zero}
 
 -- bucket k is all zero
@@ -38,6 +34,6 @@ sketch_write_answer P S o =
     (refuse_at (size P) (damaged_at S) Damage
     Done))
 
-pub record SketchWritten (P : Params) (S : Sketch) (out : List ℕ) (r : Written) (out' : List ℕ) : Type 0 where
-  pub answer : r ≡ written_of (sketch_write_answer P S (length out)) (length (sketch_bytes P S))
+pub record SketchWritten (P : Params) (S : Sketch) (out : List ℕ) (r : Given ℕ) (out' : List ℕ) : Type 0 where
+  pub answer : r ≡ given (sketch_write_answer P S (length out)) (length (sketch_bytes P S))
   pub bytes : out' ≡ kept (sketch_write_answer P S (length out)) out (overwritten out 0 (sketch_bytes P S))

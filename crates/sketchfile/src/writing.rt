@@ -8,8 +8,8 @@ ghost use Rattle.sketchfile.specs.Writing.{buckets_bytes, nonzero_from, sketch_w
 use buckets::{all_zero, first_damaged};
 use files::heads::head_length;
 use files::records::{BUCKET_LENGTH, END_LENGTH};
-use files::writing::{Written, put_bucket, put_end, put_head};
-use params::{Answer, Params, Refusal};
+use files::writing::{put_bucket, put_end, put_head};
+use params::{Params, Refusal, Refused};
 
 // How many buckets are not all zero.
 fn nonzero_buckets(counts: &[i32], idsums: &[u32]) -> usize
@@ -17,32 +17,27 @@ fn nonzero_buckets(counts: &[i32], idsums: &[u32]) -> usize
     ensures { (result ≡ nonzero_from 0 (length counts.now) (sketch counts.now idsums.now)) × (result ≤ length counts.now) }
 {
     let mut n = 0;
-    let mut k = 0;
-    while k < counts.len() {
+    for k in 0..counts.len() {
         if !all_zero(counts[k], idsums[k]) {
             n += 1;
         }
-        k += 1;
     }
     n
 }
 
 // The answer, which alters nothing; `room` is the length of the output.
-fn judge(p: Params, counts: &[i32], idsums: &[u32], room: usize) -> Answer
+fn judge(p: Params, counts: &[i32], idsums: &[u32], room: usize) -> Result<(), Refused>
     ensures { result ≡ sketch_write_answer p (sketch counts.now idsums.now) room }
 {
-    let r = p.judge_lent(counts.len(), idsums.len());
-    let Answer::Done = r else {
-        return r;
-    };
+    p.judge_lent(counts.len(), idsums.len())?;
     if room < head_length(p) + BUCKET_LENGTH * nonzero_buckets(counts, idsums) + END_LENGTH {
-        return Answer::Refused(Refusal::Length, 0);
+        return Err(Refused(Refusal::Length, 0));
     }
     let x = first_damaged(counts, idsums);
     if x < counts.len() {
-        return Answer::Refused(Refusal::Damage, x);
+        return Err(Refused(Refusal::Damage, x));
     }
-    Answer::Done
+    Ok(())
 }
 
 // The bucket records, from an offset on; gives the offset after them.
@@ -53,31 +48,29 @@ fn put_all(out: &mut [u8], first: usize, counts: &[i32], idsums: &[u32]) -> usiz
     ensures out_after { out.new ≡ overwritten out.old first (buckets_bytes 0 (length counts.now) (sketch counts.now idsums.now)) }
 {
     let mut at = first;
-    let mut k = 0;
-    while k < counts.len() {
+    for k in 0..counts.len() {
         if !all_zero(counts[k], idsums[k]) {
             put_bucket(out, at, k as u32, counts[k], idsums[k]);
             at += BUCKET_LENGTH;
         }
-        k += 1;
     }
     at
 }
 
 // Writes the file of a sketch; the rest of the output is not touched.
-pub fn write_sketch(p: Params, counts: &[i32], idsums: &[u32], out: &mut [u8]) -> Written
+pub fn write_sketch(
+    p: Params,
+    counts: &[i32],
+    idsums: &[u32],
+    out: &mut [u8],
+) -> Result<usize, Refused>
     ensures { SketchWritten p (sketch counts.now idsums.now) out.old result out.new }
 {
-    let r = judge(p, counts, idsums, out.len());
-    match r {
-        Answer::Done => {
-            let first = head_length(p);
-            put_head(out, p);
-            let at = put_all(out, first, counts, idsums);
-            let n = (at - first) / BUCKET_LENGTH;
-            put_end(out, at, n as u32);
-            Written::Bytes(at + END_LENGTH)
-        }
-        Answer::Refused(refusal, index) => Written::Refused(refusal, index),
-    }
+    judge(p, counts, idsums, out.len())?;
+    let first = head_length(p);
+    put_head(out, p);
+    let at = put_all(out, first, counts, idsums);
+    let n = (at - first) / BUCKET_LENGTH;
+    put_end(out, at, n as u32);
+    Ok(at + END_LENGTH)
 }

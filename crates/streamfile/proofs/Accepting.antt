@@ -7,27 +7,32 @@ use native.Mathlib.Omega.{arith}
 use lib.ListN.{length}
 use Rattle.params.specs.declared.params.Params.{Params}
 use Rattle.params.specs.declared.answers.Refusal.TheVariants.{Damage}
-use Rattle.params.specs.declared.answers.Answer.{Answer}
-use Rattle.params.specs.declared.answers.Answer.TheVariants.{Done, Refused}
 use Rattle.params.specs.Params.{size}
 use Rattle.sketch.specs.Sketch.{Sketch, damaged_at}
 use Rattle.sketch.specs.Packets.{Accepted}
 use Rattle.params.proofs.Judging.{first_done, refuse_at_done}
-use Rattle.files.proofs.HeadStages.{opening_answer}
+use Rattle.files.proofs.HeadStages.{opening_answer, opening_first}
 use Rattle.files.specs.Turns.{at_offset, in_turn, packet_offset, end_answer}
 use Rattle.files.specs.Records.{head_length_in}
 use Rattle.files.proofs.HeadTrips.{Opened, opening_done}
 use Rattle.files.proofs.Turning.{done_in_turn}
 use Rattle.streamfile.specs.Streams.{packets_in, flows_in, numbers_in, packet_judged, packets_judged, stream_answer}
-use Rattle.streamfile.proofs.Stages.{stream_opening}
 use Rattle.streamfile.proofs.Found.{flow_is, number_is}
+use Rattle.params.specs.Answers.{refuse_at, first, Answer, Done}
+use Rattle.std.specs.Prelude.{Err}
 
 at_offset_done : (at : ℕ) (r : Answer) → at_offset at r ≡ Done → r ≡ Done
 unfolding at_offset
 at_offset_done at Done e = refl
-at_offset_done at (Refused w k) e = cc
+at_offset_done at (Err r) e = cc
 
 module _ (P : Params) (bs : List ℕ) (S : Sketch) where
+  -- the parameters and the lengths, then the rest
+  pub stream_opening : stream_answer P bs S
+      ≡ first (opening_answer P bs (length S.counts) (length S.idsums)) (refuse_at (size P) (damaged_at S) Damage (packets_judged P bs S))
+  unfolding stream_answer
+  stream_opening = opening_first P bs _ _ _
+
   -- packets whose records were not refused
   pub judged_accepted : (i : ℕ) → i ≤ packets_in bs → ((j : ℕ) → j < i → packet_judged P bs S j ≡ Done) → Accepted P (flows_in bs) (numbers_in bs) S i
   unfolding packet_judged
@@ -45,7 +50,7 @@ module _ (P : Params) (bs : List ℕ) (S : Sketch) where
   pub stream_done : stream_answer P bs S ≡ Done → StreamDone
   unfolding packets_judged
   stream_done e =
-      let h = first_done (opening_answer P bs (length S.counts) (length S.idsums)) _ (sym (stream_opening P bs S) ∙ e) in
+      let h = first_done (opening_answer P bs (length S.counts) (length S.idsums)) _ (sym stream_opening ∙ e) in
       let k = refuse_at_done (size P) (damaged_at S) Damage (packets_judged P bs S) h.1 in
       let l = first_done (in_turn 0 (packets_in bs) (packet_judged P bs S)) _ k.1 in
       record {

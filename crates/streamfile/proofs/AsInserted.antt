@@ -10,9 +10,7 @@ use lib.ListN.{get_or, drop}
 use lib.Seq.{drop-cons}
 use Rattle.params.specs.declared.params.Params.{Params}
 use Rattle.params.specs.declared.answers.Refusal.{Refusal}
-use Rattle.params.specs.declared.answers.Answer.{Answer}
-use Rattle.params.specs.declared.answers.Answer.TheVariants.{Done, Refused}
-use Rattle.params.specs.Answers.{number_in, first, kept}
+use Rattle.params.specs.Answers.{number_in, first, kept, Answer, Done, Refused}
 use Rattle.params.specs.Params.{lent_answer}
 use Rattle.sketch.specs.Sketch.{Sketch, Entry}
 use Rattle.sketch.specs.Packets.{step_answer, changed, after, packets_answer, AllInserted, entries_of}
@@ -24,12 +22,13 @@ use Rattle.files.specs.Records.{head_length_in}
 use Rattle.streamfile.specs.Streams.{packets_in, flows_in, numbers_in, after_first, packet_judged, StreamRead}
 use Rattle.streamfile.proofs.Found.{length_flows, length_numbers, flow_is, number_is}
 use Rattle.streamfile.proofs.Accepting.{stream_done}
+use Rattle.std.specs.Prelude.{Err}
 
 -- an offset in place of the index is no other number
 first_at_offset : (at : ℕ) (r next later : Answer) → number_in next ≡ number_in later → number_in (first (at_offset at r) next) ≡ number_in (first r later)
 unfolding first at_offset
 first_at_offset at Done next later e = e
-first_at_offset at (Refused w k) next later e = refl
+first_at_offset at (Err r) next later e = refl
 
 module _ (P : Params) (bs : List ℕ) (S : Sketch) where
   -- packet i goes into T, which those before it left

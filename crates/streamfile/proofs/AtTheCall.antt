@@ -8,9 +8,7 @@ use native.Mathlib.Omega.{arith}
 use lib.ListN.{length}
 use Rattle.params.specs.declared.params.Params.{Params}
 use Rattle.params.specs.declared.answers.Refusal.{Refusal}
-use Rattle.params.specs.declared.answers.Answer.{Answer}
-use Rattle.params.specs.declared.answers.Answer.TheVariants.{Done, Refused}
-use Rattle.params.specs.Answers.{number_of, number_in, index_in}
+use Rattle.params.specs.Answers.{number_of, number_in, index_in, Answer, Done, Refused, Given}
 use Rattle.params.specs.Params.{size, good_params}
 use Rattle.params.specs.Faults.{order, first_of}
 use Rattle.params.proofs.Judging.{number_some}
@@ -20,8 +18,6 @@ use Rattle.sketch.specs.Packets.{step_answer, Accepted}
 use Rattle.sketch.specs.Faults.{move_fault}
 use Rattle.sketch.proofs.Steps.{move_good}
 use Rattle.sketch.proofs.InOrder.{move_number}
-use Rattle.files.specs.declared.writing.Written.{Written}
-use Rattle.files.specs.declared.writing.Written.TheVariants.{Bytes}
 use Rattle.files.specs.Records.{head_length_in}
 use Rattle.files.specs.Turns.{packet_offset}
 use Rattle.files.specs.Faults.{opening_order, opening_fault}
@@ -30,9 +26,9 @@ use Rattle.streamfile.specs.Streams.{packets_in, packet_flow, packet_number, flo
 use Rattle.streamfile.specs.Writing.{stream_bytes, StreamWritten}
 use Rattle.streamfile.specs.Faults.{write_fault}
 use Rattle.streamfile.proofs.Found.{flow_is, number_is}
-use Rattle.streamfile.proofs.Stages.{stream_opening}
-use Rattle.streamfile.proofs.Accepting.{StreamDone, stream_done}
+use Rattle.streamfile.proofs.Accepting.{stream_opening, StreamDone, stream_done}
 use Rattle.streamfile.proofs.InOrder.{PacketFault, StreamFault, in_opening, in_sketch, in_packet, in_end, stream_fault, write_stream_number, write_stream_index, write_stream_length}
+use Rattle.std.specs.Prelude.{Ok, Err}
 
 -- What a reader returns: where it refuses nothing, nothing is at fault; a refusal has the number of the first fault, and its place.
 pub data StreamReturned (P : Params) (bs : List ℕ) (S : Sketch) : Answer → Type 0 where
@@ -45,7 +41,7 @@ module _ {P : Params} {bs : List ℕ} {S S' : Sketch} where
     where
       go : (r : Answer) → stream_answer P bs S ≡ r → StreamReturned P bs S r
       go Done e = none_refused (stream_done P bs S e)
-      go (Refused w k) e = refused_for (stream_fault P bs S w k e)
+      go (Err r) e = refused_for (stream_fault P bs S r.0 r.1 e)
 
   -- a fault of the head, of the parameters or of the lengths decides before all others, and 0 goes with it
   pub read_stream_opening : {r : Answer} → StreamRead P bs S r S' → let fault = opening_fault P bs (length S.counts) (length S.idsums) in
@@ -59,10 +55,10 @@ module _ {P : Params} {bs : List ℕ} {S S' : Sketch} where
     where
       go : (r : Answer) → StreamReturned P bs S r → (number_in r ≡ 5) × Lowest (size P) (damaged_at S) (index_in r)
       go Done (none_refused x) = absurd (false≢true (sym (x.undamaged j l) ∙ d))
-      go (Refused w k) (refused_for (in_opening e z)) = absurd (number_some w (e ∙ right))
-      go (Refused w k) (refused_for (in_sketch o e low)) = (ap number_of e, low)
-      go (Refused w k) (refused_for (in_packet o undamaged f)) = absurd (false≢true (sym (undamaged j l) ∙ d))
-      go (Refused w k) (refused_for (in_end o undamaged a e f)) = absurd (false≢true (sym (undamaged j l) ∙ d))
+      go (Err r) (refused_for (in_opening e z)) = absurd (number_some r.0 (e ∙ right))
+      go (Err r) (refused_for (in_sketch o e low)) = (ap number_of e, low)
+      go (Err r) (refused_for (in_packet o undamaged f)) = absurd (false≢true (sym (undamaged j l) ∙ d))
+      go (Err r) (refused_for (in_end o undamaged a e f)) = absurd (false≢true (sym (undamaged j l) ∙ d))
 
 -- the first of the faults of the j-th packet, which goes into what those before it left
 abbrev pub packet_fault : Params → List ℕ → Sketch → ℕ → ℕ
@@ -90,16 +86,16 @@ module _ {P : Params} {bs : List ℕ} {S S' : Sketch} where
 
       go : (r : Answer) → StreamReturned P bs S r → (number_in r ≡ packet_fault P bs S k) × (index_in r ≡ packet_offset bs k)
       go Done (none_refused x) = absurd (n (faultless P bs S x.opened.good (packets_in bs) (omega arith) x.accepted k l))
-      go (Refused w at) (refused_for (in_opening e z)) = absurd (number_some w (e ∙ right))
-      go (Refused w at) (refused_for (in_sketch o e low)) = absurd (false≢true (sym (undamaged at low.inside) ∙ low.here))
-      go (Refused w at) (refused_for (in_packet o u f)) = here w at o.good f (dec_lt f.which k) (dec_lt k f.which)
-      go (Refused w at) (refused_for (in_end o u a e f)) = absurd (n (faultless P bs S o.good (packets_in bs) (omega arith) a k l))
+      go (Err r) (refused_for (in_opening e z)) = absurd (number_some r.0 (e ∙ right))
+      go (Err r) (refused_for (in_sketch o e low)) = absurd (false≢true (sym (undamaged r.1 low.inside) ∙ low.here))
+      go (Err r) (refused_for (in_packet o u f)) = here r.0 r.1 o.good f (dec_lt f.which k) (dec_lt k f.which)
+      go (Err r) (refused_for (in_end o u a e f)) = absurd (n (faultless P bs S o.good (packets_in bs) (omega arith) a k l))
 
 -- what a writer returns
 module _ {P : Params} {fs ns out out' : List ℕ} where
-  pub write_stream_goes_by : {r : Written} → StreamWritten P fs ns out r out' → WriterGoesBy (write_fault P fs ns (length out)) r
+  pub write_stream_goes_by : {r : Given ℕ} → StreamWritten P fs ns out r out' → WriterGoesBy (write_fault P fs ns (length out)) r
   write_stream_goes_by h = record { number = write_stream_number h; index = λ n. write_stream_index h }
 
   -- where it returns a length nothing is at fault, and that is the file's
-  pub write_stream_bytes : {n : ℕ} → StreamWritten P fs ns out (Bytes n) out' → (first_of order (write_fault P fs ns (length out)) ≡ 0) × (n ≡ length (stream_bytes P fs ns))
+  pub write_stream_bytes : {n : ℕ} → StreamWritten P fs ns out (Ok n) out' → (first_of order (write_fault P fs ns (length out)) ≡ 0) × (n ≡ length (stream_bytes P fs ns))
   write_stream_bytes h = (sym (write_stream_number h), write_stream_length h refl)

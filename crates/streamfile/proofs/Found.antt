@@ -1,48 +1,44 @@
 -- What a reader of packets finds at an offset, and the flows and numbers of all that stand one after the other.
-use mathlib.Core.Path.{◌≡◌, refl, sym, ◌∙◌}
+use mathlib.Core.Path.{◌≡◌, refl, sym, ap, ◌∙◌}
 use mathlib.Core.Bool.{Bool, true, false, cond}
-use mathlib.Core.List.{List, [], ◌∷◌}
+use mathlib.Core.List.{List}
 use Prim.Native.Nat.{ℕ, ◌+◌, ◌≤◌, ◌<◌}
 use native.Mathlib.Omega.{arith}
-use types.Run.{OneOf, miss}
-use denote.Enum.Declared.{tag_of}
 use lib.ListN.{length, get_or}
 use Rattle.sketch.proofs.Tables.{length_from, from_at}
-use Rattle.files.specs.declared.fields.Packets.{Packets}
-use Rattle.files.specs.declared.fields.Packets.TheVariants.{Of, No}
 use Rattle.files.specs.Bytes.{word}
 use Rattle.files.specs.Records.{record_at, is_kind, packets_kind, packets_length}
 use Rattle.files.specs.Layout.{packets_at}
 use Rattle.files.specs.Turns.{packet_from}
 use Rattle.files.specs.Fields.{flow_field, number_field}
-use Rattle.files.specs.contracts.fields.Packets.{the_type}
 use Rattle.files.proofs.Standing.{kind_ends}
 use Rattle.files.proofs.Bodies.{packets_fields}
 use Rattle.files.proofs.Turning.{whole_within}
 use Rattle.streamfile.specs.Streams.{packets_from, flow_from, number_from, flows_from, numbers_from}
+use Rattle.std.specs.Prelude.{None, Option, Some}
 
 pub record There (bs : List ℕ) (at f n : ℕ) : Type 0 where
   pub whole : is_kind packets_kind (record_at bs at) ≡ true
   pub flow : f ≡ word bs (at + flow_field)
   pub number : n ≡ word bs (at + number_field)
 
-pub packets_there : (bs : List ℕ) (at f n : ℕ) → packets_at bs at ≡ Of f n → There bs at f n
+-- the flow and the number of such a record
+abbrev fields : List ℕ → ℕ → ℕ × ℕ
+fields bs at = (word bs (at + flow_field), word bs (at + number_field))
+
+pub packets_there : (bs : List ℕ) (at f n : ℕ) → packets_at bs at ≡ Some (f, n) → There bs at f n
 packets_there bs at f n e = go (is_kind packets_kind (record_at bs at)) refl (sym (packets_fields bs at) ∙ e)
   where
-    go : (b : Bool) → is_kind packets_kind (record_at bs at) ≡ b → cond b (Of (word bs (at + flow_field)) (word bs (at + number_field))) No ≡ Of f n → There bs at f n
-    go true e q = record { whole = e; flow = cc; number = cc }
+    go : (b : Bool) → is_kind packets_kind (record_at bs at) ≡ b → cond b (Some (fields bs at)) None ≡ Some (f, n) → There bs at f n
+    go true e q = let same : fields bs at ≡ (f, n) = cc in record { whole = e; flow = ap (λ (x : ℕ × ℕ). x.0) (sym same); number = ap (λ (x : ℕ × ℕ). x.1) (sym same) }
     go false e q = absurd (let w : ◌≡◌ {A = ℕ} 0 1 = cc in omega arith)
 
--- no packets, as a `let .. else` has it
-abbrev pub NoPackets : Packets → Type 0
-NoPackets r = OneOf (1 ∷ []) (tag_of the_type r)
-
-pub packets_not_there : (r : Packets) (bs : List ℕ) (at : ℕ) → r ≡ packets_at bs at → NoPackets r → is_kind packets_kind (record_at bs at) ≡ false
-packets_not_there r bs at e h = go (is_kind packets_kind (record_at bs at)) refl (e ∙ packets_fields bs at)
+pub packets_not_there : (r : Option (ℕ × ℕ)) (bs : List ℕ) (at : ℕ) → r ≡ packets_at bs at → r ≡ None → is_kind packets_kind (record_at bs at) ≡ false
+packets_not_there r bs at e h = go (is_kind packets_kind (record_at bs at)) (sym (packets_fields bs at) ∙ sym e ∙ h)
   where
-    go : (b : Bool) → is_kind packets_kind (record_at bs at) ≡ b → r ≡ cond b (Of (word bs (at + flow_field)) (word bs (at + number_field))) No → is_kind packets_kind (record_at bs at) ≡ false
-    go true q z = absurd (miss (1 ∷ []) 0 tt (rw z at h))
-    go false q z = q
+    go : (b : Bool) → cond b (Some (fields bs at)) None ≡ None → b ≡ false
+    go true q = cc
+    go false q = refl
 
 -- packet records from an offset on: each lies within the bytes, and the lists of flows and numbers have their fields
 module _ (o : ℕ) (bs : List ℕ) where

@@ -11,8 +11,7 @@ use lib.Signed.{◌≤ℤ◌}
 use lib.ListN.{length, get_or, take, replicate, length-replicate, get_or-replicate, get_or-eq_default}
 use Rattle.field.proofs.Parts.{int, up_down_add, le_of_parts}
 use Rattle.params.specs.declared.params.Params.{Params}
-use Rattle.params.specs.declared.answers.Answer.TheVariants.{Done}
-use Rattle.params.specs.Answers.{kept}
+use Rattle.params.specs.Answers.{kept, Done}
 use Rattle.params.specs.Params.{size, good_params}
 use Rattle.params.specs.Positions.{stands}
 use Rattle.params.proofs.Rules.{lengths_done}

@@ -10,10 +10,8 @@ use lib.ListN.{length}
 use Rattle.params.specs.declared.params.Params.{Params}
 use Rattle.params.specs.declared.answers.Refusal.{Refusal}
 use Rattle.params.specs.declared.answers.Refusal.TheVariants.{Param, Length, Flow, Count, Damage, Form}
-use Rattle.params.specs.declared.answers.Answer.{Answer}
-use Rattle.params.specs.declared.answers.Answer.TheVariants.{Done, Refused}
 use Rattle.params.specs.Lists.{below}
-use Rattle.params.specs.Answers.{number_of, number_in, index_in, refuse_at}
+use Rattle.params.specs.Answers.{number_of, number_in, index_in, refuse_at, Answer, Done, Refused, Given, value_in}
 use Rattle.params.specs.Params.{size, good_params}
 use Rattle.sketch.specs.Sketch.{Sketch, damaged_at}
 use Rattle.sketch.specs.Packets.{step_answer, Accepted}
@@ -25,19 +23,16 @@ use Rattle.sketch.specs.Faults.{move_fault}
 use Rattle.streamfile.specs.Faults.{write_fault}
 use Rattle.params.proofs.InOrder.{lowest_first, refuse_number, cond_either}
 use Rattle.sketch.proofs.InOrder.{move_number}
-use Rattle.files.specs.declared.writing.Written.{Written}
-use Rattle.files.specs.declared.writing.Written.TheVariants.{Refused as NotWritten}
 use Rattle.files.proofs.HeadStages.{opening_answer}
 use Rattle.files.specs.Turns.{at_offset, in_turn, packet_offset, end_answer}
-use Rattle.files.specs.Writing.{written_number, written_index, written_length}
 use Rattle.files.proofs.HeadTrips.{Opened, opening_done}
 use Rattle.files.proofs.Turning.{Earliest, in_turn_earliest, done_in_turn}
 use Rattle.files.specs.Faults.{opening_order, opening_fault}
 use Rattle.files.proofs.InOrder.{opening_number, opening_index, EndFault, end_fault, refuse_start, written_number_lem, written_index_lem, written_length_lem, refused_as_it_was}
 use Rattle.streamfile.specs.Streams.{packets_in, packet_flow, packet_number, flows_in, numbers_in, after_first, packet_judged, packets_judged, stream_answer}
 use Rattle.streamfile.specs.Writing.{stream_bytes, is_flow_at, is_number_at, stream_write_answer, StreamWritten}
-use Rattle.streamfile.proofs.Stages.{stream_opening}
-use Rattle.streamfile.proofs.Accepting.{judged_accepted}
+use Rattle.streamfile.proofs.Accepting.{stream_opening, judged_accepted}
+use Rattle.std.specs.Prelude.{Err}
 
 module _ (P : Params) (bs : List ℕ) (S : Sketch) (w : Refusal) (k : ℕ) where
   -- the earliest packet at fault: those before it were accepted, the first of its faults decides the number, and its offset goes with it
@@ -57,8 +52,8 @@ module _ (P : Params) (bs : List ℕ) (S : Sketch) (w : Refusal) (k : ℕ) where
 
   refused_there : (at : ℕ) (r : Answer) → at_offset at r ≡ Refused w k → (number_of w ≡ number_in r) × (k ≡ at)
   unfolding at_offset
-  refused_there at Done e = absurd (let z : ◌≡◌ {A = ℕ} 0 1 = cc in omega arith)
-  refused_there at (Refused v j) e = let same : v ≡ w = cc in (ap number_of (sym same), cc)
+  refused_there at Done e = (cc, cc)
+  refused_there at (Err r) e = (sym (ap number_in e), sym (ap index_in e))
 
   packet_fault_lem : good_params P ≡ true → Earliest (packets_in bs) (packet_judged P bs S) (Refused w k) → PacketFault
   unfolding packet_judged
@@ -115,7 +110,7 @@ module _ (P : Params) (fs ns : List ℕ) (o : ℕ) where
       (refuse_start (not (below (length ns) (is_number_at ns))) Count Done refl))))
 
 -- h is what the contract of `write_stream` gives
-module _ {P : Params} {fs ns out : List ℕ} {r : Written} {out' : List ℕ} (h : StreamWritten P fs ns out r out') where
+module _ {P : Params} {fs ns out : List ℕ} {r : Given ℕ} {out' : List ℕ} (h : StreamWritten P fs ns out r out') where
   abbrev judged : Answer
   judged = stream_write_answer P fs ns (length out)
 
@@ -123,21 +118,21 @@ module _ {P : Params} {fs ns out : List ℕ} {r : Written} {out' : List ℕ} (h 
   long = length (stream_bytes P fs ns)
 
   -- the first fault that applies decides the number, 0 where none does
-  pub write_stream_number : written_number r ≡ first_of order (write_fault P fs ns (length out))
+  pub write_stream_number : number_in r ≡ first_of order (write_fault P fs ns (length out))
   write_stream_number = written_number_lem judged long h.answer ∙ writing_number P fs ns (length out)
 
   -- so no fault that applies has a lower number
-  pub write_stream_least_number : (w : Refusal) → write_fault P fs ns (length out) w ≡ true → written_number r ≤ number_of w
+  pub write_stream_least_number : (w : Refusal) → write_fault P fs ns (length out) w ≡ true → number_in r ≤ number_of w
   write_stream_least_number w e = rw write_stream_number (lowest_first (write_fault P fs ns (length out)) refl refl w e)
 
   -- 0 goes with it
-  pub write_stream_index : written_index r ≡ 0
+  pub write_stream_index : index_in r ≡ 0
   write_stream_index = written_index_lem judged long h.answer ∙ writing_index P fs ns (length out)
 
   -- where nothing is at fault the file's length is returned
-  pub write_stream_length : written_number r ≡ 0 → written_length r ≡ length (stream_bytes P fs ns)
+  pub write_stream_length : number_in r ≡ 0 → value_in r ≡ length (stream_bytes P fs ns)
   write_stream_length e = written_length_lem judged long h.answer e
 
   -- a refused writer writes nothing
-  pub write_stream_refused : {w : Refusal} {k : ℕ} → r ≡ NotWritten w k → out' ≡ out
+  pub write_stream_refused : {w : Refusal} {k : ℕ} → r ≡ Refused w k → out' ≡ out
   write_stream_refused e = h.bytes ∙ refused_as_it_was judged long h.answer out _ e

@@ -6,12 +6,11 @@ use Prim.Native.Nat.{ℕ, ◌+◌, ◌≤◌, ◌<◌}
 use native.Mathlib.Omega.{arith}
 use borrow.Author.Count.{below_more}
 use lib.ListN.{length, get_or, take}
+use Rattle.params.specs.declared.answers.Refused.{Refused as RefusedAt}
 use Rattle.params.specs.declared.params.Params.{Params}
-use Rattle.params.specs.declared.answers.Answer.{Answer}
-use Rattle.params.specs.declared.answers.Answer.TheVariants.{Done, Refused}
 use Rattle.sketch.specs.Sketch.{Sketch}
 use Rattle.sketch.specs.Packets.{step_answer, changed, after, Accepted}
-use Rattle.params.proofs.Judging.{Refuses, first_refused, first_passed}
+use Rattle.params.proofs.Judging.{first_refused, first_passed}
 use Rattle.sketch.proofs.ManyPackets.{after_more, after_end_lem}
 use Rattle.files.specs.Records.{record_at, is_kind, packets_kind, head_length_in, packets_length}
 use Rattle.files.specs.Turns.{at_offset, packet_from, packet_offset, end_answer}
@@ -19,12 +18,8 @@ use Rattle.files.proofs.Standing.{kind_ends}
 use Rattle.files.proofs.Turning.{Come, come_start, come_next, come_end, come_within, in_turn_refused, in_turn_done}
 use Rattle.streamfile.specs.Streams.{packets_from, flows_from, numbers_from, packets_in, packet_judged, packets_judged}
 use Rattle.streamfile.proofs.Found.{There, length_flows, length_numbers, flow_is, number_is}
-
--- a refusal with an offset is one
-pub at_offset_refuses : (at : ℕ) (r : Answer) → Refuses r → Refuses (at_offset at r)
-unfolding at_offset
-at_offset_refuses at Done h = h
-at_offset_refuses at (Refused w k) h = h
+use Rattle.params.specs.Answers.{Done, Refused}
+use Rattle.std.specs.Prelude.{Err}
 
 -- the packets from an offset o on, into S
 module _ (P : Params) (o : ℕ) (bs : List ℕ) (S : Sketch) where
@@ -86,16 +81,12 @@ module _ (P : Params) (bs : List ℕ) (S : Sketch) (n : ℕ) (T : Sketch) (g : G
       let one : j < packets_in bs = omega (arith, gone_within P (head_length_in bs) bs S n T g) in
       rw (flow_is (head_length_in bs) bs j one, number_is (head_length_in bs) bs j one, g.accepted j l)
 
-  module _ (f k : ℕ) (there : There bs (packet_offset bs n) f k) (r : Answer) (e : r ≡ step_answer P false f k T) (h : Refuses r) where
-    judged_so : at_offset (packet_offset bs n) r ≡ packet_judged P bs S n
-    unfolding packet_judged
-    judged_so = ap (at_offset (packet_offset bs n)) (e ∙ rw (← there.flow, ← there.number, ← g.made))
-
-    pub packet_refused : at_offset (packet_offset bs n) r ≡ packets_judged P bs S
-    unfolding packets_judged
-    packet_refused =
-        let refuses = at_offset_refuses (packet_offset bs n) r h in
-        first_refused _ _ _ (in_turn_refused (packets_in bs) n (packet_judged P bs S) _ (one_of_them P (head_length_in bs) bs S n T g f k there) passed judged_so refuses) refuses
+  -- one that is refused decides
+  pub packet_refused : (f k : ℕ) → There bs (packet_offset bs n) f k → (r : RefusedAt) → Err r ≡ step_answer P false f k T → Refused r.0 (packet_offset bs n) ≡ packets_judged P bs S
+  unfolding packet_judged packets_judged at_offset
+  packet_refused f k there r e =
+      let here : Refused r.0 (packet_offset bs n) ≡ packet_judged P bs S n = rw (← there.flow, ← there.number, ← g.made, ← e) in
+      first_refused _ _ _ (in_turn_refused (packets_in bs) n (packet_judged P bs S) _ (one_of_them P (head_length_in bs) bs S n T g f k there) passed here refl) refl
 
   pub end_judged : is_kind packets_kind (record_at bs (packet_offset bs n)) ≡ false → end_answer bs (packet_offset bs n) n ≡ packets_judged P bs S
   unfolding packets_judged

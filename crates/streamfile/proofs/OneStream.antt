@@ -7,16 +7,11 @@ use native.Mathlib.Omega.{arith}
 use lib.ListN.{length, get_or, take, drop, take-append-drop}
 use lib.Seq.{drop-drop}
 use Rattle.params.specs.declared.params.Params.{Params}
-use Rattle.params.specs.declared.answers.Answer.{Answer}
-use Rattle.params.specs.declared.answers.Answer.TheVariants.{Done}
-use Rattle.params.specs.Answers.{number_in, kept}
+use Rattle.params.specs.Answers.{number_in, kept, Answer, Done, Given, given}
 use Rattle.params.specs.Params.{size}
 use Rattle.sketch.specs.Sketch.{Sketch, damaged_at}
 use Rattle.sketch.specs.Packets.{after, AllInserted}
 use Rattle.params.proofs.Judging.{kept_number}
-use Rattle.files.specs.declared.writing.Written.{Written}
-use Rattle.files.specs.declared.writing.Written.TheVariants.{Bytes}
-use Rattle.files.specs.Writing.{written_of}
 use Rattle.files.specs.Layout.{end_bytes}
 use Rattle.files.specs.Turns.{packet_offset}
 use Rattle.files.specs.Records.{packets_kind, head_length_in, packets_length}
@@ -30,20 +25,21 @@ use Rattle.streamfile.proofs.Found.{length_flows}
 use Rattle.streamfile.proofs.Accepting.{stream_done}
 use Rattle.streamfile.proofs.PacketTrips.{packets_read}
 use Rattle.streamfile.proofs.Sending.{Sendable, sending_done, sendable_done, read_sendable, flows_back, numbers_back, file_number}
+use Rattle.std.specs.Prelude.{Ok}
 
 -- packets that were written are fit for it, and their file is the output's front
-sent : {P : Params} {fs ns out out' : List ℕ} {n : ℕ} → StreamWritten P fs ns out (Bytes n) out' → Sendable P fs ns × (take n out' ≡ stream_bytes P fs ns)
+sent : {P : Params} {fs ns out out' : List ℕ} {n : ℕ} → StreamWritten P fs ns out (Ok n) out' → Sendable P fs ns × (take n out' ≡ stream_bytes P fs ns)
 sent {P} {fs} {ns} {out} w =
     let wrote = written_front (stream_write_answer P fs ns (length out)) out (stream_bytes P fs ns) w.answer w.bytes in
     (sending_done P fs ns (length out) wrote.0, wrote.1)
 
 -- a written stream holds its packets
-pub read_written_stream : {P : Params} {fs ns out out' : List ℕ} {n : ℕ} → StreamWritten P fs ns out (Bytes n) out' → (flows_in (take n out') ≡ fs) × (numbers_in (take n out') ≡ ns)
+pub read_written_stream : {P : Params} {fs ns out out' : List ℕ} {n : ℕ} → StreamWritten P fs ns out (Ok n) out' → (flows_in (take n out') ≡ fs) × (numbers_in (take n out') ≡ ns)
 read_written_stream {P} {fs} {ns} w =
     let h = sent w in (ap flows_in h.1 ∙ flows_back P fs ns h.0, ap numbers_in h.1 ∙ numbers_back P fs ns h.0)
 
 -- reading it into a sketch without damage is inserting them, save for the offset
-pub written_as_inserted : {P : Params} {fs ns out out' : List ℕ} {n : ℕ} {S S' T : Sketch} {r q : Answer} → StreamWritten P fs ns out (Bytes n) out' → ((k : ℕ) → k < size P → damaged_at S k ≡ false)
+pub written_as_inserted : {P : Params} {fs ns out out' : List ℕ} {n : ℕ} {S S' T : Sketch} {r q : Answer} → StreamWritten P fs ns out (Ok n) out' → ((k : ℕ) → k < size P → damaged_at S k ≡ false)
     → StreamRead P (take n out') S r S' → AllInserted P fs ns S q T → (number_in r ≡ number_in q) × (S' ≡ T)
 written_as_inserted {P} {fs} {ns} {out} {out'} {n} {S} {S'} {T} {r} {q} w undamaged read inserted =
     let h = sent w in
@@ -67,15 +63,15 @@ written_read_stream {P} {bs} {S} small read =
     ap₂ {C = List ℕ} ◌++◌ head (ap₂ {C = List ℕ} ◌++◌ packets (end ∙ sym (drop-drop (packets_length * n) first bs)) ∙ take-append-drop (packets_length * n) (drop first bs)) ∙ take-append-drop first bs
 
 -- and writing them gives it again
-pub written_again : {P : Params} {bs : List ℕ} {S S' : Sketch} {out out' : List ℕ} {r : Written} → ((k : ℕ) → get_or bs k 0 < 256) → StreamRead P bs S Done S' → packets_in bs ≤ 65536
-    → StreamWritten P (flows_in bs) (numbers_in bs) out r out' → length bs ≤ length out → (r ≡ Bytes (length bs)) × (take (length bs) out' ≡ bs)
+pub written_again : {P : Params} {bs : List ℕ} {S S' : Sketch} {out out' : List ℕ} {r : Given ℕ} → ((k : ℕ) → get_or bs k 0 < 256) → StreamRead P bs S Done S' → packets_in bs ≤ 65536
+    → StreamWritten P (flows_in bs) (numbers_in bs) out r out' → length bs ≤ length out → (r ≡ Ok (length bs)) × (take (length bs) out' ≡ bs)
 written_again {P} {bs} {S} {S'} {out} {out'} {r} small read few w l =
     let file = stream_bytes P (flows_in bs) (numbers_in bs) in
     let same : file ≡ bs = written_read_stream small read in
     let long : length file ≡ length bs = ap length same in
     let able = read_sendable (stream_done P bs S (sym read.answer)) few in
     let done = sendable_done P (flows_in bs) (numbers_in bs) (length out) able (omega arith) in
-    let returned : r ≡ Bytes (length bs) = w.answer ∙ ap₂ written_of done long in
+    let returned : r ≡ Ok (length bs) = w.answer ∙ ap₂ given done long in
     (returned, (written_front (stream_write_answer P (flows_in bs) (numbers_in bs) (length out)) out file (sym returned ∙ w.answer) w.bytes).1 ∙ same)
 
 -- so two accepted streams of the same packets are the same

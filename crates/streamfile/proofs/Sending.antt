@@ -10,10 +10,8 @@ use lib.ListN.{length, get_or, take, drop, length-append}
 use lib.Seq.{ext_get_or, get_or_at, length-take-le}
 use Rattle.params.specs.declared.params.Params.{Params}
 use Rattle.params.specs.declared.answers.Refusal.TheVariants.{Length, Flow, Count, Damage}
-use Rattle.params.specs.declared.answers.Answer.{Answer}
-use Rattle.params.specs.declared.answers.Answer.TheVariants.{Done}
 use Rattle.params.specs.Lists.{below}
-use Rattle.params.specs.Answers.{number_in, refuse_if, refuse_at, first}
+use Rattle.params.specs.Answers.{number_in, refuse_if, refuse_at, first, Answer, Done}
 use Rattle.params.specs.Params.{prime, is_flow, size, good_params, lent_answer}
 use Rattle.sketch.specs.Sketch.{Sketch, damaged_at}
 use Rattle.sketch.specs.Packets.{packets_answer, all_answer}
@@ -33,10 +31,9 @@ use Rattle.files.proofs.RecordTrips.{not_kind, end_written}
 use Rattle.files.proofs.Turning.{records_are}
 use Rattle.streamfile.specs.Streams.{packets_in, flows_in, numbers_in, after_first, packet_judged, packets_judged, stream_answer}
 use Rattle.streamfile.specs.Writing.{packets_bytes, stream_bytes, is_flow_at, is_number_at, stream_write_answer}
-use Rattle.streamfile.proofs.Stages.{stream_opening}
 use Rattle.streamfile.proofs.Written.{packets_long, stream_long, Passed, writing_passed, stream_passed}
 use Rattle.streamfile.proofs.Found.{There, length_flows, length_numbers, flow_is, number_is}
-use Rattle.streamfile.proofs.Accepting.{StreamDone}
+use Rattle.streamfile.proofs.Accepting.{stream_opening, StreamDone}
 use Rattle.streamfile.proofs.AsInserted.{packets_judged_lem}
 use Rattle.streamfile.proofs.PacketTrips.{packet_written, packet_among}
 

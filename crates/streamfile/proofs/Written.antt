@@ -1,19 +1,20 @@
 -- Stream files written: the packet records in turn, how long a file is, and what holds where nothing is refused.
-use mathlib.Core.Path.{◌≡◌, refl}
-use mathlib.Core.Bool.{true, not, ◌&&◌}
+use mathlib.Core.Path.{◌≡◌, refl, sym, ap, ◌∙◌}
+use mathlib.Core.Bool.{Bool, true, not, ◌&&◌}
 use mathlib.Core.List.{List, [], ◌∷◌, ◌++◌}
-use Prim.Native.Nat.{ℕ, ◌+◌, ◌*◌, ◌≤◌, ◌<◌}
+use Prim.Native.Nat.{ℕ, zero, suc, ◌+◌, ◌*◌, ◌≤◌, ◌<◌}
 use native.Mathlib.Numerals.{add-one}
 use native.Mathlib.Omega.{arith}
 use borrow.Author.Tests.{eqb-true, eq-eqb, leb-true, le-leb, ltb-false, le-ltb, not-false}
 use lib.Dec.{eqb, leb, ltb}
-use lib.ListN.{length, get_or, drop}
-use lib.Seq.{drop-cons}
+use lib.ListN.{length, get_or, take, drop}
+use lib.Seq.{drop-cons, take_all}
+use Rattle.std.specs.List.{list_all}
+use Rattle.std.proofs.lemmas.List.Folds.{list_all_more}
 use Rattle.params.specs.declared.params.Params.{Params}
 use Rattle.params.specs.declared.answers.Refusal.TheVariants.{Param, Length, Flow, Count}
-use Rattle.params.specs.declared.answers.Answer.TheVariants.{Done}
 use Rattle.params.specs.Lists.{below}
-use Rattle.params.specs.Answers.{refuse_if}
+use Rattle.params.specs.Answers.{refuse_if, Done}
 use Rattle.params.specs.Params.{good_params}
 use Rattle.params.proofs.Searches.{and_true}
 use Rattle.params.proofs.Judging.{refuse_done}
@@ -23,6 +24,17 @@ use Rattle.files.specs.Records.{packets_length, end_length}
 use Rattle.files.specs.Heads.{head_length_of}
 use Rattle.files.proofs.Overwriting.{length_file}
 use Rattle.streamfile.specs.Writing.{packets_bytes, stream_bytes, is_flow_at, is_number_at, stream_write_answer}
+
+-- a test of every item of a list is one at every index
+module _ (test : ℕ → Bool) (xs : List ℕ) where
+  all_below : (i : ℕ) → i ≤ length xs → list_all test (take i xs) ≡ below i (λ k. test (get_or xs k 0))
+  unfolding below
+  all_below zero h = refl
+  all_below (suc i) h =
+      ap (λ n. list_all test (take n xs)) (sym (add-one i)) ∙ list_all_more test xs i 0 (omega arith) ∙ ap (λ b. b && test (get_or xs i 0)) (all_below i (omega arith))
+
+  pub all_below_length : list_all test xs ≡ below (length xs) (λ k. test (get_or xs k 0))
+  all_below_length = ap (list_all test) (sym (take_all (length xs) xs (omega arith))) ∙ all_below (length xs) (omega arith)
 
 -- of the records from the i-th on, the first
 pub packets_next : (fs ns : List ℕ) (i : ℕ) → i < length fs → i < length ns

@@ -2,9 +2,8 @@
 use Rattle.std.specs.Prelude.{◌≡◌, false, List, ℕ, ◌+◌, length, take}
 use Rattle.params.specs.declared.params.Params.{Params}
 use Rattle.params.specs.declared.answers.Refusal.TheVariants.{Damage}
-use Rattle.params.specs.declared.answers.Answer.{Answer}
 use Rattle.params.specs.Lists.{from}
-use Rattle.params.specs.Answers.{refuse_at, first, kept}
+use Rattle.params.specs.Answers.{refuse_at, first, kept, Answer}
 use Rattle.params.specs.Params.{size, lengths_answer}
 use Rattle.sketch.specs.Sketch.{Sketch, damaged_at}
 use Rattle.sketch.specs.Packets.{step_answer, after}

@@ -2,16 +2,12 @@
 use Rattle.std.specs.Prelude.{◌≡◌, Bool, not, ◌&&◌, List, [], ◌∷◌, ◌++◌, ℕ, eqb, leb, ltb, length, get_or}
 use Rattle.params.specs.declared.params.Params.{Params}
 use Rattle.params.specs.declared.answers.Refusal.TheVariants.{Param, Length, Flow, Count}
-use Rattle.params.specs.declared.answers.Answer.{Answer}
-use Rattle.params.specs.declared.answers.Answer.TheVariants.{Done}
 use Rattle.params.specs.Lists.{below}
-use Rattle.params.specs.Answers.{refuse_if, kept}
+use Rattle.params.specs.Answers.{refuse_if, kept, Answer, Done, Given, given}
 use Rattle.params.specs.Params.{is_flow, good_params}
 use Rattle.buckets.specs.Buckets.{is_number}
-use Rattle.files.specs.declared.writing.Written.{Written}
 use Rattle.files.specs.Bytes.{overwritten}
 use Rattle.files.specs.Layout.{head_bytes, packet_bytes, end_bytes}
-use Rattle.files.specs.Writing.{written_of}
 
 -- the packet records of the flows fs, by the numbers ns
 unfoldable pub packets_bytes : List ℕ → List ℕ → List ℕ
@@ -39,6 +35,6 @@ stream_write_answer P fs ns o =
     (refuse_if (not (below (length ns) (is_number_at ns))) Count 0
     Done))))
 
-pub record StreamWritten (P : Params) (fs ns out : List ℕ) (r : Written) (out' : List ℕ) : Type 0 where
-  pub answer : r ≡ written_of (stream_write_answer P fs ns (length out)) (length (stream_bytes P fs ns))
+pub record StreamWritten (P : Params) (fs ns out : List ℕ) (r : Given ℕ) (out' : List ℕ) : Type 0 where
+  pub answer : r ≡ given (stream_write_answer P fs ns (length out)) (length (stream_bytes P fs ns))
   pub bytes : out' ≡ kept (stream_write_answer P fs ns (length out)) out (overwritten out 0 (stream_bytes P fs ns))

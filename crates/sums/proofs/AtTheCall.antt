@@ -4,8 +4,6 @@ use mathlib.Core.Bool.{Bool, not, ◌||◌}
 use Prim.Native.Nat.{ℕ}
 use Rattle.params.specs.declared.params.Params.{Params}
 use Rattle.params.specs.declared.answers.Refusal.TheVariants.{Damage, Range}
-use Rattle.params.specs.declared.answers.Answer.{Answer}
-use Rattle.params.specs.declared.answers.Answer.TheVariants.{Refused}
 use Rattle.params.specs.Params.{size}
 use Rattle.buckets.specs.Buckets.{in_limits, damaged, plus_minus}
 use Rattle.sketch.specs.Sketch.{Sketch, count_in, idsum_in}
@@ -15,6 +13,7 @@ use Rattle.params.proofs.InOrder.{GoesBy, goes_by}
 use Rattle.params.proofs.Lowest.{Lowest}
 use Rattle.sums.proofs.InOrder.{combine_number, combine_index}
 use Rattle.sums.proofs.Lowest.{combine_lowest_damage, combine_lowest_range}
+use Rattle.params.specs.Answers.{Answer, Refused}
 
 module _ {minus : Bool} {P Q : Params} {S T S' : Sketch} where
   pub combine_goes_by : {r : Answer} → Combined minus P Q S T r S' → GoesBy (combine_fault minus P Q S T) r

@@ -7,9 +7,8 @@ use Prim.Native.Nat.{ℕ}
 use lib.IntN.{ℤ, pos, negsuc}
 use lib.ListN.{replicate, set}
 use Rattle.params.specs.declared.params.Params.{Params}
-use Rattle.params.specs.declared.answers.Answer.{Answer}
 use Rattle.params.specs.Lists.{below, least}
-use Rattle.params.specs.Answers.{number_in, index_in, refuse_at, first}
+use Rattle.params.specs.Answers.{number_in, index_in, refuse_at, first, Answer}
 use Rattle.params.specs.Params.{pair_at, twins, good_dimensions, good_params, same_pair, same_params, lengths_answer, dimensions_answer}
 use Rattle.params.specs.Sketched.{sketched}
 use Rattle.params.specs.Positions.{stand, position_answer, stands_in}

@@ -7,13 +7,10 @@ use lib.IntN.{ℤ, pos}
 use lib.ListN.{length}
 use Rattle.field.specs.Residue.{residue}
 use Rattle.params.specs.declared.params.Params.{Params}
-use Rattle.params.specs.declared.params.Obtained.{Obtained}
 use Rattle.params.specs.declared.answers.Refusal.TheVariants.{Damage, Range}
-use Rattle.params.specs.declared.answers.Answer.{Answer}
-use Rattle.params.specs.declared.answers.Answer.TheVariants.{Done, Refused}
 use Rattle.params.specs.Lists.{from}
-use Rattle.params.specs.Answers.{kept}
-use Rattle.params.specs.Params.{prime, size, resized, same_params, obtained}
+use Rattle.params.specs.Answers.{kept, Answer, Done, Refused, Given, given}
+use Rattle.params.specs.Params.{prime, size, resized, same_params}
 use Rattle.params.proofs.Judging.{first_done, first_passed, refuse_none}
 use Rattle.params.proofs.Rules.{lengths_back, lent_back}
 use Rattle.params.proofs.SameParams.{dimensions_same, resized_same}
@@ -155,16 +152,16 @@ module _ {minus : Bool} {P Q P2 Q2 : Params} {m2 : ℕ} {S T D S' T' : Sketch}
       same2 = ap₂ same_params (params_are f) (params_are g) ∙ resized_same P Q shaped.same m2
 
   -- where the folds can be added or subtracted, D can be folded, and gives the same
-  pub fold_of_combined : {r : Obtained} {X D' : Sketch} → Combined minus P2 Q2 (front (size P2) S') (front (size Q2) T') Done X → Folded P m2 D r D'
+  pub fold_of_combined : {r : Given Params} {X D' : Sketch} → Combined minus P2 Q2 (front (size P2) S') (front (size Q2) T') Done X → Folded P m2 D r D'
       → (r ≡ folded_to P2) × (front (size P2) D' ≡ X)
   unfolding kept
-  fold_of_combined {r} {X} {D'} x d = (returned, front_is (subst (λ (o : Obtained). Folded P m2 D o D') returned d) ∙ fold_combined ∙ sym (left x))
+  fold_of_combined {r} {X} {D'} x d = (returned, front_is (subst (λ (o : Given Params). Folded P m2 D o D') returned d) ∙ fold_combined ∙ sym (left x))
     where
       judged : FoldAccepted P m2 D
       judged = accepted_of_combined x
 
       returned : r ≡ folded_to P2
-      returned = d.answer ∙ ap (λ (y : Answer). obtained y (resized P m2)) (accepted_done P m2 D judged) ∙ ap folded_to (sym (params_are f))
+      returned = d.answer ∙ ap (λ (y : Answer). given y (resized P m2)) (accepted_done P m2 D judged) ∙ ap folded_to (sym (params_are f))
 
   -- and where D can be folded, the folds can be added or subtracted, and give the same
   pub combined_of_folds : {R : Params} {a : Answer} {X D' : Sketch} → Folded P m2 D (folded_to R) D' → Combined minus P2 Q2 (front (size P2) S') (front (size Q2) T') a X

@@ -7,9 +7,8 @@ use lib.IntN.{ℤ, pos, ◌+ℤ◌, ◌-ℤ◌, ◌*ℤ◌, +ℤ_idr}
 use Rattle.field.specs.Residue.{residue}
 use Rattle.field.proofs.Residues.{residue_zero}
 use Rattle.params.specs.declared.params.Params.{Params}
-use Rattle.params.specs.declared.answers.Answer.TheVariants.{Done}
 use Rattle.params.specs.Lists.{from}
-use Rattle.params.specs.Answers.{kept}
+use Rattle.params.specs.Answers.{kept, Done}
 use Rattle.params.specs.Params.{prime, size, good_params, same_params}
 use Rattle.params.specs.Sketched.{sketched}
 use Rattle.params.specs.Positions.{stands}

@@ -6,7 +6,6 @@ use lib.ListN.{length}
 use Rattle.params.specs.declared.params.Params.{Params}
 use Rattle.params.specs.declared.answers.Refusal.{Refusal}
 use Rattle.params.specs.declared.answers.Refusal.TheVariants.{Param, Damage, Range, Mismatch}
-use Rattle.params.specs.declared.answers.Answer.TheVariants.{Refused}
 use Rattle.params.specs.Params.{size, good_params, same_params}
 use Rattle.buckets.specs.Buckets.{in_limits, damaged, plus_minus}
 use Rattle.sketch.specs.Sketch.{Sketch, count_in, idsum_in}
@@ -14,6 +13,7 @@ use Rattle.sums.specs.Sums.{both_lent_answer, either_damaged, leaves, buckets_an
 use Rattle.sums.proofs.TwoSketches.{both_lent_done}
 use Rattle.params.proofs.Lowest.{Lowest}
 use Rattle.sketch.proofs.Lowest.{damage_lowest, range_lowest, of_bucket, refuses_bucket, refuse_early, first_early, first_late, lengths_early}
+use Rattle.params.specs.Answers.{Refused}
 
 both_lent_early : (P Q : Params) (c s e t : ℕ) → refuses_bucket (both_lent_answer P Q c s e t) ≡ false
 unfolding both_lent_answer

@@ -11,7 +11,6 @@ use Rattle.field.specs.Residue.{residue}
 use Rattle.field.proofs.Residues.{residue_below}
 use Rattle.params.specs.declared.params.Params.{Params}
 use Rattle.params.specs.declared.answers.Refusal.TheVariants.{Param, Damage, Range, Mismatch}
-use Rattle.params.specs.declared.answers.Answer.TheVariants.{Done}
 use Rattle.params.specs.Lists.{below}
 use Rattle.params.specs.Params.{prime, size, good_params, same_params, lengths_answer, dimensions_answer}
 use Rattle.buckets.specs.Buckets.{in_limits, plus_minus}
@@ -23,6 +22,7 @@ use Rattle.params.proofs.Judging.{first_done, refuse_done, refuse_at_done, refus
 use Rattle.params.proofs.Rules.{dimensions_small, good_has_dimensions, good_dimensions_lem, lengths_done}
 use Rattle.buckets.proofs.Idsums.{prime_pos}
 use Rattle.buckets.proofs.Limits.{whole, whole_back, small_whole, small_size, small_stays}
+use Rattle.params.specs.Answers.{Done}
 
 -- where the parameters keep the rules, of the dimensions and the lengths the lengths are left to judge
 pub lengths_left : (P : Params) (c s : ℕ) → good_params P ≡ true → dimensions_answer P c s ≡ lengths_answer P c s

@@ -1,12 +1,12 @@
 -- Histories of calls with none refused, the net count of a flow, and lists with the same entries in another order.
 use Rattle.std.specs.Prelude.{◌≡◌, Bool, true, false, cond, List, [], ◌∷◌, ◌++◌, ℕ, ℤ, pos, neg_ℤ, ◌+ℤ◌, eqb}
 use Rattle.params.specs.declared.params.Params.{Params}
-use Rattle.params.specs.declared.answers.Answer.TheVariants.{Done}
 use Rattle.params.specs.Params.{size}
 use Rattle.sketch.specs.Sketch.{Sketch, Entry, by, Freshened}
 use Rattle.sketch.specs.Packets.{changed, Stepped, Inserted, Withdrawn, AllInserted, entries_of}
 use Rattle.fold.specs.Fold.{front, Folded, folded_to}
 use Rattle.sums.specs.Sums.{Combined}
+use Rattle.params.specs.Answers.{Done}
 
 -- each entry with its number's sign turned round
 unfoldable pub negated : List Entry → List Entry

@@ -3,10 +3,8 @@ use Rattle.std.specs.Prelude.{Bool, not, ◌&&◌, ◌||◌, ◌≡◌, List, �
 use Rattle.field.specs.Residue.{residue}
 use Rattle.params.specs.declared.params.Params.{Params}
 use Rattle.params.specs.declared.answers.Refusal.TheVariants.{Param, Damage, Range, Mismatch}
-use Rattle.params.specs.declared.answers.Answer.{Answer}
-use Rattle.params.specs.declared.answers.Answer.TheVariants.{Done}
 use Rattle.params.specs.Lists.{map_from}
-use Rattle.params.specs.Answers.{refuse_if, refuse_at, first, kept}
+use Rattle.params.specs.Answers.{refuse_if, refuse_at, first, kept, Answer, Done}
 use Rattle.params.specs.Params.{prime, good_params, same_params, lengths_answer}
 use Rattle.buckets.specs.Buckets.{plus_minus}
 use Rattle.sketch.specs.Sketch.{Sketch, sketch, count_in, idsum_in, damaged_at, leaves_at}

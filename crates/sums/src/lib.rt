@@ -3,71 +3,61 @@
 #![tactic(auto)]
 
 ghost use Rattle.std.specs.Prelude.{◌≡◌, true, false, ◌&&◌, ℕ, ◌<◌, ◌≤◌, pos, length, get_or};
-ghost use Rattle.params.specs.Lists.{below, least};
+ghost use Rattle.params.specs.Lists.{below, found};
 ghost use Rattle.params.specs.Params.{prime};
 ghost use Rattle.buckets.specs.Buckets.{in_limits, plus_minus};
 ghost use Rattle.sketch.specs.Sketch.{sketch, small_at};
 ghost use Rattle.sums.specs.Sums.{both_lent_answer, either_damaged, leaves, combine_answer, combined, Combined};
 
 use buckets::{idsum_plus_minus, is_small, plus_minus, undamaged, within};
-use params::{Answer, Params, Refusal};
+use params::{Params, Refusal, Refused};
 
 // The parameters of both sketches and the four lengths.
-fn judge_both(p: Params, q: Params, c: usize, s: usize, e: usize, t: usize) -> Answer
+fn judge_both(p: Params, q: Params, c: usize, s: usize, e: usize, t: usize) -> Result<(), Refused>
     ensures { result ≡ both_lent_answer p q c s e t }
 {
-    if !p.check() {
-        return Answer::Refused(Refusal::Param, 0);
-    }
-    if !q.check() {
-        return Answer::Refused(Refusal::Param, 0);
+    if !p.check() || !q.check() {
+        return Err(Refused(Refusal::Param, 0));
     }
     if !p.same(q) {
-        return Answer::Refused(Refusal::Mismatch, 0);
+        return Err(Refused(Refusal::Mismatch, 0));
     }
-    let r = p.judge_dimensions(c, s);
-    let Answer::Done = r else {
-        return r;
-    };
+    p.judge_dimensions(c, s)?;
     p.judge_dimensions(e, t)
 }
 
-// The first index at which a bucket of either sketch is outside its limits, or the length.
+// The first index at which a bucket of either sketch is outside its limits.
 fn first_damaged(
     counts: &[i32],
     idsums: &[u32],
     other_counts: &[i32],
     other_idsums: &[u32],
-) -> usize
+) -> Option<usize>
     requires { (length idsums.now ≡ length counts.now) × (length other_counts.now ≡ length counts.now) × (length other_idsums.now ≡ length counts.now) }
-    ensures { result ≡ least 0 (length counts.now) (either_damaged (sketch counts.now idsums.now) (sketch other_counts.now other_idsums.now)) }
+    ensures { result ≡ found (length counts.now) (either_damaged (sketch counts.now idsums.now) (sketch other_counts.now other_idsums.now)) }
 {
-    let mut i = 0;
-    while i < counts.len() {
+    for i in 0..counts.len() {
         if !undamaged(counts[i], idsums[i]) {
-            return i;
+            return Some(i);
         }
         if !undamaged(other_counts[i], other_idsums[i]) {
-            return i;
+            return Some(i);
         }
-        i += 1;
     }
-    i
+    None
 }
 
-// The first index at which the sum or the difference of the counts leaves the limits, or the length.
-fn first_leaving(minus: bool, counts: &[i32], other_counts: &[i32]) -> usize
+// The first index at which the sum or the difference of the counts leaves the limits.
+fn first_leaving(minus: bool, counts: &[i32], other_counts: &[i32]) -> Option<usize>
     requires { length other_counts.now ≡ length counts.now }
-    ensures { result ≡ least 0 (length counts.now) (leaves minus counts.now other_counts.now) }
+    ensures { result ≡ found (length counts.now) (leaves minus counts.now other_counts.now) }
 {
-    let mut i = 0;
-    while i < counts.len() {
+    for i in 0..counts.len() {
         if !within(plus_minus(minus, counts[i], other_counts[i])) {
-            return i;
+            return Some(i);
         }
-        i += 1;
     }
-    i
+    None
 }
 
 // Whether every bucket of both sketches is small. Those that are not are counted, without an early end, so that the compiler can do
@@ -78,15 +68,13 @@ fn all_small(counts: &[i32], idsums: &[u32], other_counts: &[i32], other_idsums:
     ensures { result ≡ below (length counts.now) (λ k. small_at (sketch counts.now idsums.now) k && small_at (sketch other_counts.now other_idsums.now) k) }
 {
     let mut large: u32 = 0;
-    let mut i = 0;
-    while i < counts.len() {
+    for i in 0..counts.len() {
         if !is_small(counts[i], idsums[i]) {
             large += 1;
         }
         if !is_small(other_counts[i], other_idsums[i]) {
             large += 1;
         }
-        i += 1;
     }
     large == 0
 }
@@ -100,32 +88,27 @@ fn judge(
     idsums: &[u32],
     other_counts: &[i32],
     other_idsums: &[u32],
-) -> Answer
+) -> Result<(), Refused>
     ensures { result ≡ combine_answer minus p q (sketch counts.now idsums.now) (sketch other_counts.now other_idsums.now) }
 {
-    let r = judge_both(
+    judge_both(
         p,
         q,
         counts.len(),
         idsums.len(),
         other_counts.len(),
         other_idsums.len(),
-    );
-    let Answer::Done = r else {
-        return r;
-    };
+    )?;
     if all_small(counts, idsums, other_counts, other_idsums) {
-        return Answer::Done;
+        return Ok(());
     }
-    let x = first_damaged(counts, idsums, other_counts, other_idsums);
-    if x < counts.len() {
-        return Answer::Refused(Refusal::Damage, x);
+    if let Some(x) = first_damaged(counts, idsums, other_counts, other_idsums) {
+        return Err(Refused(Refusal::Damage, x));
     }
-    let y = first_leaving(minus, counts, other_counts);
-    if y < counts.len() {
-        return Answer::Refused(Refusal::Range, y);
+    if let Some(y) = first_leaving(minus, counts, other_counts) {
+        return Err(Refused(Refusal::Range, y));
     }
-    Answer::Done
+    Ok(())
 }
 
 fn put_all(
@@ -140,11 +123,9 @@ fn put_all(
     requires by_index_2 { (k : ℕ) → k < length counts.old → (get_or idsums.old k 0 < prime) × (get_or other_idsums.now k 0 < prime) }
     ensures { sketch counts.new idsums.new ≡ combined minus (sketch counts.old idsums.old) (sketch other_counts.now other_idsums.now) }
 {
-    let mut i = 0;
-    while i < counts.len() {
+    for i in 0..counts.len() {
         counts[i] = plus_minus(minus, counts[i], other_counts[i]) as i32;
         idsums[i] = idsum_plus_minus(minus, idsums[i], other_idsums[i]);
-        i += 1;
     }
 }
 
@@ -157,15 +138,12 @@ fn combine(
     idsums: &mut [u32],
     other_counts: &[i32],
     other_idsums: &[u32],
-) -> Answer
+) -> Result<(), Refused>
     ensures { Combined minus p q (sketch counts.old idsums.old) (sketch other_counts.now other_idsums.now) result (sketch counts.new idsums.new) }
 {
-    let r = judge(minus, p, q, counts, idsums, other_counts, other_idsums);
-    let Answer::Done = r else {
-        return r;
-    };
+    judge(minus, p, q, counts, idsums, other_counts, other_idsums)?;
     put_all(minus, counts, idsums, other_counts, other_idsums);
-    r
+    Ok(())
 }
 
 // The first sketch, of parameters p, with the second, of parameters q, added.
@@ -176,7 +154,7 @@ pub fn add(
     idsums: &mut [u32],
     other_counts: &[i32],
     other_idsums: &[u32],
-) -> Answer
+) -> Result<(), Refused>
     ensures { Combined false p q (sketch counts.old idsums.old) (sketch other_counts.now other_idsums.now) result (sketch counts.new idsums.new) }
 {
     combine(false, p, q, counts, idsums, other_counts, other_idsums)
@@ -190,7 +168,7 @@ pub fn subtract(
     idsums: &mut [u32],
     other_counts: &[i32],
     other_idsums: &[u32],
-) -> Answer
+) -> Result<(), Refused>
     ensures { Combined true p q (sketch counts.old idsums.old) (sketch other_counts.now other_idsums.now) result (sketch counts.new idsums.new) }
 {
     combine(true, p, q, counts, idsums, other_counts, other_idsums)

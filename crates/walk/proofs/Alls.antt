@@ -1,9 +1,9 @@
 -- Laws of `all` and of `nothing_remains`, place by place.
+use Rattle.std.proofs.Common.{rules}
 use mathlib.Core.Path.{◌≡◌, refl}
 use mathlib.Core.Bool.{Bool, true, ◌&&◌}
 use mathlib.Core.List.{List, [], ◌∷◌}
 use Prim.Native.Nat.{ℕ, zero, suc, ◌<◌}
-use native.Mathlib.Decide.{dec_lt}
 use native.Mathlib.Omega.{arith}
 use borrow.Author.Tests.{eq-eqb, eqb-true}
 use lib.Dec.{eqb}
@@ -34,19 +34,11 @@ module _ {A : Type 0} (t : A → Bool) where
 module _ (S : Sketch) where
   pub nothing_count : nothing_remains S ≡ true → (k : ℕ) → count_in S k ≡ pos 0
   unfolding nothing_remains
-  nothing_count e k = go (dec_lt k (length S.counts))
-    where
-      go : Dec (k < length S.counts) → count_in S k ≡ pos 0
-      go (yes l) = zero_is _ (all_at is_zero S.counts k (pos 0) (and_true (all is_zero S.counts) (all (λ s. eqb s 0) S.idsums) e).0 l)
-      go (no l) = get_or-eq_default S.counts (pos 0) {n = k} (omega arith)
+  nothing_count e k = search (rules, all_at, and_true, get_or-eq_default, zero_is)
 
   pub nothing_idsum : nothing_remains S ≡ true → (k : ℕ) → idsum_in S k ≡ 0
   unfolding nothing_remains
-  nothing_idsum e k = go (dec_lt k (length S.idsums))
-    where
-      go : Dec (k < length S.idsums) → idsum_in S k ≡ 0
-      go (yes l) = eqb-true _ 0 (all_at (λ s. eqb s 0) S.idsums k 0 (and_true (all is_zero S.counts) (all (λ s. eqb s 0) S.idsums) e).1 l)
-      go (no l) = get_or-eq_default S.idsums 0 {n = k} (omega arith)
+  nothing_idsum e k = search (rules, all_at, and_true, eqb-true, get_or-eq_default)
 
   pub all_zero_lem : ((k : ℕ) → count_in S k ≡ pos 0) → ((k : ℕ) → idsum_in S k ≡ 0) → nothing_remains S ≡ true
   unfolding nothing_remains

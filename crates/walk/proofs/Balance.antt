@@ -1,29 +1,28 @@
 -- The balance: what the table lists and the remainder make up the input, in both fields, after every walk by a rule whose test is sound.
-use mathlib.Core.Path.{◌≡◌, refl, sym, ap, ap₂, ◌∙◌}
+use Rattle.std.proofs.Common.{rules}
+use mathlib.Core.Path.{◌≡◌, sym, ap, ◌∙◌}
 use mathlib.Core.Bool.{Bool, true, false, cond}
 use mathlib.Core.List.{List, []}
 use Prim.Native.Nat.{ℕ, ◌<◌}
-use native.Mathlib.Decide.{dec_lt}
-use native.Mathlib.Omega.{arith}
-use lib.IntN.{ℤ, pos, neg_ℤ, ◌+ℤ◌, ◌-ℤ◌, ◌*ℤ◌, +ℤ_idr, *ℤ-zero, *ℤ-one, one}
+use lib.IntN.{ℤ, pos, neg_ℤ, ◌+ℤ◌, ◌-ℤ◌, ◌*ℤ◌, +ℤ_idr, *ℤ-zero, one}
 use lib.ListN.{length, get_or-eq_default}
 use Rattle.field.specs.Residue.{residue}
 use Rattle.field.proofs.Parts.{int, up_down_add, up_neg, down_neg}
 use Rattle.field.proofs.Residues.{residue_below, residue_own, residue_twice, residue_add_same}
 use Rattle.sketch.specs.Sketch.{Sketch, count_in, idsum_in, Entry}
 use Rattle.sums.proofs.Weighted.{weighted}
-use Rattle.walk.specs.declared.Found.TheVariants.{Impure, Pure}
 use Rattle.walk.specs.Walk.{Rule, State, Outcome, less, taken, walk, close}
 use Rattle.walk.proofs.Carried.{carried}
 use Rattle.walk.proofs.Lessened.{less_counts, less_idsums, less_count, less_idsum}
 use Rattle.walk.proofs.Credits.{weighted_credited, weighted_close}
+use Rattle.std.specs.Prelude.{None, Some}
 
 -- a rule with a prime above 0, and a test that finds only flows f with c * f congruent to s, in buckets where they stand, and none where the count is 0
 pub record Sound (R : Rule) : Type 0 where
   pub positive : 0 < R.prime
-  pub solves : (k : ℕ) (c : ℤ) (s f : ℕ) → s < R.prime → R.test k c s ≡ Pure f → residue R.prime (c *ℤ pos f) ≡ s
-  pub standing : (k : ℕ) (c : ℤ) (s f : ℕ) → R.test k c s ≡ Pure f → R.stands f k ≡ true
-  pub empty : (k s : ℕ) → R.test k (pos 0) s ≡ Impure
+  pub solves : (k : ℕ) (c : ℤ) (s f : ℕ) → s < R.prime → R.test k c s ≡ Some f → residue R.prime (c *ℤ pos f) ≡ s
+  pub standing : (k : ℕ) (c : ℤ) (s f : ℕ) → R.test k c s ≡ Some f → R.stands f k ≡ true
+  pub empty : (k s : ℕ) → R.test k (pos 0) s ≡ None
 
 -- what one packet of f brings to the count of bucket k, and to its idsum
 abbrev pub once : Rule → ℕ → ℕ → ℤ
@@ -41,13 +40,9 @@ pub record Balanced (R : Rule) (S remainder : Sketch) (t : List Entry) : Type 0 
   pub idsums : (k : ℕ) → k < length S.idsums → residue R.prime (pos (idsum_in remainder k) +ℤ weighted (own R k) t) ≡ idsum_in S k
 
 -- c less in a bucket, and c more in the table
-moves_over : (x w c : ℤ) → (x -ℤ c) +ℤ (w +ℤ c) ≡ x +ℤ w
-moves_over x w c = omega (int, up_down_add (x -ℤ c) (w +ℤ c), up_down_add x (neg_ℤ c), up_down_add w c, up_down_add x w, up_neg c, down_neg c)
-
 count_step : (b : Bool) (x w c : ℤ) → cond b (x -ℤ c) x +ℤ (w +ℤ c *ℤ cond b (pos 1) (pos 0)) ≡ x +ℤ w
 unfolding one
-count_step true x w c = ap (λ (z : ℤ). x -ℤ c +ℤ (w +ℤ z)) (*ℤ-one c) ∙ moves_over x w c
-count_step false x w c = ap (λ (z : ℤ). x +ℤ (w +ℤ z)) (*ℤ-zero c) ∙ ap (◌+ℤ◌ x) (+ℤ_idr w)
+count_step b x w c = search rules
 
 module _ (p : ℕ) (h : 0 < p) where
   -- s less in a bucket, and a weight z with the residue s more in the table
@@ -70,45 +65,23 @@ module _ (p : ℕ) (h : 0 < p) where
   idsum_step false x s w c f l e = ap (λ (z : ℤ). residue p (pos x +ℤ (w +ℤ z))) (*ℤ-zero c) ∙ ap (λ (z : ℤ). residue p (pos x +ℤ z)) (+ℤ_idr w)
 
   cond_below : (b : Bool) (x : ℕ) (z : ℤ) → x < p → cond b (residue p z) x < p
-  cond_below true x z l = residue_below p h z
-  cond_below false x z l = l
+  cond_below b x z l = search (rules, residue_below)
 
 module _ (R : Rule) (sound : Sound R) (S : Sketch) where
   abbrev Kept : State → Type 0
   Kept st = Balanced R S st.held st.table
 
   less_below : (f : ℕ) (c : ℤ) (s : ℕ) (T : Sketch) → ((k : ℕ) → idsum_in T k < R.prime) → (k : ℕ) → Dec (k < length T.idsums) → idsum_in (less R f c s T) k < R.prime
-  less_below f c s T h k (yes l) = rw (less_idsum R f c s T k l) (cond_below R.prime sound.positive (R.stands f k) (idsum_in T k) _ (h k))
-  less_below f c s T h k (no l) = rw (get_or-eq_default (less R f c s T).idsums 0 {n = k} (omega (arith, less_idsums R f c s T))) sound.positive
+  less_below f c s T h k e = search (rules, cond_below, get_or-eq_default, less_idsum, less_idsums)
 
   taken_keeps : (st : State) (f : ℕ) (c : ℤ) (s : ℕ) → s < R.prime → residue R.prime (c *ℤ pos f) ≡ s → Kept st → Kept (taken R f c s st)
   unfolding taken
-  taken_keeps st f c s l e h =
-      record {
-        counts_long = less_counts R f c s st.held ∙ h.counts_long;
-        idsums_long = less_idsums R f c s st.held ∙ h.idsums_long;
-        below = λ k. less_below f c s st.held h.below k (dec_lt k (length st.held.idsums));
-        counts = λ k u.
-            ap₂ ◌+ℤ◌ (less_count R f c s st.held k (omega (arith, h.counts_long))) (weighted_credited (once R k) f c st.table)
-            ∙ count_step (R.stands f k) (count_in st.held k) (weighted (once R k) st.table) c
-            ∙ h.counts k u;
-        idsums = λ k u.
-            ap₂ (λ (x : ℕ) (w : ℤ). residue R.prime (pos x +ℤ w)) (less_idsum R f c s st.held k (omega (arith, h.idsums_long))) (weighted_credited (own R k) f c st.table)
-            ∙ idsum_step R.prime sound.positive (R.stands f k) (idsum_in st.held k) s (weighted (own R k) st.table) c f l e
-            ∙ h.idsums k u;
-      }
+  taken_keeps st f c s l e h = search (rules, count_step, idsum_step, less_below, less_count, less_counts, less_idsum, less_idsums, weighted, weighted_credited)
 
   -- at the start the table is empty, and all remains
   at_start : ((k : ℕ) → idsum_in S k < R.prime) → Balanced R S S []
   unfolding weighted
-  at_start below =
-      record {
-        counts_long = refl;
-        idsums_long = refl;
-        below = below;
-        counts = λ k l. +ℤ_idr (count_in S k);
-        idsums = λ k l. ap (residue R.prime) (+ℤ_idr (pos (idsum_in S k))) ∙ residue_own R.prime sound.positive (idsum_in S k) (below k);
-      }
+  at_start below = search (rules, residue_own)
 
   pub balanced : (slots allowance : ℕ) → ((k : ℕ) → idsum_in S k < R.prime) → let o : Outcome = walk R slots allowance S in Balanced R S o.remainder o.table
   unfolding walk
@@ -119,11 +92,4 @@ module _ (R : Rule) (sound : Sound R) (S : Sketch) where
 
 -- the close changes nothing of it
 pub balanced_closed : {R : Rule} {S remainder : Sketch} {t : List Entry} → Balanced R S remainder t → Balanced R S remainder (close t)
-balanced_closed {R} {S} {remainder} {t} h =
-    record {
-      counts_long = h.counts_long;
-      idsums_long = h.idsums_long;
-      below = h.below;
-      counts = λ k l. ap (◌+ℤ◌ (count_in remainder k)) (weighted_close (once R k) t) ∙ h.counts k l;
-      idsums = λ k l. ap (λ (w : ℤ). residue R.prime (pos (idsum_in remainder k) +ℤ w)) (weighted_close (own R k) t) ∙ h.idsums k l;
-    }
+balanced_closed h = search (rules, weighted_close)

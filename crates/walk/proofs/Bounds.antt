@@ -1,15 +1,15 @@
 -- The losses and the gains of a bucket, each summed up by themselves: a count is their difference, and is within the limits where both are. So a list of losses is sure that is as the request asks.
+use Rattle.std.proofs.Common.{rules}
 use mathlib.Core.Path.{◌≡◌, refl, ap, ap₂, ◌∙◌}
-use mathlib.Core.Bool.{Bool, true, false, not, cond}
+use mathlib.Core.Bool.{true, not, cond}
 use mathlib.Core.List.{List, [], ◌∷◌}
-use mathlib.Core.Logic.{⊎_elim}
 use Prim.Native.Nat.{ℕ, ◌+◌, ◌≤◌, ◌<◌}
 use native.Mathlib.Omega.{arith}
-use borrow.Author.Tests.{le-leb, ltb-true, ne_eqb}
+use borrow.Author.Tests.{le-leb}
 use lib.Dec.{ltb}
-use lib.IntN.{ℤ, pos, negsuc, nat_abs, ◌+ℤ◌}
+use lib.IntN.{ℤ, pos, nat_abs}
 use Rattle.field.specs.Parts.{up, down}
-use Rattle.field.proofs.Parts.{up_down_add, abs_parts, one_part}
+use Rattle.field.proofs.Parts.{abs_parts, one_part}
 use Rattle.params.specs.declared.params.Params.{Params}
 use Rattle.params.specs.Params.{size}
 use Rattle.params.specs.Positions.{stands}
@@ -32,30 +32,18 @@ module _ (P : Params) where
   pub part_is : (part : ℤ → ℕ) (es : List Entry) (k : ℕ) → count_at P (parts_by part es) k ≡ pos (part_at part es k)
   unfolding count_at part_at
   part_is part [] k = refl
-  part_is part (e ∷ es) k = ap (◌+ℤ◌ (cond (stands P e.flow k) (pos (part e.number)) (pos 0))) (part_is part es k) ∙ go (stands P e.flow k)
-    where
-      go : (b : Bool) → cond b (pos (part e.number)) (pos 0) +ℤ pos (part_at part es k) ≡ pos (cond b (part e.number) 0 + part_at part es k)
-      go true = refl
-      go false = refl
+  part_is part (e ∷ es) k = search (rules, part_is part es k)
 
   -- a count is the losses less the gains
   count_parts : (es : List Entry) (k : ℕ) → up (count_at P es k) + part_at down es k ≡ part_at up es k + down (count_at P es k)
   unfolding count_at part_at
   count_parts [] k = refl
-  count_parts (e ∷ es) k = go (stands P e.flow k) (count_parts es k)
-    where
-      go : (b : Bool) → up (count_at P es k) + part_at down es k ≡ part_at up es k + down (count_at P es k)
-          → up (cond b e.number (pos 0) +ℤ count_at P es k) + (cond b (down e.number) 0 + part_at down es k)
-          ≡ cond b (up e.number) 0 + part_at up es k + down (cond b e.number (pos 0) +ℤ count_at P es k)
-      go true h = omega (arith, h, up_down_add e.number (count_at P es k))
-      go false h = omega (arith, h, up_down_add (pos 0) (count_at P es k))
+  count_parts (e ∷ es) k = search (rules, count_parts es k)
 
   -- so it is within the limits where both are
   pub count_within : (es : List Entry) (k : ℕ) → part_at up es k ≤ 2147483646 → part_at down es k ≤ 2147483646 → in_limits (count_at P es k) ≡ true
   unfolding in_limits
-  count_within es k l g =
-      le-leb (nat_abs (count_at P es k)) 2147483646
-      (⊎_elim (λ e. omega (arith, e, abs_parts (count_at P es k), count_parts es k)) (λ e. omega (arith, e, abs_parts (count_at P es k), count_parts es k)) (one_part (count_at P es k)))
+  count_within es k l g = search (rules, abs_parts, count_parts, le-leb, nat_abs, one_part)
 
 -- counts that are within the limits, one by one
 pub within_all : (P : Params) (es : List Entry) → ((k : ℕ) → k < size P → in_limits (count_at P es k) ≡ true) → within_limits P es ≡ true
@@ -71,8 +59,7 @@ whole_limits P es w =
 
 -- losses are sure where they are as the request asks: they are the list, and there are no gains
 positive_parts : (z : ℤ) → ltb 0 (up z) ≡ true → (not (is_zero z) ≡ true) × (pos (up z) ≡ z) × (down z ≡ 0)
-positive_parts (pos n) e = (ap not (ne_eqb n 0 (λ z. omega (arith, ltb-true 0 n e))), refl, refl)
-positive_parts (negsuc n) e = absurd (omega (arith, ltb-true 0 0 e))
+positive_parts z e = search rules
 
 positive_list : (es : List Entry) → all_positive es ≡ true → (all_nonzero es ≡ true) × (parts_by up es ≡ es)
 unfolding all

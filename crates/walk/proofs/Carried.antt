@@ -1,4 +1,5 @@
 -- The induction along a walk: what holds at the start, and what every pop that leads on keeps, holds where the walk ends. And how it ends.
+use Rattle.std.proofs.Common.{rules}
 use mathlib.Core.Path.{◌≡◌, refl, sym, ap, ◌∙◌}
 use mathlib.Core.Bool.{Bool, true, false, cond, true≢false}
 use mathlib.Core.List.{List, [], ◌∷◌}
@@ -8,13 +9,12 @@ use borrow.Author.Tests.{eqb-false}
 use Rattle.sketch.specs.Sketch.{Sketch, count_in, idsum_in}
 use Rattle.walk.specs.declared.Ending.{Ending}
 use Rattle.walk.specs.declared.Ending.TheVariants.{Clean, Stuck, Spent, Range, Full}
-use Rattle.walk.specs.declared.Found.{Found}
-use Rattle.walk.specs.declared.Found.TheVariants.{Impure, Pure}
 use Rattle.walk.specs.Endings.{ending_number}
 use Rattle.walk.specs.Walk.{Rule, State, Move, stops, goes, Outcome, out, queued, nothing_remains, in_range, has_room, taken, takes, follows, popped, before, after, run}
+use Rattle.std.specs.Prelude.{None, Option, Some}
 
 -- the test of bucket k
-abbrev pub found : Rule → ℕ → Sketch → Found
+abbrev pub found : Rule → ℕ → Sketch → Option ℕ
 found R k S = R.test k (count_in S k) (idsum_in S k)
 
 -- an ending at a state: clean where nothing remains and only there, stuck only where no bucket waits
@@ -25,7 +25,7 @@ pub record Ended (e : Ending) (st : State) : Type 0 where
 
 -- bucket k is pure with flow f, and the take is within the range and the slots
 pub record Takeable (R : Rule) (slots k f : ℕ) (st : State) : Type 0 where
-  pub pure : found R k st.held ≡ Pure f
+  pub pure : found R k st.held ≡ Some f
   pub range : in_range R f (count_in st.held k) st ≡ true
   pub room : has_room slots f st.table ≡ true
 
@@ -35,12 +35,12 @@ taken_at R k f st = taken R f (count_in st.held k) (idsum_in st.held k) st
 
 -- bucket k is pure with flow f, and the take would leave the range
 pub record OutOfRange (R : Rule) (k f : ℕ) (st : State) : Type 0 where
-  pub pure : found R k st.held ≡ Pure f
+  pub pure : found R k st.held ≡ Some f
   pub range : in_range R f (count_in st.held k) st ≡ false
 
 -- bucket k is pure with flow f, and the take is within the range, but no slot is left for it
 pub record NoSlot (R : Rule) (slots k f : ℕ) (st : State) : Type 0 where
-  pub pure : found R k st.held ≡ Pure f
+  pub pure : found R k st.held ≡ Some f
   pub range : in_range R f (count_in st.held k) st ≡ true
   pub room : has_room slots f st.table ≡ false
 
@@ -65,44 +65,32 @@ clean_end st h = record { clean = λ x. h; nothing = λ x. refl; stuck = λ x. a
 other_end : (e : Ending) (st : State) → (e ≡ Clean → ⊥) → (e ≡ Stuck → st.queue ≡ []) → nothing_remains st.held ≡ false → Ended e st
 other_end e st c s h = record { clean = λ x. absurd (c x); nothing = λ x. absurd (true≢false (sym x ∙ h)); stuck = s }
 
--- the pop took k from the queue, and left q of it
-pop_end : (R : Rule) (slots k : ℕ) (q : List ℕ) (e : Ending) (st : State) → AtPop R slots k (queued st q) e → nothing_remains st.held ≡ false → Ended e st
-pop_end R slots k q e st (out_of_range f o) h = other_end Range st (apart Range Clean refl) (λ x. absurd (apart Range Stuck refl x)) h
-pop_end R slots k q e st (table_full f o) h = other_end Full st (apart Full Clean refl) (λ x. absurd (apart Full Stuck refl x)) h
-
 module _ (R : Rule) (slots : ℕ) where
   -- a move keeps K where an impure pop and a take do
   module _ (K : State → Type 0) where
-    chosen : (k f : ℕ) (st : State) (b r : Bool) → in_range R f (count_in st.held k) st ≡ b → has_room slots f st.table ≡ r → found R k st.held ≡ Pure f
+    chosen : (k f : ℕ) (st : State) (b r : Bool) → in_range R f (count_in st.held k) st ≡ b → has_room slots f st.table ≡ r → found R k st.held ≡ Some f
         → (Takeable R slots k f st → K (taken_at R k f st)) → Keeps R slots k st K (cond b (cond r (goes (taken_at R k f st)) (stops Full)) (stops Range))
     chosen k f st true true range room pure t = t (record { pure = pure; range = range; room = room })
     chosen k f st true false range room pure t = table_full f (record { pure = pure; range = range; room = room })
     chosen k f st false r range room pure t = out_of_range f (record { pure = pure; range = range })
 
-    pub pop_keeps : (k : ℕ) (st : State) → (found R k st.held ≡ Impure → K st) → ((f : ℕ) → Takeable R slots k f st → K (taken_at R k f st)) → Keeps R slots k st K (popped R slots k st)
+    pub pop_keeps : (k : ℕ) (st : State) → (found R k st.held ≡ None → K st) → ((f : ℕ) → Takeable R slots k f st → K (taken_at R k f st)) → Keeps R slots k st K (popped R slots k st)
     unfolding popped follows takes
-    pop_keeps k st i t = go (found R k st.held) refl
-      where
-        go : (w : Found) → found R k st.held ≡ w → Keeps R slots k st K (follows R slots (count_in st.held k) (idsum_in st.held k) st w)
-        go Impure e = i e
-        go (Pure f) e = chosen k f st _ _ refl refl e (t f)
+    pop_keeps k st i t = search (rules, chosen)
 
   module _ (K : State → Type 0) (O : Outcome → Type 0)
       (ends : (e : Ending) (n : ℕ) (st : State) → K st → Ended e st → O (out e n st))
-      (goes_on : (k : ℕ) (q : List ℕ) (st : State) → K st → st.queue ≡ k ∷ q → found R k st.held ≡ Impure → K (queued st q))
+      (goes_on : (k : ℕ) (q : List ℕ) (st : State) → K st → st.queue ≡ k ∷ q → found R k st.held ≡ None → K (queued st q))
       (takes-on : (k f : ℕ) (q : List ℕ) (st : State) → K st → st.queue ≡ k ∷ q → Takeable R slots k f (queued st q) → K (taken_at R k f (queued st q))) where
     -- the tests before a pop
     tested : (b : Bool) (q : List ℕ) (n : ℕ) (st : State) (pop : ℕ → List ℕ → Outcome) → K st → nothing_remains st.held ≡ b → st.queue ≡ q
         → ((k : ℕ) (r : List ℕ) → nothing_remains st.held ≡ false → st.queue ≡ k ∷ r → O (pop k r)) → O (before b q n st pop)
     unfolding before
-    tested true q n st pop h l e f = ends Clean n st h (clean_end st l)
-    tested false [] n st pop h l e f = ends Stuck n st h (other_end Stuck st (apart Stuck Clean refl) (λ x. e) l)
-    tested false (k ∷ q) n st pop h l e f = f k q l e
+    tested b q n st pop h l e f = search rules
 
     moved : (m : Move) (k : ℕ) (q : List ℕ) (n : ℕ) (st : State) (next : State → Outcome) → K st → nothing_remains st.held ≡ false → Keeps R slots k (queued st q) K m → ((st' : State) → K st' → O (next st')) → O (after m n st next)
     unfolding after
-    moved (stops e) k q n st next h l i ih = ends e n st h (pop_end R slots k q e st i l)
-    moved (goes st') k q n st next h l i ih = ih st' i
+    moved m k q n st next h l i ih = search rules
 
     pub carried : (a n : ℕ) (st : State) → K st → O (run R slots a n st)
     unfolding run

@@ -1,11 +1,12 @@
 -- Laws of the table's entries: what a credit and the close keep of each entry, of their number, and of that no flow has two.
-use mathlib.Core.Path.{◌≡◌, refl, sym, ap, subst, ◌∙◌}
-use mathlib.Core.Bool.{Bool, true, false, not, cond, ◌&&◌, ◌||◌, true≢false}
+use Rattle.std.proofs.Common.{rules}
+use mathlib.Core.Path.{◌≡◌, refl, sym, ap, subst}
+use mathlib.Core.Bool.{Bool, true, false, not, cond, ◌&&◌, ◌||◌}
 use mathlib.Core.List.{List, [], ◌∷◌, ◌++◌}
 use Prim.Native.Nat.{ℕ, zero, suc, ◌<◌, ◌≤◌}
 use native.Mathlib.Omega.{arith}
-use borrow.Author.Tests.{eqb-true, eqb-false, ne_eqb, ltb-true, not-true}
-use lib.Dec.{eqb, ltb}
+use borrow.Author.Tests.{eqb-false, ne_eqb, ltb-true, not-true}
+use lib.Dec.{eqb}
 use lib.IntN.{ℤ, pos, ◌+ℤ◌, +ℤ_idl}
 use lib.ListN.{length, get_or}
 use Rattle.sketch.specs.Sketch.{Entry, by}
@@ -19,67 +20,36 @@ module _ (t : Entry → Bool) where
   pub all_credited : (f : ℕ) (c : ℤ) (es : List Entry) → all t es ≡ true → t (by f (entry_of f es +ℤ c)) ≡ true → all t (credited f c es) ≡ true
   unfolding all entry_of credited
   all_credited f c [] a n = both_true _ true (subst (λ (z : ℤ). t (by f z) ≡ true) (+ℤ_idl c) n) refl
-  all_credited f c (e ∷ es) a n = go (eqb e.flow f) refl n (all_credited f c es (and_true (t e) (all t es) a).1)
-    where
-      go : (b : Bool) → eqb e.flow f ≡ b → t (by f (cond b e.number (entry_of f es) +ℤ c)) ≡ true → (t (by f (entry_of f es +ℤ c)) ≡ true → all t (credited f c es) ≡ true)
-          → all t (cond b (by e.flow (e.number +ℤ c) ∷ es) (e ∷ credited f c es)) ≡ true
-      go true q n ih = both_true _ _ (subst (λ (g : ℕ). t (by g (e.number +ℤ c)) ≡ true) (sym (eqb-true e.flow f q)) n) (and_true (t e) (all t es) a).1
-      go false q n ih = both_true _ _ (and_true (t e) (all t es) a).0 (ih n)
+  all_credited f c (e ∷ es) a n = search (rules, all_credited f c es (and_true (t e) (all t es) a).1)
 
   pub all_close : (es : List Entry) → all t es ≡ true → all t (close es) ≡ true
   unfolding all close
   all_close [] a = refl
-  all_close (e ∷ es) a = go (is_zero e.number) (all_close es (and_true (t e) (all t es) a).1)
-    where
-      go : (b : Bool) → all t (close es) ≡ true → all t (cond b (close es) (e ∷ close es)) ≡ true
-      go true ih = ih
-      go false ih = both_true _ _ (and_true (t e) (all t es) a).0 ih
+  all_close (e ∷ es) a = search (rules, all_close es (and_true (t e) (all t es) a).1)
 
 -- the close leaves no entry with count 0
 pub close_nonzero : (es : List Entry) → all (λ e. not (is_zero e.number)) (close es) ≡ true
 unfolding all close
 close_nonzero [] = refl
-close_nonzero (e ∷ es) = go (is_zero e.number) refl (close_nonzero es)
-  where
-    go : (b : Bool) → is_zero e.number ≡ b → all (λ e. not (is_zero e.number)) (close es) ≡ true → all (λ e. not (is_zero e.number)) (cond b (close es) (e ∷ close es)) ≡ true
-    go true q ih = ih
-    go false q ih = both_true _ _ (ap not q) ih
+close_nonzero (e ∷ es) = search (rules, close_nonzero es)
 
 -- how many there are
 pub length_credited : (f : ℕ) (c : ℤ) (es : List Entry) → length (credited f c es) ≡ cond (has f es) (length es) (suc (length es))
 unfolding credited has any
 length_credited f c [] = refl
-length_credited f c (e ∷ es) = go (eqb e.flow f) (length_credited f c es)
-  where
-    next : (b : Bool) (n : ℕ) → suc (cond b n (suc n)) ≡ cond b (suc n) (suc (suc n))
-    next true n = refl
-    next false n = refl
-
-    go : (b : Bool) → length (credited f c es) ≡ cond (has f es) (length es) (suc (length es))
-        → length (cond b (by e.flow (e.number +ℤ c) ∷ es) (e ∷ credited f c es)) ≡ cond (b || has f es) (suc (length es)) (suc (suc (length es)))
-    go true ih = refl
-    go false ih = ap suc ih ∙ next (has f es) (length es)
+length_credited f c (e ∷ es) = search (rules, length_credited f c es)
 
 pub credited_fits : (slots f : ℕ) (c : ℤ) (es : List Entry) → length es ≤ slots → has_room slots f es ≡ true → length (credited f c es) ≤ slots
 unfolding has_room
-credited_fits slots f c es l r = rw (length_credited f c es) (go (has f es) r)
-  where
-    go : (b : Bool) → (b || ltb (length es) slots) ≡ true → cond b (length es) (suc (length es)) ≤ slots
-    go true r = l
-    go false r = ltb-true _ _ r
+credited_fits slots f c es l r = search (rules, length_credited, ltb-true)
 
 pub close_fewer : (es : List Entry) → length (close es) ≤ length es
 unfolding close
 close_fewer [] = omega arith
-close_fewer (e ∷ es) = go (is_zero e.number) (close_fewer es)
-  where
-    go : (b : Bool) → length (close es) ≤ length es → length (cond b (close es) (e ∷ close es)) ≤ suc (length es)
-    go true ih = omega arith
-    go false ih = omega arith
+close_fewer (e ∷ es) = search (rules, close_fewer es)
 
 pub neither : (s t : Bool) → (s || t) ≡ false → (s ≡ false) × (t ≡ false)
-neither true t e = absurd (true≢false e)
-neither false t e = (refl, e)
+neither s t e = search rules
 
 -- where a flow has no entry, its count is 0, and a credit is appended
 module _ (f : ℕ) where
@@ -97,11 +67,7 @@ module _ (f : ℕ) where
   pub has_append : (es gs : List Entry) → has f (es ++ gs) ≡ (has f es || has f gs)
   unfolding has any
   has_append [] gs = refl
-  has_append (e ∷ es) gs = go (eqb e.flow f) (has_append es gs)
-    where
-      go : (b : Bool) → has f (es ++ gs) ≡ (has f es || has f gs) → (b || has f (es ++ gs)) ≡ ((b || has f es) || has f gs)
-      go true ih = refl
-      go false ih = ih
+  has_append (e ∷ es) gs = search (rules, has_append es gs)
 
 -- no flow has two
 unfoldable pub once : List Entry → Bool
@@ -111,41 +77,22 @@ once (e ∷ es) = not (has e.flow es) && once es
 has_credited : (g f : ℕ) (c : ℤ) (es : List Entry) → (f ≡ g → ⊥) → has g (credited f c es) ≡ has g es
 unfolding has any credited
 has_credited g f c [] d = rw (ne_eqb f g d)
-has_credited g f c (e ∷ es) d = go (eqb e.flow f) (has_credited g f c es d)
-  where
-    go : (b : Bool) → has g (credited f c es) ≡ has g es → has g (cond b (by e.flow (e.number +ℤ c) ∷ es) (e ∷ credited f c es)) ≡ (eqb e.flow g || has g es)
-    go true ih = refl
-    go false ih = ap (◌||◌ (eqb e.flow g)) ih
+has_credited g f c (e ∷ es) d = search (rules, has_credited g f c es d)
 
 pub once_credited : (f : ℕ) (c : ℤ) (es : List Entry) → once es ≡ true → once (credited f c es) ≡ true
 unfolding once credited has any
 once_credited f c [] h = refl
-once_credited f c (e ∷ es) h = go (eqb e.flow f) refl (once_credited f c es (and_true (not (has e.flow es)) _ h).1)
-  where
-    go : (b : Bool) → eqb e.flow f ≡ b → once (credited f c es) ≡ true → once (cond b (by e.flow (e.number +ℤ c) ∷ es) (e ∷ credited f c es)) ≡ true
-    go true q ih = h
-    go false q ih =
-        both_true _ _
-        (ap not (has_credited e.flow f c es (λ p. eqb-false e.flow f q (sym p))) ∙ (and_true (not (has e.flow es)) (once es) h).0)
-        ih
+once_credited f c (e ∷ es) h = search (rules, once_credited f c es (and_true (not (has e.flow es)) _ h).1, and_true, both_true, eqb-false, has_credited)
 
 has_close : (g : ℕ) (es : List Entry) → has g es ≡ false → has g (close es) ≡ false
 unfolding has any close
 has_close g [] h = refl
-has_close g (e ∷ es) h = go (is_zero e.number) (has_close g es (neither (eqb e.flow g) (has g es) h).1)
-  where
-    go : (b : Bool) → has g (close es) ≡ false → has g (cond b (close es) (e ∷ close es)) ≡ false
-    go true ih = ih
-    go false ih = rw (neither (eqb e.flow g) (has g es) h).0 ih
+has_close g (e ∷ es) h = search (rules, has_close g es (neither (eqb e.flow g) (has g es) h).1)
 
 pub once_close : (es : List Entry) → once es ≡ true → once (close es) ≡ true
 unfolding once close
 once_close [] h = refl
-once_close (e ∷ es) h = go (is_zero e.number) (once_close es (and_true (not (has e.flow es)) _ h).1)
-  where
-    go : (b : Bool) → once (close es) ≡ true → once (cond b (close es) (e ∷ close es)) ≡ true
-    go true ih = ih
-    go false ih = both_true _ _ (ap not (has_close e.flow es (not-true _ (and_true (not (has e.flow es)) (once es) h).0))) ih
+once_close (e ∷ es) h = search (rules, once_close es (and_true (not (has e.flow es)) _ h).1, and_true, both_true, has_close, not-true)
 
 -- by place
 has_not : (g : ℕ) (es : List Entry) (j : ℕ) (d : Entry) → has g es ≡ false → j < length es → (get_or es j d).flow ≡ g → ⊥

@@ -11,24 +11,20 @@ use Rattle.field.specs.Parts.{up, down}
 use Rattle.field.specs.Flow.{inverse_in, inverse, flow}
 use Rattle.params.specs.declared.params.Params.{Params}
 use Rattle.params.specs.declared.answers.Refusal.TheVariants.{Flow}
-use Rattle.params.specs.declared.answers.Answer.{Answer}
-use Rattle.params.specs.declared.answers.Located.{Located}
-use Rattle.params.specs.declared.answers.Located.TheVariants.{At, Refused}
 use Rattle.params.specs.Lists.{below, least, map_from, touched, from}
-use Rattle.params.specs.Answers.{number_in, index_in, refuse_at, first, kept, located_of}
+use Rattle.params.specs.Answers.{number_in, index_in, refuse_at, first, kept, given, Answer, Given, Refused}
 use Rattle.params.specs.Params.{prime_of, pair_at, twins, good_dimensions, good_params, lengths_answer, dimensions_answer}
 use Rattle.params.specs.Sketched.{sketched, told, is_sketched}
 use Rattle.params.specs.Positions.{stand, position, position_answer, stands_in}
 use Rattle.buckets.specs.Buckets.{in_limits, is_number}
 use Rattle.sketch.specs.Sketch.{Sketch, sketch, Entry, by, count_at, weight_at, sketch_of, damaged_in, leaves_in, flow_buckets_answer, changed_in}
 use Rattle.sketch.specs.Packets.{packet_answer, entry_answer, step_answer, changed, move_answer}
-use Rattle.walk.specs.declared.Found.{Found}
-use Rattle.walk.specs.declared.Found.TheVariants.{Impure, Pure}
 use Rattle.walk.specs.Endings.{ending_number}
 use Rattle.walk.specs.Walk.{State, Move, stops, goes, Outcome, queued, all, any, nothing_remains, less, has, entry_of, credited, waits, requeue, in_range, has_room, taken, takes, follows, popped, before, after, run, first_queue, walk, close, summed, lost_of, extra_of}
 use Rattle.walk.specs.Purity.{test_in, wide_test, pure_test, rule_of}
 use Rattle.walk.specs.Shown.{shown_table}
 use Rattle.walk.specs.Sure.{all_flows, all_positive, all_nonzero, own_buckets, within_limits, parts_by}
+use Rattle.std.specs.Prelude.{Ok, None, Option, Some}
 
 -- d = 2, m = 5, pairs (1, 0) and (1073741824, 0)
 abbrev pub K : Params
@@ -71,9 +67,9 @@ pub data Premise : Type 0 where
 
 -- and what is answered
 pub data Reply : Type 0 where
-  located : Located → Reply
+  located : Given ℕ → Reply
   holds : Sketch → Reply
-  finds : (number : ℕ) (wide pure : Found) → Reply
+  finds : (number : ℕ) (wide pure : Option ℕ) → Reply
   ends : (ending pops lost extra : ℕ) (table : List Entry) (remainder : Sketch) → Reply
   waits_on : List ℕ → Reply
   says : (number index : ℕ) → Sketch → Reply
@@ -122,7 +118,7 @@ judged S r S' = says (number_in r) (index_in r) (kept r S S')
 
 -- what the definitions tell
 abbrev pub reply : Params → Question → Reply
-reply P (position_of i f) = located (located_of (position_answer P i f) (position P i f))
+reply P (position_of i f) = located (given (position_answer P i f) (position P i f))
 reply P (sketch_of_lem es) = holds (sketch_of P es)
 reply P (test_of k c s) = finds (flow (prime_of P) c s) (wide_test P k c s) (pure_test P k c s)
 reply P (peeling S slots allowance) = ended P (walk (rule_of P) slots allowance S)
@@ -248,26 +244,26 @@ SW' = buckets (o ∷ o ∷ o ∷ o ∷ o ∷ o ∷ o ∷ b (pos 2) 3598 ∷ b (n
 abbrev pub examples : List Line
 examples =
     -- K
-    (position_of 1 2 gives located (At 2))
-    ∷ (position_of 1 7 gives located (At 2))
-    ∷ (position_of 1 11 gives located (At 1))
-    ∷ (position_of 1 12 gives located (At 2))
-    ∷ (position_of 1 20 gives located (At 0))
-    ∷ (position_of 2 2 gives located (At 1))
-    ∷ (position_of 2 7 gives located (At 2))
-    ∷ (position_of 2 11 gives located (At 4))
-    ∷ (position_of 2 12 gives located (At 1))
-    ∷ (position_of 2 20 gives located (At 0))
+    (position_of 1 2 gives located (Ok 2))
+    ∷ (position_of 1 7 gives located (Ok 2))
+    ∷ (position_of 1 11 gives located (Ok 1))
+    ∷ (position_of 1 12 gives located (Ok 2))
+    ∷ (position_of 1 20 gives located (Ok 0))
+    ∷ (position_of 2 2 gives located (Ok 1))
+    ∷ (position_of 2 7 gives located (Ok 2))
+    ∷ (position_of 2 11 gives located (Ok 4))
+    ∷ (position_of 2 12 gives located (Ok 1))
+    ∷ (position_of 2 20 gives located (Ok 0))
     -- E1
     ∷ (sketch_of_lem (by 7 (pos 1) ∷ by 12 (pos 2) ∷ []) gives holds S1)
     -- E2
-    ∷ (test_of 2 (pos 3) 31 gives finds 1431655775 Impure Impure)
+    ∷ (test_of 2 (pos 3) 31 gives finds 1431655775 None None)
     ∷ (peeling S1 10 80 gives ends 1 3 3 0 (by 12 (pos 2) ∷ by 7 (pos 1) ∷ []) S0)
     ∷ (queue_after 0 S1 gives waits_on (2 ∷ 6 ∷ 7 ∷ []))
     ∷ (queue_after 3 S1 gives waits_on (2 ∷ []))
     -- E3
     ∷ (sketch_of_lem (by 2 (pos 1) ∷ by 12 (pos 1) ∷ []) gives holds S3)
-    ∷ (test_of 2 (pos 2) 14 gives finds 7 (Pure 7) (Pure 7))
+    ∷ (test_of 2 (pos 2) 14 gives finds 7 (Some 7) (Some 7))
     ∷ (peeling S3 10 10 gives ends 3 10 2 0 (by 7 (pos 2) ∷ []) remainder3)
     -- E4
     ∷ (peeling S3 10 9 gives ends 3 9 0 0 [] S3)
@@ -306,10 +302,10 @@ examples =
     ∷ (inserting S0 0 0 gives says 3 0 S0)
     ∷ (inserting S0 1 1 gives says 0 0 Si)
     ∷ (position_of 1 0 gives located (Refused Flow 0))
-    ∷ (position_of 2 1 gives located (At 4))
+    ∷ (position_of 2 1 gives located (Ok 4))
     -- an old sketch of flow 0 is stuck, by itself and where all else is listed; its buckets are not pure
     ∷ (sketch_of_lem (by 0 (pos 3) ∷ []) gives holds SZ)
-    ∷ (test_of 0 (pos 3) 0 gives finds 0 (Pure 0) Impure)
+    ∷ (test_of 0 (pos 3) 0 gives finds 0 (Some 0) None)
     ∷ (peeling SZ 10 80 gives ends 2 2 0 0 [] SZ)
     ∷ (sketch_of_lem (by 7 (pos 1) ∷ by 0 (pos 3) ∷ by 12 (pos 2) ∷ []) gives holds SZ1)
     ∷ (peeling SZ1 10 80 gives ends 2 6 3 0 (by 12 (pos 2) ∷ by 7 (pos 1) ∷ []) SZ)
@@ -319,17 +315,17 @@ examples =
     -- a take that would leave the range
     ∷ (peeling SR 10 80 gives ends 5 1 0 0 [] SR)
     -- counts that are multiples of the prime, where flow 0 would stand, the last two outside the limits; the greatest and the least count within them
-    ∷ (test_of 0 (pos 0) 7 gives finds 0 Impure Impure)
-    ∷ (test_of 0 (pos 2147483647) 7 gives finds 0 Impure Impure)
-    ∷ (test_of 0 (negsuc 2147483646) 7 gives finds 0 Impure Impure)
-    ∷ (test_of 1 (pos 2147483646) 1 gives finds 2147483646 (Pure 2147483646) (Pure 2147483646))
-    ∷ (test_of 1 (negsuc 2147483645) 1 gives finds 1 (Pure 1) (Pure 1))
+    ∷ (test_of 0 (pos 0) 7 gives finds 0 None None)
+    ∷ (test_of 0 (pos 2147483647) 7 gives finds 0 None None)
+    ∷ (test_of 0 (negsuc 2147483646) 7 gives finds 0 None None)
+    ∷ (test_of 1 (pos 2147483646) 1 gives finds 2147483646 (Some 2147483646) (Some 2147483646))
+    ∷ (test_of 1 (negsuc 2147483645) 1 gives finds 1 (Some 1) (Some 1))
     -- fingerprints: a flow stands where its extended number does, and flows are 1 to 8388606
-    ∷ (position_of 1 2 K5-gives located (At 0))
-    ∷ (position_of 2 2 K5-gives located (At 0))
-    ∷ (position_of 1 17 K5-gives located (At 2))
-    ∷ (position_of 2 17 K5-gives located (At 1))
-    ∷ (position_of 1 8388606 K5-gives located (At 0))
+    ∷ (position_of 1 2 K5-gives located (Ok 0))
+    ∷ (position_of 2 2 K5-gives located (Ok 0))
+    ∷ (position_of 1 17 K5-gives located (Ok 2))
+    ∷ (position_of 2 17 K5-gives located (Ok 1))
+    ∷ (position_of 1 8388606 K5-gives located (Ok 0))
     ∷ (position_of 1 8388607 K5-gives located (Refused Flow 0))
     ∷ (position_of 1 0 K5-gives located (Refused Flow 0))
     ∷ (inserting S0 8388606 1 K5-gives says 0 0 SPM)
@@ -337,19 +333,19 @@ examples =
     ∷ (peeling SPM 10 80 K5-gives ends 1 1 1 0 (by 8388606 (pos 1) ∷ []) S0)
     -- as E1, E2 and E6
     ∷ (sketch_of_lem (by 7 (pos 1) ∷ by 17 (pos 2) ∷ []) K5-gives holds SP)
-    ∷ (test_of 2 (pos 3) 10711 K5-gives finds 1431659335 Impure Impure)
-    ∷ (test_of 7 (pos 1) 1807 K5-gives finds 1807 (Pure 1807) (Pure 1807))
+    ∷ (test_of 2 (pos 3) 10711 K5-gives finds 1431659335 None None)
+    ∷ (test_of 7 (pos 1) 1807 K5-gives finds 1807 (Some 1807) (Some 1807))
     ∷ (peeling SP 10 80 K5-gives ends 1 3 3 0 (by 17 (pos 2) ∷ by 7 (pos 1) ∷ []) S0)
     ∷ (peeling (sketch_of K5 (by 7 (negsuc 3) ∷ [])) 10 80 K5-gives ends 1 1 0 4 (by 7 (negsuc 3) ∷ []) S0)
     -- as E3: the two flows share both buckets. Their number, 7 * 256 + 143, stands there and passes in the plain profile; the fingerprint of flow 7 is 15
     ∷ (sketch_of_lem (by 2 (pos 1) ∷ by 12 (pos 1) ∷ []) K5-gives holds SP3)
-    ∷ (test_of 0 (pos 2) 3870 K5-gives finds 1935 (Pure 1935) Impure)
+    ∷ (test_of 0 (pos 2) 3870 K5-gives finds 1935 (Some 1935) None)
     ∷ (peeling SP3 10 80 K5-gives ends 2 2 0 0 [] SP3)
-    ∷ (test_of 0 (pos 2) 3870 gives finds 1935 (Pure 1935) (Pure 1935))
+    ∷ (test_of 0 (pos 2) 3870 gives finds 1935 (Some 1935) (Some 1935))
     ∷ (peeling SP3 10 10 gives ends 3 10 2 0 (by 1935 (pos 2) ∷ []) SP3')
     -- extended numbers whose last eight bits are right, of 0 and of 8388607, which are no flows
-    ∷ (test_of 2 (pos 1) 7 K5-gives finds 7 (Pure 7) Impure)
-    ∷ (test_of 1 (pos 1) 2147483436 K5-gives finds 2147483436 (Pure 2147483436) Impure)
+    ∷ (test_of 2 (pos 1) 7 K5-gives finds 7 (Some 7) None)
+    ∷ (test_of 1 (pos 1) 2147483436 K5-gives finds 2147483436 (Some 2147483436) None)
     -- a clean table need not be the only one that fits: flows 1 and 61 pass as flow 31
     ∷ (sketch_of_lem (by 1 (pos 1) ∷ by 61 (pos 1) ∷ []) K5-gives holds SP61)
     ∷ (sketch_of_lem (by 31 (pos 2) ∷ []) K5-gives holds SP61)

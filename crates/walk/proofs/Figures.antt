@@ -1,5 +1,6 @@
 -- The figures of a table: their difference is the sum of all counts, no count is larger than the figure that it adds to, and both together are small.
-use mathlib.Core.Path.{◌≡◌, refl, sym, ap, ap₂, ◌∙◌}
+use Rattle.std.proofs.Common.{rules}
+use mathlib.Core.Path.{◌≡◌, refl, sym, ap, ap₂}
 use mathlib.Core.Bool.{true}
 use mathlib.Core.List.{List, [], ◌∷◌, ◌++◌, map}
 use Prim.Native.Nat.{ℕ, zero, suc, ◌+◌, ◌*◌, ◌<◌, ◌≤◌}
@@ -42,10 +43,7 @@ all_weighted (e ∷ es) = ap₂ ◌+ℤ◌ (sym (times_one e.number)) (all_weigh
 
 -- of the entries of one list and the opposite ones of another it is the difference
 pub counts_less : (es gs : List Entry) → all_counts (es ++ negated gs) ≡ all_counts es -ℤ all_counts gs
-counts_less es gs =
-    all_weighted (es ++ negated gs)
-    ∙ weighted_append _ es (negated gs)
-    ∙ ap₂ ◌+ℤ◌ (sym (all_weighted es)) (weighted_negated _ gs ∙ ap neg_ℤ (sym (all_weighted gs)))
+counts_less es gs = search (rules, all_weighted, neg_ℤ, weighted_append, weighted_negated)
 
 -- lost less extra
 by_parts : (t : List Entry) → up (all_counts t) + extra_by t ≡ lost_by t + down (all_counts t)
@@ -54,8 +52,7 @@ by_parts [] = omega arith
 by_parts (e ∷ es) = omega (arith, by_parts es, up_down_add e.number (all_counts es))
 
 pub figures_differ : (t : List Entry) → pos (lost_by t) -ℤ pos (extra_by t) ≡ all_counts t
-figures_differ t =
-    omega (int, by_parts t, up_down_add (pos (lost_by t)) (neg_ℤ (pos (extra_by t))), up_neg (pos (extra_by t)), down_neg (pos (extra_by t)))
+figures_differ t = search (rules, by_parts, down_neg, int, neg_ℤ, up_down_add, up_neg)
 
 -- a part of entry i's count is within its sum
 pub shows : (part : ℤ → ℕ) (t : List Entry) (i : ℕ) (none : Entry) → i < length t → part (get_or t i none).number ≤ summed part t

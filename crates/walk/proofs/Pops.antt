@@ -1,37 +1,31 @@
 -- A walk makes no more pops than it is allowed, and all of them where it is spent.
-use mathlib.Core.Path.{◌≡◌, refl}
-use mathlib.Core.Bool.{Bool, true, false}
-use mathlib.Core.List.{List, [], ◌∷◌}
+use Rattle.std.proofs.Common.{rules}
+use mathlib.Core.Path.{◌≡◌}
+use mathlib.Core.Bool.{Bool}
+use mathlib.Core.List.{List}
 use Prim.Native.Nat.{ℕ, zero, suc, ◌+◌, ◌≤◌}
 use native.Mathlib.Omega.{arith}
 use Rattle.sketch.specs.Sketch.{Sketch}
 use Rattle.walk.specs.declared.Ending.{Ending}
-use Rattle.walk.specs.declared.Ending.TheVariants.{Clean, Stuck, Spent, Range, Full}
-use Rattle.walk.specs.Walk.{Rule, State, Move, stops, goes, Outcome, out, queued, nothing_remains, popped, before, after, run, walk}
-use Rattle.walk.proofs.Carried.{AtPop, out_of_range, table_full, Keeps, pop_keeps, apart}
+use Rattle.walk.specs.declared.Ending.TheVariants.{Spent}
+use Rattle.walk.specs.Walk.{Rule, State, Move, Outcome, out, queued, nothing_remains, popped, before, after, run, walk}
+use Rattle.walk.proofs.Carried.{Keeps, pop_keeps}
 
 -- all pops: those made before, and those allowed
 pub record Made (all : ℕ) (o : Outcome) : Type 0 where
   pub within : o.pops ≤ all
   pub spent : o.ending ≡ Spent → o.pops ≡ all
 
-at_pop : (R : Rule) (slots k : ℕ) (st : State) (e : Ending) → AtPop R slots k st e → e ≡ Spent → ⊥
-at_pop R slots k st e (out_of_range f o) = apart Range Spent refl
-at_pop R slots k st e (table_full f o) = apart Full Spent refl
-
 ended : (e : Ending) (all n : ℕ) (st : State) → n ≤ all → (e ≡ Spent → ⊥) → Made all (out e n st)
 ended e all n st l d = record { within = l; spent = λ x. absurd (d x) }
 
 tested : (b : Bool) (q : List ℕ) (all n : ℕ) (st : State) (pop : ℕ → List ℕ → Outcome) → n ≤ all → ((k : ℕ) (r : List ℕ) → Made all (pop k r)) → Made all (before b q n st pop)
 unfolding before
-tested true q all n st pop l h = ended Clean all n st l (apart Clean Spent refl)
-tested false [] all n st pop l h = ended Stuck all n st l (apart Stuck Spent refl)
-tested false (k ∷ q) all n st pop l h = h k q
+tested b q all n st pop l h = search rules
 
 moved : (R : Rule) (slots k : ℕ) (q : List ℕ) (m : Move) (all n : ℕ) (st : State) (next : State → Outcome) → n ≤ all → Keeps R slots k (queued st q) (λ st. Unit {0}) m → ((st : State) → Made all (next st)) → Made all (after m n st next)
 unfolding after
-moved R slots k q (stops e) all n st next l i h = ended e all n st l (at_pop R slots k (queued st q) e i)
-moved R slots k q (goes st') all n st next l i h = h st'
+moved R slots k q m all n st next l i h = search rules
 
 run_made : (R : Rule) (slots all a n : ℕ) (st : State) → n + a ≡ all → Made all (run R slots a n st)
 unfolding run

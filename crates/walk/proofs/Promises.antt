@@ -1,5 +1,6 @@
 -- What every walk over a sketch with parameters P keeps, by the definition of the walk alone: the promises of peeling.
-use mathlib.Core.Path.{◌≡◌, sym, ap, subst, ◌∙◌}
+use Rattle.std.proofs.Common.{rules}
+use mathlib.Core.Path.{◌≡◌, sym, ap, ◌∙◌}
 use mathlib.Core.Bool.{true, false, not, true≢false}
 use mathlib.Core.List.{List, [], ◌∷◌}
 use Prim.Native.Nat.{ℕ, ◌+◌, ◌*◌, ◌<◌, ◌≤◌}
@@ -25,11 +26,10 @@ use Rattle.params.proofs.Extended.{tells_flow, told_once, told_zero}
 use Rattle.buckets.proofs.Idsums.{prime_pos}
 use Rattle.buckets.proofs.Limits.{whole, whole_back}
 use Rattle.walk.specs.declared.Ending.TheVariants.{Clean, Stuck, Spent}
-use Rattle.walk.specs.declared.Found.TheVariants.{Pure}
 use Rattle.walk.specs.Endings.{ending_number}
 use Rattle.walk.specs.Walk.{Rule, Outcome, all, nothing_remains, first_queue, walk, close, closed_table, lost_of, extra_of}
 use Rattle.buckets.specs.Buckets.{is_zero}
-use Rattle.walk.specs.Purity.{wide_test, only_if, pure_test, rule_of}
+use Rattle.walk.specs.Purity.{wide_test, pure_test, rule_of}
 use Rattle.walk.specs.Shown.{tell, shown_table}
 use Rattle.walk.proofs.Numbers.{ending_by_number}
 use Rattle.buckets.proofs.Zeros.{is_zero_lem, not_zero}
@@ -49,14 +49,14 @@ use Rattle.walk.proofs.Figures as figures
 use Rattle.walk.proofs.Figures.{all_counts, told_counts}
 use Rattle.walk.proofs.ArrayTotals.{array_total, total_balance, same_counts}
 use Rattle.walk.proofs.TableFacts.{Listed, listed as table_facts}
+use Rattle.std.specs.Prelude.{Some}
 
 -- every count and every idsum is 0
 abbrev pub Nothing : Sketch → Type 0
 Nothing S = (k : ℕ) → (count_in S k ≡ pos 0) × (idsum_in S k ≡ 0)
 
 idsum_below : (P : Params) (S : Sketch) → Whole P S → (k : ℕ) → Dec (k < length S.idsums) → idsum_in S k < prime_of P
-idsum_below P S w k (yes l) = (whole (count_in S k) (idsum_in S k) (w.undamaged k (omega (arith, w.idsums_long)))).1
-idsum_below P S w k (no l) = rw (get_or-eq_default S.idsums 0 {n = k} (omega arith)) prime_pos
+idsum_below P S w k h = search (rules, get_or-eq_default, prime_pos, whole)
 
 counts_within : (P : Params) (S : Sketch) → Whole P S → Within (rule_of P) (size P) (by_arrays P) S
 counts_within P S w = record { long = w.counts_long; limits = λ k l. (whole (count_in S k) (idsum_in S k) (w.undamaged k l)).0 }
@@ -85,8 +85,7 @@ module _ (P : Params) (slots allowance : ℕ) (S : Sketch) where
 
   -- the outcome is that of the walk by the scope's test
   pub by_scope_test : Whole P S → outcome ≡ walk (scope_rule P) slots allowance S
-  by_scope_test w =
-      same_walk (rule_of P) (scope_rule P).test (λ k c s l. ap (only_if (is_sketched P)) (test_within (prime_of P) (sketched_stands P) k c s (omega arith) l)) (size P) (by_arrays P) slots allowance S (counts_within P S w)
+  by_scope_test w = search (rules, counts_within, same_walk, test_within)
 
   in_balance : Whole P S → Balanced (rule_of P) S outcome.remainder closed
   in_balance w = balanced_closed (balanced (rule_of P) (sound P) S slots allowance (λ k. idsum_below P S w k (dec_lt k (length S.idsums))))
@@ -125,7 +124,7 @@ module _ (P : Params) (slots allowance : ℕ) (S : Sketch) where
   pub stuck_remains : ending_number outcome.ending ≡ 2 → Nothing outcome.remainder → ⊥
   stuck_remains e n = omega (arith, clean_if n)
 
-  pub stuck_only : Whole P S → ending_number outcome.ending ≡ 2 → (k f : ℕ) → k < size P → pure_test P k (count_in outcome.remainder k) (idsum_in outcome.remainder k) ≡ Pure f → ⊥
+  pub stuck_only : Whole P S → ending_number outcome.ending ≡ 2 → (k f : ℕ) → k < size P → pure_test P k (count_in outcome.remainder k) (idsum_in outcome.remainder k) ≡ Some f → ⊥
   stuck_only w e = None_passes (rule_of P) (sound P) (size P) (by_arrays P) slots allowance S w.counts_long w.idsums_long (ending_by_number outcome.ending Stuck e)
 
   -- so where a count remains, the one number of its bucket is not sketched for any flow, or does not stand there
@@ -142,16 +141,14 @@ module _ (P : Params) (slots allowance : ℕ) (S : Sketch) where
       never : sketched_stands P (flow (prime_of P) c s) k ≡ true → ⊥
       never h =
           let i = (whole c s ((remainder_whole w).undamaged k l)).0 in
-          let passes : wide_test P k c s ≡ Pure (flow (prime_of P) c s) = test_within (prime_of P) (sketched_stands P) k c s (omega arith) i ∙ rw (not_zero c d, h) in
+          let passes : wide_test P k c s ≡ Some (flow (prime_of P) c s) = test_within (prime_of P) (sketched_stands P) k c s (omega arith) i ∙ rw (not_zero c d, h) in
           stuck_only w e k (flow (prime_of P) c s) l (pure_if_sketched P k c s (flow (prime_of P) c s) passes of_flow)
 
   -- the sketch of flow 0 alone is stuck where a pop of each bucket with a count is allowed: these are made, nothing is listed, and all of it remains
   pub flow_zero_stuck : Dimensions P → (n : ℤ) → (n ≡ pos 0 → ⊥) → S ≡ sketch_of P (by 0 n ∷ []) → length (first_queue 0 S.counts) ≤ allowance
       → (ending_number outcome.ending ≡ 2) × (outcome.pops ≡ length (first_queue 0 S.counts)) × (listed ≡ []) × (outcome.remainder ≡ S)
   unfolding close
-  flow_zero_stuck h n nonzero s l =
-      let q = ap (walk (rule_of P) slots allowance) s ∙ flow_zero_untaken P n h nonzero slots allowance (subst (λ (T : Sketch). length (first_queue 0 T.counts) ≤ allowance) s l) in
-      (ap (λ o. ending_number o.ending) q, ap (λ o. o.pops) q ∙ ap (λ (T : Sketch). length (first_queue 0 T.counts)) (sym s), ap (shown_table P) q, ap (λ o. o.remainder) q ∙ sym s)
+  flow_zero_stuck h n nonzero s l = search (rules, flow_zero_untaken)
 
   -- never more pops than allowed
   pub pops_within : outcome.pops ≤ allowance
@@ -215,9 +212,7 @@ module _ (P : Params) (slots allowance : ℕ) (S : Sketch) where
 
   -- in every array, what the remaining counts add up to, with lost less extra, is what the counts of the input add up to
   pub totals : Whole P S → Dimensions P → (i : ℕ) → 1 ≤ i → i ≤ P.d → array_total P i outcome.remainder +ℤ (pos (lost_of outcome) -ℤ pos (extra_of outcome)) ≡ array_total P i S
-  totals w h i l u =
-      ap (◌+ℤ◌ (array_total P i outcome.remainder)) figures_differ
-      ∙ total_balance P h i l u S outcome.remainder listed (count_back P S outcome.remainder closed closed_sketched w.counts_long w.idsums_long (in_balance w))
+  totals w h i l u = search (rules, array_total, closed_sketched, count_back, figures_differ, in_balance, total_balance)
 
   -- so after a clean end lost less extra is the sum of all numbers of any list whose sketch was peeled
   pub clean_total : Whole P S → Dimensions P → ending_number outcome.ending ≡ 1 → (es : List Entry) → S ≡ sketch_of P es → pos (lost_of outcome) -ℤ pos (extra_of outcome) ≡ all_counts es

@@ -1,12 +1,13 @@
 -- What a walk leaves of a sketch with every count within the limits has every count within the limits, by a rule that places flows by its arrays.
-use mathlib.Core.Path.{◌≡◌, refl, ap, subst, ◌∙◌}
-use mathlib.Core.Bool.{Bool, true, false, cond}
+use Rattle.std.proofs.Common.{rules}
+use mathlib.Core.Path.{◌≡◌}
+use mathlib.Core.Bool.{true}
 use Prim.Native.Nat.{ℕ, zero, suc, ◌<◌, ◌≤◌}
 use native.Mathlib.Omega.{arith}
 use lib.IntN.{ℤ, ◌+ℤ◌, ◌-ℤ◌}
 use lib.ListN.{length}
 use Rattle.buckets.specs.Buckets.{in_limits}
-use Rattle.sketch.specs.Sketch.{Sketch, count_in, idsum_in}
+use Rattle.sketch.specs.Sketch.{Sketch, count_in}
 use Rattle.params.proofs.Searches.{and_true, below_at}
 use Rattle.walk.specs.Walk.{Rule, State, queued, entry_of, in_range, taken, walk}
 use Rattle.walk.proofs.Carried.{Takeable, taken_at, carried}
@@ -26,23 +27,7 @@ module _ (R : Rule) (size : ℕ) (by_arrays : ByArrays R) where
 
   pub taken_keeps : (slots k f : ℕ) (st : State) → Within st.held → Takeable R slots k f st → Within (taken_at R k f st).held
   unfolding taken
-  taken_keeps slots k f st h t =
-      record {
-        long = less_counts R f c s st.held ∙ h.long;
-        limits = λ j l. ap in_limits (less_count R f c s st.held j (omega (arith, h.long))) ∙ go j l (R.stands f j) refl;
-      }
-    where
-      c : ℤ
-      c = count_in st.held k
-
-      s : ℕ
-      s = idsum_in st.held k
-
-      go : (j : ℕ) → j < size → (b : Bool) → R.stands f j ≡ b → in_limits (cond b (count_in st.held j -ℤ c) (count_in st.held j)) ≡ true
-      go j l true w =
-          let a = by_arrays.array j f w in
-          subst (λ (j : ℕ). in_limits (count_in st.held j -ℤ c) ≡ true) a.3 (bucket_within R f c st a.0 t.range a.1 a.2)
-      go j l false w = h.limits j l
+  taken_keeps slots k f st h t = search (rules, bucket_within, less_count, less_counts)
 
   pub within : (slots allowance : ℕ) (S : Sketch) → Within S → Within (walk R slots allowance S).remainder
   unfolding walk

@@ -1,4 +1,5 @@
 -- Lists of entries in rising position in array 1: a list in which no two share a bucket there can be brought into that order. What a rearrangement keeps; and the first queue of such a list's sketch, which begins with the buckets of its flows in array 1.
+use Rattle.std.proofs.Common.{rules}
 use mathlib.Core.Path.{◌≡◌, refl, sym, ap, ap₂, subst, ◌∙◌}
 use mathlib.Core.Bool.{Bool, true, false, not, cond, ◌&&◌}
 use mathlib.Core.List.{List, [], ◌∷◌, ◌++◌, map}
@@ -36,9 +37,7 @@ itself (e ∷ es) = keeping e (itself es)
 
 -- what a rearrangement keeps: a test of every entry, their number, sums over them, and what is done with each
 and_swap : (a b c : Bool) → (a && (b && c)) ≡ (b && (a && c))
-and_swap true b c = refl
-and_swap false true c = refl
-and_swap false false c = refl
+and_swap a b c = search rules
 
 pub all_rearranged : (t : Entry → Bool) {es gs : List Entry} → Rearranged es gs → all t es ≡ all t gs
 unfolding all

@@ -1,4 +1,5 @@
 -- A walk by a sound rule that places flows by its arrays is stuck only where no bucket of the remainder passes the test.
+use Rattle.std.proofs.Common.{rules}
 use mathlib.Core.Path.{◌≡◌, refl, sym, ap, ap₂, subst, ◌∙◌}
 use mathlib.Core.Bool.{Bool, true, false, true≢false}
 use mathlib.Core.List.{List, ◌∷◌}
@@ -9,14 +10,13 @@ use lib.IntN.{ℤ}
 use lib.ListN.{length}
 use Rattle.sketch.specs.Sketch.{Sketch, count_in, idsum_in}
 use Rattle.walk.specs.declared.Ending.TheVariants.{Stuck}
-use Rattle.walk.specs.declared.Found.TheVariants.{Impure, Pure}
 use Rattle.walk.specs.Walk.{Rule, State, Outcome, queued, less, waits, requeue, taken, walk}
 use Rattle.buckets.specs.Buckets.{is_zero}
-use Rattle.buckets.proofs.Zeros.{zero_is}
 use Rattle.walk.proofs.Carried.{found, taken_at, carried}
 use Rattle.walk.proofs.Lessened.{less_counts, less_idsums, less_count, less_idsum}
 use Rattle.walk.proofs.Waiting.{none_waits, waits_behind, requeue_keeps, requeue_adds, starts}
 use Rattle.walk.proofs.Balance.{Sound}
+use Rattle.std.specs.Prelude.{None, Some}
 
 -- a bucket in which a flow stands is the flow's bucket in one of the arrays
 pub record ByArrays (R : Rule) : Type 0 where
@@ -27,26 +27,19 @@ module _ (R : Rule) (sound : Sound R) (size : ℕ) (by_arrays : ByArrays R) wher
   record Waiting (st : State) : Type 0 where
     counts_long : length st.held.counts ≡ size
     idsums_long : length st.held.idsums ≡ size
-    pure_waits : (k f : ℕ) → k < size → found R k st.held ≡ Pure f → waits k st.queue ≡ true
+    pure_waits : (k f : ℕ) → k < size → found R k st.held ≡ Some f → waits k st.queue ≡ true
 
-  never : (k f : ℕ) (S : Sketch) → found R k S ≡ Pure f → found R k S ≡ Impure → ⊥
+  never : (k f : ℕ) (S : Sketch) → found R k S ≡ Some f → found R k S ≡ None → ⊥
   never k f S p q = let z : ◌≡◌ {A = ℕ} 0 1 = cc in omega arith
 
   -- what passes has a count
-  passes : (k f : ℕ) (S : Sketch) (b : Bool) → is_zero (count_in S k) ≡ b → found R k S ≡ Pure f → b ≡ false
-  passes k f S true z p = absurd (never k f S p (ap (λ (c : ℤ). R.test k c (idsum_in S k)) (zero_is (count_in S k) z) ∙ sound.empty k (idsum_in S k)))
-  passes k f S false z p = refl
+  passes : (k f : ℕ) (S : Sketch) (b : Bool) → is_zero (count_in S k) ≡ b → found R k S ≡ Some f → b ≡ false
+  passes k f S b z p = search rules
 
-  impure_keeps : (k : ℕ) (q : List ℕ) (st : State) → Waiting st → st.queue ≡ k ∷ q → found R k st.held ≡ Impure → Waiting (queued st q)
-  impure_keeps k q st h e x =
-      record {
-        counts_long = h.counts_long;
-        idsums_long = h.idsums_long;
-        pure_waits = λ j f l p.
-            waits_behind j k q (λ y. never j f st.held p (subst (λ (k : ℕ). found R k st.held ≡ Impure) y x)) (subst (λ (q : List ℕ). waits j q ≡ true) e (h.pure_waits j f l p));
-      }
+  impure_keeps : (k : ℕ) (q : List ℕ) (st : State) → Waiting st → st.queue ≡ k ∷ q → found R k st.held ≡ None → Waiting (queued st q)
+  impure_keeps k q st h e x = search (rules, found, never, waits_behind)
 
-  taken_keeps : (k f : ℕ) (q : List ℕ) (st : State) → Waiting st → st.queue ≡ k ∷ q → found R k st.held ≡ Pure f → Waiting (taken_at R k f (queued st q))
+  taken_keeps : (k f : ℕ) (q : List ℕ) (st : State) → Waiting st → st.queue ≡ k ∷ q → found R k st.held ≡ Some f → Waiting (taken_at R k f (queued st q))
   unfolding taken
   taken_keeps k f q st h e x =
       record {
@@ -73,7 +66,7 @@ module _ (R : Rule) (sound : Sound R) (size : ℕ) (by_arrays : ByArrays R) wher
           (less_count R f c s st.held j (omega (arith, h.counts_long)) ∙ rw w)
           (less_idsum R f c s st.held j (omega (arith, h.idsums_long)) ∙ rw w)
 
-      go : (j g : ℕ) → j < size → (b : Bool) → R.stands f j ≡ b → found R j S ≡ Pure g → waits j (requeue at S 1 R.arrays q) ≡ true
+      go : (j g : ℕ) → j < size → (b : Bool) → R.stands f j ≡ b → found R j S ≡ Some g → waits j (requeue at S 1 R.arrays q) ≡ true
       -- in one of f's buckets
       go j g l true w p =
           let a = by_arrays.array j f w in
@@ -88,7 +81,7 @@ module _ (R : Rule) (sound : Sound R) (size : ℕ) (by_arrays : ByArrays R) wher
 
   -- where the walk is stuck, no bucket passes the test
   abbrev pub NonePasses : Outcome → Type 0
-  NonePasses o = o.ending ≡ Stuck → (k f : ℕ) → k < size → found R k o.remainder ≡ Pure f → ⊥
+  NonePasses o = o.ending ≡ Stuck → (k f : ℕ) → k < size → found R k o.remainder ≡ Some f → ⊥
 
   pub stuck_only : (slots allowance : ℕ) (S : Sketch) → length S.counts ≡ size → length S.idsums ≡ size → NonePasses (walk R slots allowance S)
   unfolding walk

@@ -1,5 +1,6 @@
 -- A walk over the sketch of a list that is sure takes the list's flows in rising position in array 1, one with each pop, and ends clean.
-use mathlib.Core.Path.{◌≡◌, refl, sym, ap, ap₂, subst, ◌∙◌, fun_ext}
+use Rattle.std.proofs.Common.{rules}
+use mathlib.Core.Path.{◌≡◌, refl, sym, ap, ap₂, subst, ◌∙◌}
 use mathlib.Core.Bool.{Bool, true, false, not, cond, ◌||◌, true≢false}
 use mathlib.Core.List.{List, [], ◌∷◌, ◌++◌, map, append-nil, append_assoc}
 use Prim.Native.Nat.{ℕ, zero, suc, ◌+◌, ◌≤◌, ◌<◌}
@@ -12,7 +13,6 @@ use Rattle.field.specs.Residue.{residue}
 use Rattle.field.specs.Parts.{up, down}
 use Rattle.field.proofs.Residues.{residue_below, residue_zero}
 use Rattle.params.specs.declared.params.Params.{Params}
-use Rattle.params.specs.Lists.{from}
 use Rattle.params.specs.Params.{prime_of, size, is_flow, Dimensions}
 use Rattle.params.specs.Sketched.{sketched}
 use Rattle.params.specs.Positions.{stand, bucket_of, stands}
@@ -24,14 +24,13 @@ use Rattle.buckets.specs.Buckets.{in_limits, is_zero}
 use Rattle.buckets.proofs.Idsums.{prime_pos, idsum_plus_minus_both}
 use Rattle.buckets.proofs.Limits.{limits_size, whole_back}
 use Rattle.buckets.proofs.Zeros.{is_zero_lem}
-use Rattle.sketch.specs.Sketch.{Sketch, sketch, count_in, idsum_in, Entry, by, count_at, weight_at, sketch_of, zeros}
+use Rattle.sketch.specs.Sketch.{Sketch, count_in, idsum_in, Entry, by, count_at, weight_at, sketch_of, zeros}
 use Rattle.sketch.proofs.Tables.{length_from, from_at, touched_from}
 use Rattle.sketch.proofs.Whole.{Whole}
 use Rattle.sums.specs.History.{Rearranged}
 use Rattle.sums.proofs.NetCounts.{order_free}
 use Rattle.sums.proofs.Histories.{zeros_are}
 use Rattle.walk.specs.declared.Ending.TheVariants.{Clean}
-use Rattle.walk.specs.declared.Found.TheVariants.{Pure}
 use Rattle.walk.specs.Walk.{State, goes, Outcome, all, any, nothing_remains, less, has, waits, requeue, in_range, has_room, taken, takes, follows, popped, before, after, run, first_queue, walk, close, summed}
 use Rattle.walk.specs.Purity.{pure_test, rule_of}
 use Rattle.walk.specs.Shown.{tell}
@@ -43,6 +42,7 @@ use Rattle.walk.proofs.Figures.{told_summed}
 use Rattle.walk.proofs.Bounds.{part_at, part_is, count_within, losses_sure}
 use Rattle.walk.proofs.Purity.{pure_exactly}
 use Rattle.walk.proofs.Rising.{all_rearranged, length_rearranged, summed_rearranged, map_rearranged, in_rising_same, in_rising_rises, rises_few, rises_past, position_below, stands_there, alone_count, alone_weight, queue_begins}
+use Rattle.std.specs.Prelude.{Some}
 
 -- what queues again stands behind what waits
 module _ (at : ℕ → ℕ) (S : Sketch) where
@@ -62,8 +62,7 @@ back : (z y : ℤ) → (z +ℤ y) -ℤ z ≡ y
 back z y = ap (λ (x : ℤ). x -ℤ z) (+ℤ_comm z y) ∙ +ℤ-neg_ℤ_cancel y z
 
 count_left : (b : Bool) (c y : ℤ) → cond b ((cond b c (pos 0) +ℤ y) -ℤ c) (cond b c (pos 0) +ℤ y) ≡ y
-count_left true c y = back c y
-count_left false c y = +ℤ_idl y
+count_left b c y = search rules
 
 -- the same modulo the prime
 module _ (P : Params) where
@@ -80,11 +79,7 @@ module _ (P : Params) where
   less_first : (g : Entry) (gs : List Entry)
       → less (rule_of P) (sketched P g.flow) g.number (residue (prime_of P) (g.number *ℤ pos (sketched P g.flow))) (sketch_of P (g ∷ gs)) ≡ sketch_of P gs
   unfolding less sketch_of count_at weight_at
-  less_first g gs =
-      ap₂ sketch
-      (touched_from (size P) (stands P g.flow) _ (count_at P (g ∷ gs)) ∙ ap (from 0 (size P)) (fun_ext (λ k. count_left (stands P g.flow k) g.number (count_at P gs k))))
-      (touched_from (size P) (stands P g.flow) _ (λ k. residue (prime_of P) (weight_at P (g ∷ gs) k))
-      ∙ ap (from 0 (size P)) (fun_ext (λ k. idsum_left (stands P g.flow k) (g.number *ℤ pos (sketched P g.flow)) (weight_at P gs k))))
+  less_first g gs = search (rules, count_left, idsum_left, touched_from)
 
 -- what is listed of what is sketched shows the list again
 shown_back : (P : Params) (gs : List Entry) → all_nonzero gs ≡ true → map (tell P) (close (map (as_sketched P) gs)) ≡ gs
@@ -155,17 +150,12 @@ module _ (P : Params) (h : Dimensions P) where
     c_nonzero : c ≡ pos 0 → ⊥
     c_nonzero e = true≢false (sym (is_zero_lem c e) ∙ not-true _ is_nonzero.0)
 
-    pure_is : pure_test P k c s ≡ Pure f
-    pure_is =
-        (pure_exactly P k c s f within (residue_below (prime_of P) prime_pos _)).1
-        (record { nonzero = c_nonzero; below = sketched_below P g.flow is_flow_lem.0; solves = refl; there = stands_there P h g; passes = sketched_is P g.flow is_flow_lem.0 })
+    pure_is : pure_test P k c s ≡ Some f
+    pure_is = search (rules, c_nonzero, is_flow_lem, prime_pos, pure_exactly, residue_below, sketched_below, sketched_is, stands_there, within)
 
     left_small : (j : ℕ) → j < size P → (part_at P up gs j ≤ 2147483646) × (part_at P down gs j ≤ 2147483646)
     unfolding part_at
-    left_small j i =
-        let lost : part_at P up (g ∷ gs) j ≤ 2147483646 = (l.small j i).0 in
-        let extra : part_at P down (g ∷ gs) j ≤ 2147483646 = (l.small j i).1 in
-        (omega (arith, lost), omega (arith, extra))
+    left_small j i = search rules
 
     -- the take is within the range: what it leaves in a bucket is the sum of the others' numbers there
     left_within : (j : ℕ) → j < size P → stands P g.flow j ≡ true → in_limits (count_in (sketch_of P (g ∷ gs)) j -ℤ c) ≡ true
@@ -178,10 +168,7 @@ module _ (P : Params) (h : Dimensions P) where
 
     range_is : (q : List ℕ) → in_range (rule_of P) f c (record { held = sketch_of P (g ∷ gs); queue = q; table = t }) ≡ true
     unfolding in_range
-    range_is q =
-        both_true _ _
-        (all_below P.d _ (λ i u. left_within (bucket_of P (suc i) f) (bucket_below P (suc i) f h (omega arith) (omega arith)) (stands_in_bucket P f (suc i) h (omega arith) (omega arith))))
-        (ap in_limits (ap (λ (z : ℤ). z +ℤ c) (entry_none f t is_unlisted.0) ∙ +ℤ_idl c) ∙ within)
+    range_is q = search (rules, all_below, both_true, bucket_below, entry_none, is_unlisted, left_within, stands_in_bucket, within)
 
     room_is : (slots : ℕ) → length t < slots → has_room slots f t ≡ true
     unfolding has_room
@@ -189,11 +176,7 @@ module _ (P : Params) (h : Dimensions P) where
 
     popped_is : (slots : ℕ) (q : List ℕ) → length t < slots → let st : State = record { held = sketch_of P (g ∷ gs); queue = q; table = t } in popped (rule_of P) slots k st ≡ goes (taken (rule_of P) f c s st)
     unfolding popped follows takes
-    popped_is slots q u =
-        let st : State = record { held = sketch_of P (g ∷ gs); queue = q; table = t } in
-        ap₂ (λ (c : ℤ) (s : ℕ). follows (rule_of P) slots c s st (pure_test P k c s)) count_is idsum_is
-        ∙ ap (follows (rule_of P) slots c s st) pure_is
-        ∙ rw (range_is q, room_is slots u)
+    popped_is slots q u = search (rules, count_is, idsum_is, pure_is, range_is, room_is)
 
     -- what it leaves
     abbrev listed : List Entry
@@ -306,9 +289,7 @@ module _ (P : Params) (h : Dimensions P) (es : List Entry) (sure : Sure P es) wh
       (q.0, ap (λ (S : Sketch). first_queue 0 S.counts) (order_free P same) ∙ q.1)
 
   pub a_bucket_each : length es ≤ length (first_queue 0 (sketch_of P es).counts)
-  a_bucket_each =
-      let q = queue in
-      omega (arith, ap length q.1, length-append (map (first_position P) rising) q.0, length-map rising (first_position P), length_rearranged same)
+  a_bucket_each = search (rules, length-append, length-map, length_rearranged, queue, same)
 
   pub few_flows : length es ≤ P.m
   few_flows = omega (arith, length_rearranged same, rises_few P 0 rising (omega arith) (position_below P h) (in_rising_rises P es sure.own))

@@ -1,5 +1,6 @@
 -- A walk over a sketch of which something remains and no bucket passes the test takes nothing: it pops each bucket with a count once and is stuck, where so many pops are allowed. The sketch of flow 0 alone is such a one.
-use mathlib.Core.Path.{◌≡◌, refl, sym, ap, ◌∙◌}
+use Rattle.std.proofs.Common.{rules}
+use mathlib.Core.Path.{◌≡◌, sym, ap, ◌∙◌}
 use mathlib.Core.Bool.{Bool, true, false, cond}
 use mathlib.Core.List.{List, [], ◌∷◌}
 use Prim.Native.Nat.{ℕ, zero, suc, ◌+◌, ◌≤◌, ◌<◌}
@@ -8,14 +9,14 @@ use native.Mathlib.Nat.{zero-add}
 use native.Mathlib.Omega.{arith}
 use lib.IntN.{ℤ, pos, ◌+ℤ◌, ◌*ℤ◌, +ℤ_idr}
 use lib.ListN.{length, get_or-eq_default}
-use Rattle.field.specs.Residue.{residue, is_multiple}
+use Rattle.field.specs.Residue.{residue}
 use Rattle.field.proofs.Primes.{prime_31}
 use Rattle.field.proofs.Residues.{residue_below}
 use Rattle.field.proofs.OneFlow.{the_flow}
 use Rattle.params.specs.declared.params.Params.{Params}
 use Rattle.params.specs.Lists.{from}
 use Rattle.params.specs.Params.{prime_of, size, Dimensions}
-use Rattle.params.specs.Sketched.{sketched, told}
+use Rattle.params.specs.Sketched.{sketched}
 use Rattle.params.specs.Positions.{index, stands}
 use Rattle.params.proofs.Searches.{cannot_hold}
 use Rattle.params.proofs.Extended.{told_sketched, zero_below}
@@ -23,15 +24,15 @@ use Rattle.params.proofs.Indexes.{bucket_below, stands_in_bucket}
 use Rattle.sketch.specs.Sketch.{Sketch, by, count_in, idsum_in, count_at, weight_at, sketch_of}
 use Rattle.sketch.proofs.Tables.{length_from, from_at}
 use Rattle.walk.specs.declared.Ending.TheVariants.{Stuck}
-use Rattle.walk.specs.declared.Found.TheVariants.{Impure}
 use Rattle.walk.specs.Walk.{Rule, State, out, nothing_remains, follows, popped, before, after, run, first_queue, walk}
 use Rattle.walk.specs.Purity.{test_in, pure_test, rule_of}
 use Rattle.walk.proofs.Alls.{nothing_count}
 use Rattle.buckets.proofs.Idsums.{prime_pos}
 use Rattle.walk.proofs.Purity.{some_residue, sound, zero_not_pure}
+use Rattle.std.specs.Prelude.{None}
 
 -- something remains of S, and no bucket of it passes the test
-module _ (R : Rule) (slots : ℕ) (S : Sketch) (some : nothing_remains S ≡ false) (none : (k : ℕ) → R.test k (count_in S k) (idsum_in S k) ≡ Impure) where
+module _ (R : Rule) (slots : ℕ) (S : Sketch) (some : nothing_remains S ≡ false) (none : (k : ℕ) → R.test k (count_in S k) (idsum_in S k) ≡ None) where
   abbrev at : List ℕ → State
   at q = record { held = S; queue = q; table = [] }
 
@@ -48,25 +49,16 @@ module _ (R : Rule) (slots : ℕ) (S : Sketch) (some : nothing_remains S ≡ fal
 
 -- a bucket of n packets of flow 0 is not pure: what is sketched for it tells flow 0 again
 module _ (P : Params) where
-  zero_impure : (k : ℕ) (n : ℤ) → pure_test P k n (residue (prime_of P) (n *ℤ pos (sketched P 0))) ≡ Impure
+  zero_impure : (k : ℕ) (n : ℤ) → pure_test P k n (residue (prime_of P) (n *ℤ pos (sketched P 0))) ≡ None
   unfolding test_in
-  zero_impure k n = go (is_multiple (prime_of P) n) refl
-    where
-      s : ℕ
-      s = residue (prime_of P) (n *ℤ pos (sketched P 0))
-
-      go : (b : Bool) → is_multiple (prime_of P) n ≡ b → pure_test P k n s ≡ Impure
-      go true e = rw e
-      go false e =
-          let only = (the_flow (prime_of P) prime_31 n (some_residue (prime_of P) n e) s (residue_below (prime_of P) prime_pos _)).only in
-          zero_not_pure P k n s (ap (told P) (sym (only (sketched P 0) (zero_below P) refl)) ∙ told_sketched P 0)
+  zero_impure k n = search (rules, prime_31, prime_pos, residue_below, some_residue, the_flow, told_sketched, zero_below, zero_not_pure)
 
 -- the sketch of n packets of flow 0
 module _ (P : Params) (n : ℤ) where
   abbrev of_flow_zero : Sketch
   of_flow_zero = sketch_of P (by 0 n ∷ [])
 
-  none_pure : (k : ℕ) → pure_test P k (count_in of_flow_zero k) (idsum_in of_flow_zero k) ≡ Impure
+  none_pure : (k : ℕ) → pure_test P k (count_in of_flow_zero k) (idsum_in of_flow_zero k) ≡ None
   unfolding sketch_of count_at weight_at
   none_pure k = go (dec_lt k (size P))
     where
@@ -77,11 +69,11 @@ module _ (P : Params) (n : ℤ) where
       idsums j = residue (prime_of P) (cond (stands P 0 j) (n *ℤ pos (sketched P 0)) (pos 0) +ℤ pos 0)
 
       -- where it stands, and elsewhere
-      at : (b : Bool) → pure_test P k (cond b n (pos 0) +ℤ pos 0) (residue (prime_of P) (cond b (n *ℤ pos (sketched P 0)) (pos 0) +ℤ pos 0)) ≡ Impure
+      at : (b : Bool) → pure_test P k (cond b n (pos 0) +ℤ pos 0) (residue (prime_of P) (cond b (n *ℤ pos (sketched P 0)) (pos 0) +ℤ pos 0)) ≡ None
       at true = rw (+ℤ_idr n, +ℤ_idr (n *ℤ pos (sketched P 0))) (zero_impure P k n)
       at false = (sound P).empty k _
 
-      go : Dec (k < size P) → pure_test P k (count_in of_flow_zero k) (idsum_in of_flow_zero k) ≡ Impure
+      go : Dec (k < size P) → pure_test P k (count_in of_flow_zero k) (idsum_in of_flow_zero k) ≡ None
       go (yes l) = rw (from_at (size P) counts k (pos 0) l, from_at (size P) idsums k 0 l) (at (stands P 0 k))
       go (no l) = rw (get_or-eq_default (from 0 (size P) counts) (pos 0) {n = k} (omega (arith, length_from 0 (size P) counts))) ((sound P).empty k _)
 

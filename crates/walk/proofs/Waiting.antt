@@ -1,10 +1,11 @@
 -- Which buckets wait in a queue: after one joined, after a take's buckets were queued again, and at the start.
+use Rattle.std.proofs.Common.{rules}
 use mathlib.Core.Path.{◌≡◌, refl, sym}
 use mathlib.Core.Bool.{Bool, true, false, cond, ◌||◌, true≢false}
 use mathlib.Core.List.{List, [], ◌∷◌, ◌++◌}
 use Prim.Native.Nat.{ℕ, zero, suc, ◌+◌, ◌<◌, ◌≤◌}
 use native.Mathlib.Decide.{dec_lt}
-use native.Mathlib.Nat.{add-zero, add-suc, suc-add}
+use native.Mathlib.Nat.{add-zero}
 use native.Mathlib.Omega.{arith}
 use borrow.Author.Tests.{eq-eqb, ne_eqb}
 use lib.Dec.{eqb}
@@ -15,8 +16,7 @@ use Rattle.walk.specs.Walk.{any, waits, join, requeue, first_queue}
 use Rattle.buckets.specs.Buckets.{is_zero}
 
 pub or_true : (s t : Bool) → t ≡ true → (s || t) ≡ true
-or_true true t e = refl
-or_true false t e = e
+or_true s t e = search rules
 
 pub none_waits : (k : ℕ) → waits k [] ≡ true → ⊥
 unfolding waits any
@@ -39,11 +39,7 @@ waits_behind k j q d e = rw (ne_eqb j k d) at e
 appended : (k j : ℕ) (q : List ℕ) → waits k q ≡ true → waits k (q ++ (j ∷ [])) ≡ true
 unfolding waits any
 appended k j [] e = absurd (true≢false (sym e))
-appended k j (i ∷ q) e = go (eqb i k) e (appended k j q)
-  where
-    go : (b : Bool) → (b || waits k q) ≡ true → (waits k q ≡ true → waits k (q ++ (j ∷ [])) ≡ true) → (b || waits k (q ++ (j ∷ []))) ≡ true
-    go true e ih = refl
-    go false e ih = ih e
+appended k j (i ∷ q) e = search (rules, appended k j q)
 
 last_waits : (k : ℕ) (q : List ℕ) → waits k (q ++ (k ∷ [])) ≡ true
 unfolding waits any
@@ -51,18 +47,10 @@ last_waits k [] = first_waits k []
 last_waits k (i ∷ q) = or_true (eqb i k) _ (last_waits k q)
 
 join_keeps : (k j : ℕ) (q : List ℕ) → waits k q ≡ true → waits k (join j q) ≡ true
-join_keeps k j q e = go (waits j q)
-  where
-    go : (b : Bool) → waits k (cond b q (q ++ (j ∷ []))) ≡ true
-    go true = e
-    go false = appended k j q e
+join_keeps k j q e = search (rules, appended)
 
 joins : (k : ℕ) (q : List ℕ) → waits k (join k q) ≡ true
-joins k q = go (waits k q) refl
-  where
-    go : (b : Bool) → waits k q ≡ b → waits k (cond b q (q ++ (k ∷ []))) ≡ true
-    go true e = e
-    go false e = last_waits k q
+joins k q = search (rules, last_waits)
 
 -- of f's buckets, each whose count is not 0
 module _ (at : ℕ → ℕ) (S : Sketch) where
@@ -71,11 +59,7 @@ module _ (at : ℕ → ℕ) (S : Sketch) where
 
   step_keeps : (k i : ℕ) (q : List ℕ) → waits k q ≡ true → waits k (step i q) ≡ true
   unfolding step
-  step_keeps k i q e = go (is_zero (count_in S (at i)))
-    where
-      go : (b : Bool) → waits k (cond b q (join (at i) q)) ≡ true
-      go true = e
-      go false = join_keeps k (at i) q e
+  step_keeps k i q e = search (rules, join_keeps)
 
   pub requeue_keeps : (k i n : ℕ) (q : List ℕ) → waits k q ≡ true → waits k (requeue at S i n q) ≡ true
   unfolding requeue step
@@ -99,8 +83,4 @@ pub starts : (k i : ℕ) (cs : List ℤ) → i < length cs → is_zero (get_or c
 unfolding first_queue
 starts k i [] l e = absurd (omega arith)
 starts k zero (c ∷ cs) l e = rw (e, add-zero k) (first_waits k (first_queue (suc k) cs))
-starts k (suc i) (c ∷ cs) l e = rw (add-suc k i, ← suc-add k i) (go (is_zero c) (starts (suc k) i cs (omega arith) e))
-  where
-    go : (b : Bool) → waits (suc k + i) (first_queue (suc k) cs) ≡ true → waits (suc k + i) (cond b (first_queue (suc k) cs) (k ∷ first_queue (suc k) cs)) ≡ true
-    go true h = h
-    go false h = later_waits (suc k + i) k (first_queue (suc k) cs) h
+starts k (suc i) (c ∷ cs) l e = search (rules, starts (suc k) i cs (omega arith) e, later_waits)

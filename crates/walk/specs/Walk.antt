@@ -1,6 +1,6 @@
 -- The walk, over any prime for idsums, any placing of flows and any test of a popped bucket; the limits of counts are those of a sketch.
 -- It runs over what is sketched: a flow here is what is sketched for it, in the table too. Shown.antt tells the flows.
-use Rattle.std.specs.Prelude.{Bool, true, false, cond, ◌&&◌, ◌||◌, List, [], ◌∷◌, ◌++◌, ℕ, zero, suc, ◌+◌, ℤ, pos, ◌+ℤ◌, ◌-ℤ◌, eqb, ltb, length}
+use Rattle.std.specs.Prelude.{Bool, true, false, cond, ◌&&◌, ◌||◌, List, [], ◌∷◌, ◌++◌, ℕ, zero, suc, ◌+◌, ℤ, pos, ◌+ℤ◌, ◌-ℤ◌, eqb, ltb, length, None, Option, Some}
 use Rattle.field.specs.Parts.{up, down}
 use Rattle.field.specs.Residue.{residue}
 use Rattle.params.specs.Lists.{below, touched}
@@ -8,8 +8,6 @@ use Rattle.buckets.specs.Buckets.{in_limits, is_zero}
 use Rattle.sketch.specs.Sketch.{Sketch, sketch, Entry, by, count_in, idsum_in}
 use Rattle.walk.specs.declared.Ending.{Ending}
 use Rattle.walk.specs.declared.Ending.TheVariants.{Clean, Stuck, Spent, Range, Full}
-use Rattle.walk.specs.declared.Found.{Found}
-use Rattle.walk.specs.declared.Found.TheVariants.{Impure, Pure}
 
 -- what a walk goes by: the prime, the number of arrays, the index of a flow's bucket in array i (arrays count from 1), whether a flow
 -- stands in a bucket, and the test of bucket k with count c and idsum s
@@ -18,7 +16,7 @@ pub record Rule : Type 0 where
   pub arrays : ℕ
   pub index : ℕ → ℕ → ℕ
   pub stands : ℕ → ℕ → Bool
-  pub test : ℕ → ℤ → ℕ → Found
+  pub test : ℕ → ℤ → ℕ → Option ℕ
 
 -- what a walk holds: the sketch, the queue of indexes, and the table in the order of first takes
 pub record State : Type 0 where
@@ -96,9 +94,9 @@ takes R slots f c s st =
     cond (in_range R f c st) (cond (has_room slots f st.table) (goes (taken R f c s st)) (stops Full)) (stops Range)
 
 -- what the test found in a bucket with count c and idsum s
-unfoldable pub follows : Rule → ℕ → ℤ → ℕ → State → Found → Move
-follows R slots c s st Impure = goes st
-follows R slots c s st (Pure f) = takes R slots f c s st
+unfoldable pub follows : Rule → ℕ → ℤ → ℕ → State → Option ℕ → Move
+follows R slots c s st None = goes st
+follows R slots c s st (Some f) = takes R slots f c s st
 
 -- bucket k was popped, and st holds the rest of the queue: c and s are read before any change
 unfoldable pub popped : Rule → ℕ → ℕ → State → Move

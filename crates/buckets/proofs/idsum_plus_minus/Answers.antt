@@ -1,11 +1,12 @@
 -- `buckets::idsum_plus_minus` meets its contract: the definition, case by case.
+use native.Mathlib.Omega.{arith}
 use borrow.Author.Tests.{lt-ltb, le-ltb}
 use Rattle.buckets.specs.Buckets.{idsum_plus_minus}
 use Rattle.buckets.proofs.idsum_plus_minus.Goals as goal
 
 pub returns-then-s-t : goal.returns-then-s-t
 unfolding idsum_plus_minus
-returns-then-s-t c = rw (c.if-minus.true, lt-ltb _ _ c.if-s-t.true)
+returns-then-s-t c = rw (c.if-minus.true, lt-ltb _ _ c.if-s-t.true) (omega arith)
 
 pub returns-else-s-t : goal.returns-else-s-t
 unfolding idsum_plus_minus

@@ -1,12 +1,12 @@
--- `buckets::is_number` meets its contract: the two comparisons are the limits.
+-- `buckets::is_number` meets its contract: its comparisons are the bounds.
 use borrow.Author.Tests.{le-leb, lt-leb}
 use Rattle.buckets.specs.Buckets.{is_number}
 use Rattle.buckets.proofs.is_number.Goals as goal
 
-pub returns-then-n-lt1 : goal.returns-then-n-lt1
+pub returns-then-n-ge1 : goal.returns-then-n-ge1
 unfolding is_number
-returns-then-n-lt1 c = simp (lt-leb 1 _ c.if-n-lt1.true)
+returns-then-n-ge1 c = simp (le-leb _ _ c.if-n-ge1.true)
 
-pub returns : goal.returns
+pub returns-else-n-ge1 : goal.returns-else-n-ge1
 unfolding is_number
-returns c = simp (le-leb 1 _ c.if-n-lt1.false)
+returns-else-n-ge1 c = simp (lt-leb _ _ c.if-n-ge1.false)

@@ -2,17 +2,12 @@
 use borrow.Author.Tests.{lt-ltb, le-ltb}
 use mir.Facts.{to_z-of_z}
 use Rattle.buckets.specs.Buckets.{is_small}
-use Rattle.buckets.proofs.Limits.{size_above, size_below}
 use Rattle.buckets.proofs.is_small.Goals as goal
 
-pub returns-then-s-ge-PRIME : goal.returns-then-s-ge-PRIME
+pub returns-then-s-lt-PRIME : goal.returns-then-s-lt-PRIME
 unfolding is_small
-returns-then-s-ge-PRIME c = rw (le-ltb _ _ c.if-s-ge-PRIME.true)
+returns-then-s-lt-PRIME c = rw (lt-ltb _ _ c.if-s-lt-PRIME.true, rw (to_z-of_z c.ranges.c) at c.unsigned_abs.ensures.value)
 
-pub returns-then-c-geminus1000000000 : goal.returns-then-c-geminus1000000000
+pub returns-else-s-lt-PRIME : goal.returns-else-s-lt-PRIME
 unfolding is_small
-returns-then-c-geminus1000000000 c = rw (lt-ltb _ _ c.if-s-ge-PRIME.false, to_z-of_z c.ranges.c) (size_above 999999999 c.args.c (rw (to_z-of_z c.ranges.c) at c.if-c-geminus1000000000.true))
-
-pub returns-else-c-geminus1000000000 : goal.returns-else-c-geminus1000000000
-unfolding is_small
-returns-else-c-geminus1000000000 c = rw (lt-ltb _ _ c.if-s-ge-PRIME.false, to_z-of_z c.ranges.c) (size_below 999999999 c.args.c (rw (to_z-of_z c.ranges.c) at c.if-c-geminus1000000000.false))
+returns-else-s-lt-PRIME c = rw (le-ltb _ _ c.if-s-lt-PRIME.false)

@@ -41,8 +41,8 @@ returns-then-left-eq0 c =
     let l = c.loop-left in
     sym (sym l.invariant.2 ∙ inverse_stops p l.x l.left (omega arith) ∙ ap (λ (n : ℕ). (l.x * n) % p) c.if-left-eq0.true ∙ ap (λ (n : ℕ). n % p) (mul-zero l.x) ∙ zero-mod p)
 
-pub returns : goal.returns
-returns c =
+pub returns-else-left-eq0 : goal.returns-else-left-eq0
+returns-else-left-eq0 c =
     let p = c.args.p in
     let l = c.loop-left in
     let one : l.left ≡ 1 = omega arith in

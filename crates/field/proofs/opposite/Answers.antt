@@ -20,8 +20,8 @@ returns-then-n-p c =
 pub returns-then-r-eq0 : goal.returns-then-r-eq0
 returns-then-r-eq0 c = sym (opposite_of_multiple _ _ (sym c.rest-r.ensures ∙ c.if-r-eq0.true))
 
-pub overflow_sub-result-2 : goal.overflow_sub-result-2
-overflow_sub-result-2 c = (opposite_of_other _ _ _ c.rest-r.ensures c.if-r-eq0.false).0
+pub overflow_sub-result-else-r-eq0 : goal.overflow_sub-result-else-r-eq0
+overflow_sub-result-else-r-eq0 c = (opposite_of_other _ _ _ c.rest-r.ensures c.if-r-eq0.false).0
 
-pub returns : goal.returns
-returns c = (opposite_of_other _ _ _ c.rest-r.ensures c.if-r-eq0.false).1
+pub returns-else-r-eq0 : goal.returns-else-r-eq0
+returns-else-r-eq0 c = (opposite_of_other _ _ _ c.rest-r.ensures c.if-r-eq0.false).1

@@ -1,19 +1,26 @@
 -- `desk::stages::due_end` meets its contract.
-use mathlib.Core.Path.{◌∙◌}
 use native.Mathlib.Omega.{arith}
-use lib.ListN.{length}
-use borrow.Author.Tests.{le-leb, lt-leb, eq-eqb, ne_eqb}
-use Rattle.desk.specs.Desk.{due_of, due_end}
+use borrow.Author.Tests.{eq-eqb, ne_eqb}
+use lib.ListN.{get_or}
+use Rattle.files.specs.Records.{packets_kind}
+use Rattle.files.proofs.FirstByte.{first_some, first_none}
+use Rattle.desk.specs.Desk.{due_end}
 use Rattle.desk.proofs.stages.due_end.Goals as goal
+use Rattle.desk.proofs.stages.due_end.Goals.{in_default-via-in-Some+in_default, in_default-via-in_default}
 
-pub returns-then-bytes-eq0 : goal.returns-then-bytes-eq0
-unfolding due_end due_of
-returns-then-bytes-eq0 c = rw (le-leb (length c.args.bytes.now) 0 (omega arith))
-
-pub returns-then-bytes-eq-PACKETS : goal.returns-then-bytes-eq-PACKETS
+pub returns-in-Some-eq2 : goal.returns-in-Some-eq2
 unfolding due_end
-returns-then-bytes-eq-PACKETS c = rw (lt-leb (length c.args.bytes.now) 0 (omega arith), eq-eqb _ _ c.if-bytes-eq-PACKETS.true)
+returns-in-Some-eq2 c =
+    let f = first_some _ c.in-Some-eq2.ensures.value in
+    rw (f.0, eq-eqb (get_or c.args.bytes.now 0 0) packets_kind (omega arith))
 
-pub returns : goal.returns
+pub returns-in_default : goal.returns-in_default
 unfolding due_end
-returns c = c.due_of.ensures ∙ rw (lt-leb (length c.args.bytes.now) 0 (omega arith), ne_eqb _ _ c.if-bytes-eq-PACKETS.false)
+returns-in_default c =
+    let bs = c.args.bytes.now in
+    elim c.in_default.branch [
+      | in_default-via-in-Some+in_default w ↦
+          (let f = first_some bs (rw w.in_default.is at c.first.ensures.value) in rw (ne_eqb (get_or bs 0 0) packets_kind (λ e. w.in_default.field-0-test.1 (cc (f.1, e))), f.0) c.due_of.ensures)
+      | in_default-via-in_default w ↦
+          (let f = first_none bs (rw w.in_default.is at c.first.ensures.value) in rw f.0 c.due_of.ensures)
+    ]

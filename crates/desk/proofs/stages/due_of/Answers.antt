@@ -1,23 +1,27 @@
 -- `desk::stages::due_of` meets its contract.
-use mathlib.Core.Path.{sym, ◌∙◌}
 use native.Mathlib.Omega.{arith}
-use lib.ListN.{length}
-use borrow.Author.Tests.{le-leb, lt-leb, eq-eqb, ne_eqb}
+use borrow.Author.Tests.{eq-eqb, ne_eqb}
+use lib.ListN.{get_or}
+use Rattle.files.proofs.FirstByte.{first_some, first_none}
 use Rattle.desk.specs.Desk.{due_of}
 use Rattle.desk.proofs.stages.due_of.Goals as goal
 
-pub returns-then-bytes-eq0 : goal.returns-then-bytes-eq0
+pub returns-in-None : goal.returns-in-None
 unfolding due_of
-returns-then-bytes-eq0 c = rw (le-leb (length c.args.bytes.now) 0 (omega arith))
+returns-in-None c = rw (first_none _ c.in-None.ensures.value).0
 
-pub returns-then-is_kind : goal.returns-then-is_kind
+pub returns-in-Some : goal.returns-in-Some
 unfolding due_of
-returns-then-is_kind c = rw (lt-leb (length c.args.bytes.now) 0 (omega arith), sym c.is_kind.ensures ∙ c.if-is_kind.true)
+returns-in-Some c = rw ((first_some _ c.in-Some.ensures.value).0, ← c.if-is_kind.ensures)
 
-pub returns-then-bytes-kind : goal.returns-then-bytes-kind
+pub returns-in-Some-2 : goal.returns-in-Some-2
 unfolding due_of
-returns-then-bytes-kind c = rw (lt-leb (length c.args.bytes.now) 0 (omega arith), sym c.is_kind.ensures ∙ c.if-is_kind.false, ne_eqb _ _ c.if-bytes-kind.true)
+returns-in-Some-2 c =
+    let f = first_some _ c.in-Some.ensures.value in
+    rw (f.0, ← c.if-is_kind.ensures, eq-eqb (get_or c.args.bytes.now 0 0) c.args.kind (omega arith))
 
-pub returns : goal.returns
+pub returns-in-Some-3 : goal.returns-in-Some-3
 unfolding due_of
-returns c = rw (lt-leb (length c.args.bytes.now) 0 (omega arith), sym c.is_kind.ensures ∙ c.if-is_kind.false, eq-eqb _ _ c.if-bytes-kind.false)
+returns-in-Some-3 c =
+    let f = first_some _ c.in-Some.ensures.value in
+    rw (f.0, ← c.if-is_kind.ensures, ne_eqb (get_or c.args.bytes.now 0 0) c.args.kind (λ e. omega arith))

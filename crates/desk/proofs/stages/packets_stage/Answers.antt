@@ -1,9 +1,9 @@
 -- `desk::stages::packets_stage` meets its contract.
+use borrow.Author.Rules.{rules}
 use mathlib.Core.Path.{ap}
 use Prim.Native.Nat.{◌*◌, ◌≤◌}
 use native.Mathlib.Omega.{arith}
 use lib.ListN.{length}
-use Rattle.params.proofs.Searches.{test_held, test_failed}
 use Rattle.desk.specs.Desk.{packets_stage, packets_sketch, packets_state}
 use Rattle.desk.proofs.Taking.{taken_bytes}
 use Rattle.desk.proofs.OffsetsFit.{bounded}
@@ -13,7 +13,7 @@ use Rattle.desk.proofs.stages.packets_stage.Goals.{After-take_packets-run}
 
 pub returns-then-not-is_due : goal.returns-then-not-is_due
 unfolding packets_stage packets_sketch
-returns-then-not-is_due c = let e = test_failed c.is_due.ensures c.if-not-is_due.true-raw in record { value = rw e; sketch_after = rw e }
+returns-then-not-is_due c = search rules
 
 -- the packets that were taken lie within the bytes
 within : (c : After-take_packets-run) → packets_length * c.take_packets-run.result.taken ≤ length c.args.bytes.now
@@ -30,7 +30,4 @@ overflow_add-result-2 c = omega (arith, bounded _ _ c.requires, within (goal.at.
 
 pub returns : goal.returns
 unfolding packets_stage packets_sketch packets_state
-returns c =
-    let run = c.take_packets-run.ensures in
-    let due = test_held c.is_due.ensures c.if-not-is_due.false-raw in
-    record { value = rw (due, c.stage_after.ensures, run.value); sketch_after = rw due run.sketch_after }
+returns c = search rules

@@ -1,11 +1,12 @@
 -- `desk::stages::stage_after` meets its contract.
+use borrow.Author.Rules.{rules}
 use Rattle.desk.specs.Desk.{stage_after}
 use Rattle.desk.proofs.stages.stage_after.Goals as goal
 
-pub returns-in-Done : goal.returns-in-Done
+pub returns-in-Ok : goal.returns-in-Ok
 unfolding stage_after
-returns-in-Done c = rw c.in-Done.is
+returns-in-Ok c = search rules
 
-pub returns-in-Refused : goal.returns-in-Refused
+pub returns-in-Err : goal.returns-in-Err
 unfolding stage_after
-returns-in-Refused c = rw c.in-Refused.is
+returns-in-Err c = search rules

@@ -8,10 +8,7 @@ use Rattle.streamfile.proofs.InTurn.{Gone}
 use Rattle.desk.proofs.stages.take_packets.Given as goal
 
 abbrev pub invariant-loop-flow : goal.invariant-loop-flow
-invariant-loop-flow l = (l.at ≡ packet_from 0 l.taken)
-    × (length l.counts ≡ length l.initial.counts)
-    × (length l.idsums ≡ length l.initial.idsums)
-    × Gone l.p 0 l.bytes (sketch l.initial.counts l.initial.idsums) l.taken (sketch l.counts l.idsums)
+invariant-loop-flow l = (l.at ≡ packet_from 0 l.taken) × Gone l.p 0 l.bytes (sketch l.initial.counts l.initial.idsums) l.taken (sketch l.counts l.idsums)
 
 abbrev pub decreases-loop-flow : goal.decreases-loop-flow
 decreases-loop-flow l = length l.bytes - l.at

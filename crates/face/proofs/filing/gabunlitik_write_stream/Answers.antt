@@ -5,4 +5,4 @@ use Rattle.face.proofs.filing.gabunlitik_write_stream.Goals as goal
 pub returns : goal.returns
 returns c =
     let held = rw c.params_of.ensures at c.write_stream-stream.ensures in
-    written_returned _ held.answer held c.return_written.ensures
+    written_returned _ held.answer held c.return_number.ensures

@@ -5,4 +5,4 @@ use Rattle.face.proofs.positions.gabunlitik_index.Goals as goal
 pub returns : goal.returns
 returns c =
     let held = rw (c.params_of-p.ensures, c.wide.ensures) at c.index-located.ensures in
-    located_returned _ held c.return_located.ensures
+    located_returned _ held c.return_number.ensures

@@ -1,8 +1,8 @@
 -- `files::fields::end_at` meets its contract.
-use mathlib.Core.Path.{ap, ◌∙◌}
-use Rattle.files.specs.Layout.{end_in_body, end_at}
+use Rattle.std.proofs.Common.{rules}
+use Rattle.files.specs.Layout.{end_at}
 use Rattle.files.proofs.fields.end_at.Goals as goal
 
 pub returns : goal.returns
 unfolding end_at
-returns c = c.end_in.ensures ∙ ap end_in_body c.body_of.ensures.content
+returns c = search rules

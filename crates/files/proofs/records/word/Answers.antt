@@ -1,39 +1,7 @@
--- `files::records::word` meets its contract: bytes are below 256, so that nothing wraps.
-use Prim.Native.Nat.{◌+◌}
-use native.Mathlib.Omega.{arith}
+-- `files::records::word` meets its contract.
 use Rattle.files.specs.Bytes.{word}
 use Rattle.files.proofs.records.word.Goals as goal
 
-pub overflow_cast-high : goal.overflow_cast-high
-overflow_cast-high c = omega (arith, c.shared_slice_known-1.given c.args.at)
-
-pub overflow_mul-high : goal.overflow_mul-high
-overflow_mul-high c = omega (arith, c.shared_slice_known-1.given c.args.at)
-
-pub overflow_cast-high-2 : goal.overflow_cast-high-2
-overflow_cast-high-2 c = omega (arith, c.shared_slice_known-2-1.given (c.args.at + 1))
-
-pub overflow_add-high-2 : goal.overflow_add-high-2
-overflow_add-high-2 c = omega (arith, c.shared_slice_known-2-1.given c.args.at, c.shared_slice_known-2-1.given (c.args.at + 1))
-
-pub overflow_cast-low : goal.overflow_cast-low
-overflow_cast-low c = omega (arith, c.shared_slice_known-3-1.given (c.args.at + 2))
-
-pub overflow_mul-low : goal.overflow_mul-low
-overflow_mul-low c = omega (arith, c.shared_slice_known-3-1.given (c.args.at + 2))
-
-pub overflow_cast-low-2 : goal.overflow_cast-low-2
-overflow_cast-low-2 c = omega (arith, c.shared_slice_known-4-1.given (c.args.at + 3))
-
-pub overflow_add-low-3 : goal.overflow_add-low-3
-overflow_add-low-3 c = omega (arith, c.shared_slice_known-4-1.given (c.args.at + 2), c.shared_slice_known-4-1.given (c.args.at + 3))
-
-pub overflow_mul-result : goal.overflow_mul-result
-overflow_mul-result c = omega (arith, c.shared_slice_known-4-1.given c.args.at, c.shared_slice_known-4-1.given (c.args.at + 1), c.shared_slice_known-4-1.given (c.args.at + 2), c.shared_slice_known-4-1.given (c.args.at + 3))
-
-pub overflow_add-result : goal.overflow_add-result
-overflow_add-result c = omega (arith, c.shared_slice_known-4-1.given c.args.at, c.shared_slice_known-4-1.given (c.args.at + 1), c.shared_slice_known-4-1.given (c.args.at + 2), c.shared_slice_known-4-1.given (c.args.at + 3))
-
 pub returns : goal.returns
 unfolding word
-returns c = omega arith
+returns c = c.from_be_bytes.ensures

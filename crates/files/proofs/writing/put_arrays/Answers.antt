@@ -2,8 +2,6 @@
 use mathlib.Core.Path.{refl}
 use mathlib.Core.List.{[], ◌∷◌}
 use native.Mathlib.Omega.{arith}
-use lib.ListN.{length-set}
-use lib.Seq.{length-sets}
 use Rattle.params.proofs.Rules.{good_dimensions_lem}
 use Rattle.files.specs.Bytes.{word_bytes}
 use Rattle.files.specs.Layout.{arrays_bytes}
@@ -13,29 +11,8 @@ use Rattle.files.proofs.writing.put_arrays.Goals as goal
 pub overflow_cast-out : goal.overflow_cast-out
 overflow_cast-out c = omega (arith, good_dimensions_lem _ c.requires.0)
 
-pub bounds-out-1 : goal.bounds-out-1
-bounds-out-1 c = omega (arith, c.requires.1, length-set c.args.out.now 0 c.args.kind)
-
-pub overflow_cast-p : goal.overflow_cast-p
-overflow_cast-p c = omega (arith, good_dimensions_lem _ c.requires.0)
-
-pub put_word-requires : goal.put_word-requires
-put_word-requires c = omega (arith, c.requires.1, length-sets c.args.out.now 0 (c.args.kind ∷ c.args.p.d ∷ []))
-
-pub put_pair-requires : goal.put_pair-requires
-put_pair-requires c = omega (arith, c.requires.1, length-sets c.args.out.now 0 (c.args.kind ∷ c.args.p.d ∷ []))
-
-pub put_pair-requires-2 : goal.put_pair-requires-2
-put_pair-requires-2 c = omega (arith, c.requires.1, length-sets c.args.out.now 0 (c.args.kind ∷ c.args.p.d ∷ []))
-
-pub put_pair-requires-3 : goal.put_pair-requires-3
-put_pair-requires-3 c = omega (arith, c.requires.1, length-sets c.args.out.now 0 (c.args.kind ∷ c.args.p.d ∷ []))
-
-pub put_pair-requires-4 : goal.put_pair-requires-4
-put_pair-requires-4 c = omega (arith, c.requires.1, length-sets c.args.out.now 0 (c.args.kind ∷ c.args.p.d ∷ []))
-
-pub shape_of-out : goal.shape_of-out
-shape_of-out c = omega (arith, c.requires.1, length-sets c.args.out.now 0 (c.args.kind ∷ c.args.p.d ∷ []))
+pub overflow_cast-m : goal.overflow_cast-m
+overflow_cast-m c = omega (arith, good_dimensions_lem _ c.requires.0)
 
 pub returns : goal.returns
 unfolding arrays_bytes word_bytes

@@ -9,11 +9,11 @@ returns c =
     turn_is
     {P = a.p}
     {bs = a.buf.now}
-    {end = c.smaller-end.result}
+    {end = c.min-end.result}
     {up = sketch a.up_counts.now a.up_idsums.now}
     {down = sketch a.down_counts.now a.down_idsums.now}
     {s = a.s}
     {r = c.feed-fed.result}
-    c.smaller-end.ensures
+    c.min-end.ensures
     c.feed-fed.ensures
-    c.to_front-left.ensures
+    c.to_front.ensures

@@ -1,9 +1,8 @@
 -- `lines::reports::put_lefts` meets its contract. The loop's invariant: the lines of the buckets passed stand there.
 use native.Mathlib.Omega.{arith}
-use lib.ListN.{get_or}
 use mir.Syntax.{w32}
 use lib.IntN.{pos}
-use borrow.Author.Rules.{rules}
+use lib.ListN.{get_or}
 use Rattle.field.proofs.Casts.{back}
 use Rattle.lines.specs.Reports.{left_lines}
 use Rattle.lines.proofs.Reporting.{lefts_next, nothing_written, one_more}
@@ -11,10 +10,10 @@ use Rattle.lines.proofs.reports.put_lefts.Goals as goal
 
 pub loop-i-init : goal.loop-i-init
 unfolding left_lines
-loop-i-init c = (nothing_written _ _, omega arith, omega arith)
+loop-i-init c = nothing_written _ _
 
 pub loop-i-preserved : goal.loop-i-preserved
 loop-i-preserved c =
     let i = c.loop-i.i in
     let line = rw (back w32 (get_or c.args.counts.now i (pos 0)) (omega arith)) at c.put_left-at.ensures in
-    (rw (lefts_next _ _ i) (one_more i (omega arith) c.loop-i.invariant.0 (line.text_written, line.upper_bound)), omega arith, search rules)
+    rw (lefts_next _ _ i) (one_more i (omega arith) c.loop-i.invariant (line.text_written, line.upper_bound))

@@ -1,17 +1,16 @@
 -- `peel::peeling::peel` meets its contract.
-use mathlib.Core.Path.{sym, ◌∙◌}
+use mathlib.Core.Path.{sym}
 use borrow.Author.Rules.{rules}
+use Rattle.params.proofs.Judging.{handed_on}
 use Rattle.peel.proofs.Judged.{judged_peelable}
 use Rattle.peel.proofs.Peelings.{not_peeled, peeled}
 use Rattle.peel.proofs.peeling.peel.Goals as goal
 
 pub unravel-requires : goal.unravel-requires
-unravel-requires c = judged_peelable _ _ (sym c.judge-judged.ensures ∙ c.in-Done.is)
+unravel-requires c = judged_peelable _ _ (sym c.in_ok-judge.ensures)
 
-pub returns-in-Refused : goal.returns-in-Refused
-returns-in-Refused c = not_peeled _ _ _ _ _ (sym c.in-Refused.is ∙ c.judge-judged.ensures)
+pub returns-in_err-judge : goal.returns-in_err-judge
+returns-in_err-judge c = rw (handed_on c.from_residual.ensures.1) (not_peeled _ _ _ _ _ c.in_err-judge.ensures)
 
-pub returns-in-Done : goal.returns-in-Done
-returns-in-Done c =
-    let u = c.unravel in
-    peeled _ _ _ (sym c.in-Done.is ∙ c.judge-judged.ensures) _ _ u.ensures (search rules) (search rules) (search rules) (search rules)
+pub returns : goal.returns
+returns c = peeled _ _ _ c.in_ok-judge.ensures _ _ c.unravel.ensures (search rules) (search rules) (search rules) (search rules)

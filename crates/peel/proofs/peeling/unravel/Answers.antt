@@ -4,8 +4,10 @@ use mathlib.Core.List.{map}
 use Prim.Native.Nat.{◌≤◌}
 use native.Mathlib.Omega.{arith}
 use lib.ListN.{length}
+use borrow.Author.Rules.{rules}
 use Rattle.walk.specs.Walk.{Outcome, close, lost_of, extra_of}
 use Rattle.walk.specs.Shown.{tell}
+use Rattle.peel.proofs.Clearing.{all_cleared}
 use Rattle.peel.proofs.Telling.{told_long, told_table, told_past}
 use Rattle.peel.proofs.peeling.unravel.Goals as goal
 
@@ -27,6 +29,6 @@ returns c =
       room = omega (arith, inside, ap length told ∙ told_long _ r _);
       past = λ k u. rw told (told_past _ r _ k u (l.past k u));
       past_numbers = l.past_numbers;
-      queue = λ j. c.clear.ensures.zeros j (omega arith);
-      marks = λ j. c.clear-2.ensures.zeros j (omega arith);
+      queue = λ j. all_cleared c.fill.new.self _ j (c.fill.ensures.after (search rules));
+      marks = λ j. all_cleared c.fill-2.new.self _ j (c.fill-2.ensures.after (search rules));
     }

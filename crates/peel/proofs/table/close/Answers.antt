@@ -1,7 +1,6 @@
 -- `peel::table::close` meets its contract: what is kept so far, with the close of the entries still to come, is the close of all. The
 -- figures are those of what is kept, of which each adds at most 2147483648.
-use mathlib.Core.Path.{◌≡◌, refl, ap, ◌∙◌}
-use Prim.Native.Nat.{◌+◌, ◌≤◌}
+use mathlib.Core.Path.{◌≡◌, ap, ◌∙◌}
 use native.Mathlib.Omega.{arith}
 use lib.IntN.{ℤ, pos}
 use lib.ListN.{get_or}
@@ -10,18 +9,17 @@ use mir.Syntax.{w32}
 use mir.Val.{SFits}
 use borrow.Author.Rules.{rules}
 use Rattle.field.specs.Parts.{up, down}
-use Rattle.field.proofs.Casts.{zero_of_bits, bits_of_zero}
 use Rattle.field.proofs.Parts.{abs_parts, abs_of_sfits}
-use Rattle.buckets.proofs.Zeros.{is_zero_lem, not_zero}
 use Rattle.walk.specs.Walk.{lost_by, extra_by}
 use Rattle.peel.specs.Table.{row}
 use Rattle.peel.proofs.Slots.{Holds, holds_in_place, holds_written, table_kept}
+use Rattle.peel.proofs.Clearing.{cleared_from}
 use Rattle.peel.proofs.Closing.{closing_none, closing_past, closing_keep, closing_all}
 use Rattle.peel.proofs.table.close.Goals as goal
 use Rattle.peel.proofs.table.close.Goals.{else-c-ne0, else-entries-i, then-c-ne0, then-entries-i}
 
 pub loop-i-init : goal.loop-i-init
-loop-i-init c = (omega arith, omega arith, refl, refl, omega arith, closing_none)
+loop-i-init c = (omega arith, omega arith, closing_none)
 
 pub loop-i-preserved : goal.loop-i-preserved
 loop-i-preserved c =
@@ -35,39 +33,32 @@ loop-i-preserved c =
           elim w.if-entries-i.branch [ then-entries-i u ↦ rw (u.flows-is, u.numbers-is, to_z-of_z fits) (holds_written (omega arith) (omega arith)) | else-entries-i u ↦ rw (u.flows-is, u.numbers-is) (holds_in_place (omega arith)) ] in
           let a : w.up-lost.result ≡ up z = rw (to_z-of_z fits) at w.up-lost.ensures in
           let b : w.down-extra.result ≡ down z = rw (to_z-of_z fits) at w.down-extra.ensures in
-          let small : up z + down z ≤ 2147483648 = omega (arith, abs_parts z, abs_of_sfits fits) in
           rw (w.flows-is, w.numbers-is, w.entries-is, w.lost-is, w.extra-is, a, b) (
-            omega arith,
-            omega arith,
-            k.long ∙ v.2,
-            k.long_numbers ∙ v.3,
-            omega arith,
-            closing_keep v.5 c.loop-i-test.true k v.0 (not_zero z (λ e. w.if-c-ne0.true (bits_of_zero z e))),
+            grind arith,
+            grind (arith, abs_parts, abs_of_sfits),
+            closing_keep v.2 c.loop-i-test.true k v.0 (search rules),
           )
       | else-c-ne0 w ↦
           rw (w.flows-is, w.numbers-is, w.entries-is, w.lost-is, w.extra-is) (
             omega arith,
-            omega arith,
-            v.2,
-            v.3,
-            v.4,
-            closing_past v.5 c.loop-i-test.true (is_zero_lem z (zero_of_bits z fits w.if-c-ne0.false)),
+            v.1,
+            closing_past v.2 c.loop-i-test.true (search rules),
           )
     ]
 
 pub returns : goal.returns
 returns c =
-    let n = c.clear_numbers in
-    let f = c.clear in
     let l = c.loop-i in
-    let t = closing_all l.invariant.5 (omega arith) in
+    let f = cleared_from l.entries l.flows c.fill.new.self (omega arith) (c.fill.ensures.after (search rules)) in
+    let n = cleared_from l.entries l.numbers c.fill-2.new.self (omega arith) (c.fill-2.ensures.after (search rules)) in
+    let t = closing_all l.invariant.2 (omega arith) in
     record {
-      table = table_kept l.flows f.new.s l.numbers n.new.s l.entries f.ensures.kept n.ensures.kept ∙ t;
+      table = table_kept l.flows _ l.numbers _ l.entries f.kept n.kept ∙ t;
       within = omega arith;
-      lost = l.invariant.5.lost_by_lem ∙ ap lost_by t;
-      extra = l.invariant.5.extra_by_lem ∙ ap extra_by t;
-      long = f.ensures.long ∙ l.invariant.2;
-      long_numbers = n.ensures.long ∙ l.invariant.3;
-      past = f.ensures.zeros;
-      past_numbers = n.ensures.zeros;
+      lost = l.invariant.2.lost_by_lem ∙ ap lost_by t;
+      extra = l.invariant.2.extra_by_lem ∙ ap extra_by t;
+      long = f.long ∙ l.auto.flows;
+      long_numbers = n.long ∙ l.auto.numbers;
+      past = f.zeros;
+      past_numbers = n.zeros;
     }

@@ -1,7 +1,7 @@
 -- `peel::walking::walk` meets its contract: every way through a turn of the loop is one of the definition's.
 use mathlib.Core.Path.{◌≡◌}
 use mathlib.Core.Bool.{true}
-use Prim.Native.Nat.{ℕ, ◌-◌, ◌≤◌, ◌<◌}
+use Prim.Native.Nat.{ℕ, ◌-◌, ◌<◌}
 use lib.ListN.{length}
 use Rattle.walk.specs.Walk.{run}
 use Rattle.walk.specs.Purity.{rule_of}
@@ -11,10 +11,7 @@ use Rattle.peel.proofs.Turns.{Inv, Lengths}
 use Rattle.peel.proofs.walking.walk.Given as goal
 
 abbrev pub invariant-loop-i : goal.invariant-loop-i
-invariant-loop-i l = (l.i ≤ l.d) × ((j : ℕ) → j < l.i → fits_at l.m l.ks l.counts l.c j ≡ true)
-
-abbrev pub decreases-loop-i : goal.decreases-loop-i
-decreases-loop-i l = l.d - l.i
+invariant-loop-i l = (j : ℕ) → j < l.i → fits_at l.m l.ks l.counts l.c j ≡ true
 
 abbrev pub invariant-walk : goal.invariant-walk
 invariant-walk l = let L₀ = slices l.initial.counts l.initial.idsums l.initial.flows l.initial.numbers l.initial.queue l.initial.marks in

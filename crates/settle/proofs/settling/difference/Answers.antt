@@ -1,14 +1,13 @@
 -- `settle::settling::difference` meets its contract: the lengths, then what the subtraction answers and leaves.
-use mathlib.Core.Path.{sym, ◌∙◌}
-use Rattle.params.proofs.Judging.{kept_old}
-use Rattle.settle.proofs.Settled.{not_lent, lent_first}
+use borrow.Author.Rules.{rules}
+use Rattle.params.specs.Answers.{first, kept}
+use Rattle.settle.specs.Settling.{settle_answer}
 use Rattle.settle.proofs.settling.difference.Goals as goal
 
-pub returns-in_default : goal.returns-in_default
-returns-in_default c = (not_lent _ _ _ _ _ _ _ _ c.judge_walk_lent-r.ensures c.in_default.in_default-own.keys2, kept_old _ _ _ c.in_default.in_default-own.keys2)
+pub returns-in_err-judge_walk_lent : goal.returns-in_err-judge_walk_lent
+unfolding settle_answer first kept
+returns-in_err-judge_walk_lent c = search rules
 
 pub returns : goal.returns
-returns c = (
-  lent_first _ _ _ _ _ _ _ _ (sym c.judge_walk_lent-r.ensures ∙ c.in-Done.is) c.subtract.ensures.answer,
-  c.subtract.ensures.after,
-)
+unfolding settle_answer first
+returns c = search rules

@@ -1,13 +1,13 @@
 -- `sketch::packets::entry` meets its contract.
-use mathlib.Core.Path.{sym, ◌∙◌}
+use borrow.Author.Rules.{rules}
 use Rattle.sketch.specs.Packets.{entry_answer}
-use Rattle.params.proofs.Judging.{first_refused, first_passed}
+use Rattle.params.specs.Answers.{first}
 use Rattle.sketch.proofs.packets.entry.Goals as goal
 
-pub returns-in_default : goal.returns-in_default
-unfolding entry_answer
-returns-in_default c = first_refused _ _ _ c.judge_dimensions-r.ensures c.in_default.in_default-own.keys2
+pub returns-in_err-judge_dimensions : goal.returns-in_err-judge_dimensions
+unfolding entry_answer first
+returns-in_err-judge_dimensions c = search rules
 
 pub returns : goal.returns
-unfolding entry_answer
-returns c = c.packet.ensures ∙ sym (first_passed _ _ (sym c.judge_dimensions-r.ensures ∙ c.in-Done.is))
+unfolding entry_answer first
+returns c = search rules

@@ -2,10 +2,10 @@
 use mathlib.Core.Path.{◌≡◌}
 use Prim.Native.Nat.{ℕ, ◌-◌, ◌<◌}
 use lib.ListN.{length}
-use Rattle.params.specs.declared.answers.Answer.TheVariants.{Done}
 use Rattle.sketchfile.specs.Reading.{lowest, bucket_judged}
 use Rattle.sketchfile.proofs.BucketRecords.{Reader}
 use Rattle.sketchfile.proofs.reading.judge_records.Given as goal
+use Rattle.params.specs.Answers.{Done}
 
 abbrev pub invariant-loop-index : goal.invariant-loop-index
 invariant-loop-index l = Reader l.bytes l.n l.at

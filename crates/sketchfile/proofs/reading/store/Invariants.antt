@@ -1,5 +1,4 @@
 -- `sketchfile::reading::store` meets its contract. The invariant: the buckets before the offset are stored.
-use mathlib.Core.Path.{◌≡◌}
 use Prim.Native.Nat.{◌-◌}
 use lib.ListN.{length}
 use Rattle.sketch.specs.Sketch.{sketch}
@@ -7,9 +6,7 @@ use Rattle.sketchfile.proofs.BucketRecords.{Storing}
 use Rattle.sketchfile.proofs.reading.store.Given as goal
 
 abbrev pub invariant-loop-index : goal.invariant-loop-index
-invariant-loop-index l = (length l.counts ≡ length l.initial.counts)
-    × (length l.idsums ≡ length l.initial.idsums)
-    × Storing l.bytes (sketch l.initial.counts l.initial.idsums) l.at (sketch l.counts l.idsums)
+invariant-loop-index l = Storing l.bytes (sketch l.initial.counts l.initial.idsums) l.at (sketch l.counts l.idsums)
 
 abbrev pub decreases-loop-index : goal.decreases-loop-index
 decreases-loop-index l = length l.bytes - l.at

@@ -1,11 +1,9 @@
 -- `sketchfile::writing::put_all` meets its contract. The invariant: the records that are left, written from `at` on, give what is asked for.
-use mathlib.Core.Path.{◌≡◌, refl, sym, ap, ◌∙◌}
-use mathlib.Core.Bool.{true, not}
+use mathlib.Core.Path.{◌≡◌, sym, ap, ◌∙◌}
+use mathlib.Core.Bool.{false}
 use mathlib.Core.List.{◌++◌}
 use Prim.Native.Nat.{◌+◌, ◌-◌, ◌≤◌}
 use native.Mathlib.Omega.{arith}
-use borrow.Author.Rules.{rules}
-use borrow.Author.Tests.{not-true, not-false}
 use lib.ListN.{length}
 use mir.Syntax.{w32}
 use Rattle.field.proofs.Casts.{back}
@@ -14,7 +12,7 @@ use Rattle.files.specs.Bytes.{overwritten, word_bytes}
 use Rattle.files.specs.Layout.{bucket_bytes}
 use Rattle.files.specs.Writing.{written}
 use Rattle.files.specs.Records.{bucket_length}
-use Rattle.files.proofs.Overwriting.{overwritten_none, length_written, written_next}
+use Rattle.files.proofs.Overwriting.{overwritten_none, written_next}
 use Rattle.sketchfile.specs.Writing.{zero_at, buckets_bytes}
 use Rattle.sketchfile.proofs.Written.{buckets_long, all_left, none_left, zero_next, nonzero_next}
 use Rattle.sketchfile.proofs.writing.put_all.Goals as goal
@@ -25,13 +23,13 @@ tested : (c : After-all_zero) → c.all_zero.result ≡ zero_at (sketch c.args.c
 tested c = rw (back w32 _ c.all_zero-arg-1.given) at c.all_zero.ensures
 
 -- one that has a record, and the room for it
-nonzero-here : (c : After-all_zero) → not c.all_zero.result ≡ true → let a = c.args in
+nonzero-here : (c : After-all_zero) → c.all_zero.result ≡ false → let a = c.args in
     let S = sketch a.counts.now a.idsums.now in
     let k = c.loop-k.k in
     buckets_bytes k (length a.counts.now - k) S ≡ bucket_bytes k (count_in S k) (idsum_in S k) ++ buckets_bytes (k + 1) (length a.counts.now - (k + 1)) S
-nonzero-here c h = nonzero_next _ _ _ c.loop-k-test.true (sym (tested c) ∙ not-true _ h)
+nonzero-here c h = nonzero_next _ _ _ c.loop-k-test.true (sym (tested c) ∙ h)
 
-room : (c : After-all_zero) → not c.all_zero.result ≡ true → c.loop-k.at + bucket_length ≤ length c.loop-k.out
+room : (c : After-all_zero) → c.all_zero.result ≡ false → c.loop-k.at + bucket_length ≤ length c.loop-k.out
 unfolding bucket_bytes word_bytes
 room c h =
     let a = c.args in
@@ -41,19 +39,10 @@ pub loop-k-init : goal.loop-k-init
 loop-k-init c =
     let a = c.args in
     let all = all_left (sketch a.counts.now a.idsums.now) (length a.counts.now) in
-    (search rules, refl, omega (arith, ap length all), ap (overwritten a.out.now a.first) all)
-
-pub bounds-idsums-k : goal.bounds-idsums-k
-bounds-idsums-k c = omega arith
-
-pub overflow_cast-k : goal.overflow_cast-k
-overflow_cast-k c = omega arith
-
-pub bounds-idsums-k-then-not-all_zero : goal.bounds-idsums-k-then-not-all_zero
-bounds-idsums-k-then-not-all_zero c = omega arith
+    (omega (arith, ap length all), ap (overwritten a.out.now a.first) all)
 
 pub overflow_add-at : goal.overflow_add-at
-overflow_add-at c = omega (arith, room (goal.at.overflow_add-at c).After-all_zero c.if-not-all_zero.true-raw)
+overflow_add-at c = omega (arith, room (goal.at.overflow_add-at c).After-all_zero c.if-not-all_zero.true)
 
 pub loop-k-preserved : goal.loop-k-preserved
 unfolding bucket_bytes word_bytes
@@ -64,19 +53,15 @@ loop-k-preserved c =
     let b = (goal.at.loop-k-preserved c).After-all_zero in
     elim c.if-not-all_zero.branch [
       | then-not-all_zero w ↦
-          let h = w.if-not-all_zero.true-raw in
+          let h = w.if-not-all_zero.true in
           let put : c.if-not-all_zero.out ≡ written l.out l.at (bucket_bytes l.k (count_in S l.k) (idsum_in S l.k)) = w.out-is ∙ rw (back w32 _ w.put_bucket-arg-then-not-all_zero-1.given) at w.put_bucket.ensures in (
-            search rules,
-            ap length put ∙ length_written _ _ _ ∙ l.invariant.1,
             omega (arith, w.at-is, ap length (nonzero-here b h)),
-            written_next _ _ _ _ _ _ (ap (overwritten l.out l.at) (sym (nonzero-here b h)) ∙ l.invariant.3) put (room b h) w.at-is,
+            written_next _ _ _ _ _ _ (ap (overwritten l.out l.at) (sym (nonzero-here b h)) ∙ l.invariant.1) put (room b h) w.at-is,
           )
       | else-not-all_zero w ↦
-          let next = zero_next S (length a.counts.now) l.k c.loop-k-test.true (sym (tested b) ∙ not-false _ w.if-not-all_zero.false-raw) in (
-            search rules,
-            ap length w.out-is ∙ l.invariant.1,
+          let next = zero_next S (length a.counts.now) l.k c.loop-k-test.true (sym (tested b) ∙ w.if-not-all_zero.false) in (
             omega (arith, w.at-is, ap length next),
-            rw (w.out-is, w.at-is) (ap (overwritten l.out l.at) (sym next) ∙ l.invariant.3),
+            rw (w.out-is, w.at-is) (ap (overwritten l.out l.at) (sym next) ∙ l.invariant.1),
           )
     ]
 
@@ -87,4 +72,4 @@ returns c =
     let S = sketch a.counts.now a.idsums.now in
     let n = length a.counts.now in
     let none = none_left S n l.k c.loop-k-test.false in
-    record { value = omega (arith, ap length none, buckets_long S 0 n); out_after = overwritten_none l.out l.at ∙ ap (overwritten l.out l.at) (sym none) ∙ l.invariant.3 }
+    record { value = omega (arith, ap length none, buckets_long S 0 n); out_after = overwritten_none l.out l.at ∙ ap (overwritten l.out l.at) (sym none) ∙ l.invariant.1 }

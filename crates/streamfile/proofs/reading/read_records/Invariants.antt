@@ -9,10 +9,8 @@ use Rattle.streamfile.proofs.InTurn.{Gone}
 use Rattle.streamfile.proofs.reading.read_records.Given as goal
 
 abbrev pub invariant-loop-flow : goal.invariant-loop-flow
-invariant-loop-flow l = (l.at ≡ packet_offset l.bytes l.n)
-    × (length l.counts ≡ length l.initial.counts)
-    × (length l.idsums ≡ length l.initial.idsums)
-    × Gone l.p (head_length_in l.bytes) l.bytes (sketch l.initial.counts l.initial.idsums) l.n (sketch l.counts l.idsums)
+invariant-loop-flow l =
+    (l.at ≡ packet_offset l.bytes l.n) × Gone l.p (head_length_in l.bytes) l.bytes (sketch l.initial.counts l.initial.idsums) l.n (sketch l.counts l.idsums)
 
 abbrev pub decreases-loop-flow : goal.decreases-loop-flow
 decreases-loop-flow l = length l.bytes - l.at

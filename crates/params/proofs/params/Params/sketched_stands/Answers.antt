@@ -1,63 +1,53 @@
 -- `params::params::Params::sketched_stands` meets its contract: array by array, the bucket of what is sketched is the one that stands.
-use mathlib.Core.Path.{◌≡◌}
-use mathlib.Core.Bool.{true}
+use mathlib.Core.Path.{sym}
 use native.Mathlib.Omega.{arith}
-use Rattle.params.specs.Params.{Dimensions, good_dimensions}
 use Rattle.params.specs.Positions.{stand}
-use Rattle.params.proofs.Searches.{test_held, test_failed}
 use Rattle.params.proofs.Rules.{dimensions}
 use Rattle.params.proofs.Standing.{stands_in_lem, stands_nowhere}
 use Rattle.params.proofs.params.Params.sketched_stands.Goals as goal
-use Rattle.params.proofs.params.Params.sketched_stands.Goals.{Else-not-good_dimensions}
-
-passed : (c : Else-not-good_dimensions) → good_dimensions c.args.self ≡ true
-passed c = test_held c.good_dimensions.ensures c.if-not-good_dimensions.false-raw
-
-bounds : (c : Else-not-good_dimensions) → Dimensions c.args.self
-bounds c = dimensions _ (passed c)
 
 pub returns-then-not-good_dimensions : goal.returns-then-not-good_dimensions
-returns-then-not-good_dimensions c = rw (test_failed c.good_dimensions.ensures c.if-not-good_dimensions.true-raw)
+returns-then-not-good_dimensions c = rw (← c.if-not-good_dimensions.ensures)
 
 pub returns-then-k-m : goal.returns-then-k-m
 unfolding stand
-returns-then-k-m c = stands_in_lem c.args.self _ _ 0 (passed (goal.at.returns-then-k-m c).Else-not-good_dimensions) (omega (arith, bounds (goal.at.returns-then-k-m c).Else-not-good_dimensions)) (omega arith) (omega arith) (omega (arith, c.position_by.ensures.0))
+returns-then-k-m c = stands_in_lem c.args.self _ _ 0 (sym c.if-not-good_dimensions.ensures) (grind (arith, dimensions)) (omega arith) (omega arith) (omega (arith, c.position_by.ensures.0))
 
 pub overflow_mul-m : goal.overflow_mul-m
-overflow_mul-m c = omega (arith, bounds (goal.at.overflow_mul-m c).Else-not-good_dimensions)
+overflow_mul-m c = grind (arith, dimensions)
 
 pub overflow_add-result : goal.overflow_add-result
-overflow_add-result c = omega (arith, bounds (goal.at.overflow_add-result c).Else-not-good_dimensions)
+overflow_add-result c = grind (arith, dimensions)
 
 pub returns-then-k-m-2 : goal.returns-then-k-m-2
 unfolding stand
-returns-then-k-m-2 c = stands_in_lem c.args.self _ _ 1 (passed (goal.at.returns-then-k-m-2 c).Else-not-good_dimensions) (omega (arith, bounds (goal.at.returns-then-k-m-2 c).Else-not-good_dimensions)) (omega arith) (omega arith) (omega (arith, c.position_by-then-k-m-2.ensures.0))
+returns-then-k-m-2 c = stands_in_lem c.args.self _ _ 1 (sym c.if-not-good_dimensions.ensures) (grind (arith, dimensions)) (omega arith) (omega arith) (omega (arith, c.position_by-then-k-m-2.ensures.0))
 
 pub returns-then-d-le2 : goal.returns-then-d-le2
-returns-then-d-le2 c = stands_nowhere c.args.self _ _ 2 (passed (goal.at.returns-then-d-le2 c).Else-not-good_dimensions) (omega arith) (omega arith)
+returns-then-d-le2 c = stands_nowhere c.args.self _ _ 2 (sym c.if-not-good_dimensions.ensures) (omega arith) (omega arith)
 
 pub overflow_mul-m-2 : goal.overflow_mul-m-2
-overflow_mul-m-2 c = omega (arith, bounds (goal.at.overflow_mul-m-2 c).Else-not-good_dimensions)
+overflow_mul-m-2 c = grind (arith, dimensions)
 
 pub overflow_add-result-then-k-m-3 : goal.overflow_add-result-then-k-m-3
-overflow_add-result-then-k-m-3 c = omega (arith, bounds (goal.at.overflow_add-result-then-k-m-3 c).Else-not-good_dimensions)
+overflow_add-result-then-k-m-3 c = grind (arith, dimensions)
 
 pub returns-then-k-m-3 : goal.returns-then-k-m-3
 unfolding stand
-returns-then-k-m-3 c = stands_in_lem c.args.self _ _ 2 (passed (goal.at.returns-then-k-m-3 c).Else-not-good_dimensions) (omega (arith, bounds (goal.at.returns-then-k-m-3 c).Else-not-good_dimensions)) (omega arith) (omega arith) (omega (arith, c.position_by-then-k-m-3.ensures.0))
+returns-then-k-m-3 c = stands_in_lem c.args.self _ _ 2 (sym c.if-not-good_dimensions.ensures) (grind (arith, dimensions)) (omega arith) (omega arith) (omega (arith, c.position_by-then-k-m-3.ensures.0))
 
 pub returns-then-d-le3 : goal.returns-then-d-le3
-returns-then-d-le3 c = stands_nowhere c.args.self _ _ 3 (passed (goal.at.returns-then-d-le3 c).Else-not-good_dimensions) (omega arith) (omega arith)
+returns-then-d-le3 c = stands_nowhere c.args.self _ _ 3 (sym c.if-not-good_dimensions.ensures) (omega arith) (omega arith)
 
 pub overflow_mul-m-3 : goal.overflow_mul-m-3
-overflow_mul-m-3 c = omega (arith, bounds (goal.at.overflow_mul-m-3 c).Else-not-good_dimensions)
+overflow_mul-m-3 c = grind (arith, dimensions)
 
 pub overflow_add-result-then-k-m-4 : goal.overflow_add-result-then-k-m-4
-overflow_add-result-then-k-m-4 c = omega (arith, bounds (goal.at.overflow_add-result-then-k-m-4 c).Else-not-good_dimensions)
+overflow_add-result-then-k-m-4 c = grind (arith, dimensions)
 
 pub returns-then-k-m-4 : goal.returns-then-k-m-4
 unfolding stand
-returns-then-k-m-4 c = stands_in_lem c.args.self _ _ 3 (passed (goal.at.returns-then-k-m-4 c).Else-not-good_dimensions) (omega (arith, bounds (goal.at.returns-then-k-m-4 c).Else-not-good_dimensions)) (omega arith) (omega arith) (omega (arith, c.position_by-then-k-m-4.ensures.0))
+returns-then-k-m-4 c = stands_in_lem c.args.self _ _ 3 (sym c.if-not-good_dimensions.ensures) (grind (arith, dimensions)) (omega arith) (omega arith) (omega (arith, c.position_by-then-k-m-4.ensures.0))
 
 pub returns : goal.returns
-returns c = stands_nowhere c.args.self _ _ 4 (passed (goal.at.returns c).Else-not-good_dimensions) (bounds (goal.at.returns c).Else-not-good_dimensions).d_high (omega arith)
+returns c = stands_nowhere c.args.self _ _ 4 (sym c.if-not-good_dimensions.ensures) (dimensions _ (sym c.if-not-good_dimensions.ensures)).d_high (omega arith)

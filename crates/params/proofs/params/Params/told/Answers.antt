@@ -1,12 +1,12 @@
 -- `params::params::Params::told` meets its contract: the number itself, or all but its last eight bits.
+use borrow.Author.Rules.{rules}
 use Rattle.params.specs.Sketched.{told}
-use Rattle.params.proofs.Searches.{test_held, test_failed}
 use Rattle.params.proofs.params.Params.told.Goals as goal
 
-pub returns-then-not-fingerprinted : goal.returns-then-not-fingerprinted
+pub returns-then-fingerprinted : goal.returns-then-fingerprinted
 unfolding told
-returns-then-not-fingerprinted c = rw (test_failed c.fingerprinted.ensures c.if-not-fingerprinted.true-raw)
+returns-then-fingerprinted c = search rules
 
-pub returns : goal.returns
+pub returns-else-fingerprinted : goal.returns-else-fingerprinted
 unfolding told
-returns c = rw (test_held c.fingerprinted.ensures c.if-not-fingerprinted.false-raw)
+returns-else-fingerprinted c = search rules

@@ -1,8 +1,0 @@
--- `files::heads::head_length` meets its contract.
-use Rattle.files.proofs.heads.head_length.Goals as goal
-
-pub returns-then-fingerprinted : goal.returns-then-fingerprinted
-returns-then-fingerprinted c = rw (← c.fingerprinted.ensures, c.if-fingerprinted.true)
-
-pub returns : goal.returns
-returns c = rw (← c.fingerprinted.ensures, c.if-fingerprinted.false)

@@ -1,5 +1,0 @@
--- `report::input::take` ends: the measure is the number of turns that are left.
-use Rattle.report.proofs.input.take.Given as goal
-
-abbrev pub decreases-loop-turns : goal.decreases-loop-turns
-decreases-loop-turns g l = l.turns
