@@ -1,12 +1,11 @@
 -- Laws of a bucket's limits.
-use mathlib.Core.Path.{◌≡◌, refl, sym, ◌∙◌}
+use mathlib.Core.Path.{◌≡◌}
 use mathlib.Core.Bool.{Bool, true, false}
-use Prim.Native.Nat.{ℕ, suc, ◌≤◌, ◌<◌}
+use Prim.Native.Nat.{ℕ, ◌≤◌, ◌<◌}
 use native.Mathlib.Omega.{arith}
-use borrow.Author.Tests.{le-leb, lt-leb, leb-true, leb-false, lt-ltb, ltb-true, not-false}
+use borrow.Author.Tests.{le-leb, leb-true, lt-ltb, ltb-true, not-false}
 use lib.Dec.{leb, ltb}
-use lib.IntN.{ℤ, pos, negsuc, nat_abs, ◌+ℤ◌, ◌-ℤ◌}
-use lib.Signed.{le_z}
+use lib.IntN.{ℤ, nat_abs, ◌+ℤ◌, ◌-ℤ◌}
 use mir.Syntax.{w32, w64}
 use mir.Facts.{to_z-of_z}
 use mir.Val.{SFits, to_z, of_z}

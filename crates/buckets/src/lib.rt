@@ -13,7 +13,7 @@ use params::PRIME;
 pub fn within(z: i64) -> bool
     ensures { result ≡ in_limits z }
 {
-    z.unsigned_abs() <= 2147483646
+    matches!(z, -2147483646..=2147483646)
 }
 
 // Whether a number is one of packets.
@@ -35,7 +35,7 @@ pub fn undamaged(c: i32, s: u32) -> bool
 pub fn is_small(c: i32, s: u32) -> bool
     ensures { result ≡ is_small c s }
 {
-    s < PRIME && c.unsigned_abs() <= 1000000000
+    s < PRIME && matches!(c, -1000000000..=1000000000)
 }
 
 // Whether a bucket is all zero.
